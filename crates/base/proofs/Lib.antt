@@ -1,0 +1,5 @@
+pub mod Numbers
+pub mod Decide
+pub mod QuestionLaws
+pub mod ChainLaws
+pub mod BitLaws

@@ -1,0 +1,6 @@
+pub mod Bytes
+pub mod Bits
+pub mod Decides
+pub mod Ranges
+pub mod Questions
+pub mod Chain

@@ -1,0 +1,117 @@
+// Questions 3 and 4: the links of a policy, and its chains.
+use policy_image::counts::Counts;
+use policy_image::records::head_at;
+use policy_image::records::record_at;
+ghost use mathlib.Core.Path.{_≡_};
+ghost use Prim.Native.Nat.{ℕ, _≤_};
+ghost use lib.ListN.{getD};
+ghost use Rattle.base.specs.Decides.{Decides};
+ghost use Rattle.policy_image.specs.Layout.{Exact, headOf};
+ghost use Rattle.policy_image.specs.Policy.{policyOf};
+ghost use Rattle.policy_image.specs.Reading.{Counted};
+ghost use Rattle.policy_chains.specs.Chains.{HeadsInRange, NextsRise, LinksRise, ChainsByKind};
+
+// Whether every head is at most N.
+fn heads_in_range(image: &[u8], counts: Counts) -> bool
+    requires { ⌜ Counted (now image) counts ⌝ }
+    ensures { λ r. ⌜ Decides r (HeadsInRange (policyOf (now (image .entry)))) ⌝ }
+{
+    let n = counts.records;
+    let mut k = 1;
+    while k < 10 {
+        if n < head_at(image, k) {
+            return false;
+        }
+        k += 1;
+    }
+    true
+}
+
+// Whether every next is 0, or above its record and at most N.
+fn nexts_rise(image: &[u8], counts: Counts) -> bool
+    requires { ⌜ Counted (now image) counts ⌝ }
+    ensures { λ r. ⌜ Decides r (NextsRise (policyOf (now (image .entry)))) ⌝ }
+{
+    let n = counts.records;
+    let mut i = 1;
+    while i <= n {
+        let next = record_at(image, i).next;
+        if next != 0 {
+            if next <= i {
+                return false;
+            }
+            if n < next {
+                return false;
+            }
+        }
+        i += 1;
+    }
+    true
+}
+
+// Question 3.
+pub fn links_rise(image: &[u8], counts: Counts) -> bool
+    requires { ⌜ Counted (now image) counts ⌝ }
+    ensures { λ r. ⌜ Decides r (LinksRise (policyOf (now (image .entry)))) ⌝ }
+{
+    if !heads_in_range(image, counts) {
+        return false;
+    }
+    nexts_rise(image, counts)
+}
+
+// The nine heads, the head of kind k at k.
+fn heads(image: &[u8]) -> [usize; 10]
+    requires { ⌜ Exact (now image) ⌝ }
+    ensures { λ r. ⌜ ((k : ℕ) → 1 ≤ k → k ≤ 9 → getD r k 0 ≡ headOf (now (image .entry)) k) ⌝ }
+{
+    let mut c = [0usize; 10];
+    let mut k = 1;
+    while k < 10 {
+        c[k] = head_at(image, k);
+        k += 1;
+    }
+    c
+}
+
+// Whether every cursor is 0, so that no chain goes on.
+fn all_zero(c: [usize; 10]) -> bool
+    ensures { λ r. ⌜ Decides r ((k : ℕ) → 1 ≤ k → k ≤ 9 → getD c k 0 ≡ 0) ⌝ }
+{
+    let mut k = 1;
+    while k < 10 {
+        if c[k] != 0 {
+            return false;
+        }
+        k += 1;
+    }
+    true
+}
+
+// Question 4, where question 3 has been answered with yes: one pass, with a cursor on each chain that stands at the
+// chain's next record. Links rise, so record i is on the chain of its kind exactly when that chain's cursor stands at it.
+pub fn chains_by_kind(image: &[u8], counts: Counts) -> bool
+    requires { ⌜ Counted (now image) counts × LinksRise (policyOf (now image)) ⌝ }
+    ensures { λ r. ⌜ Decides r (ChainsByKind (policyOf (now (image .entry)))) ⌝ }
+{
+    let n = counts.records;
+    let mut cursor = heads(image);
+    let mut i = 1;
+    while i <= n {
+        let r = record_at(image, i);
+        let k = r.kind as usize;
+        match k {
+            1..=9 => {
+                if cursor[k] != i {
+                    return false;
+                }
+                cursor[k] = r.next;
+            }
+            _ => {
+                return false;
+            }
+        }
+        i += 1;
+    }
+    all_zero(cursor)
+}

@@ -1,0 +1,42 @@
+-- Laws of the layout that proofs cite, so that no proof above this layer speaks of offsets.
+use Prim.Native.Nat.{ℕ, _+_, _*_, _≤_, _<_, _%_, _/_}
+use mathlib.Core.Path.{_≡_}
+use mathlib.Core.List.{List, []}
+use native.Mathlib.Omega.{arith}
+use lib.ListN.{length, take, drop, length-take, length-drop}
+use borrow.Author.Tests.{le-leb, lt-leb}
+use Rattle.base.specs.Bytes.{byteAt, u16At, u32At}
+use Rattle.policy_image.specs.Layout.{Exact, recordCount, startOf, payloadOf, decoded, leftOf, rightOf}
+
+-- the ten bytes, where record k is there
+pub payload-there : (s : List ℕ) (k : ℕ) → 1 ≤ k → k ≤ 4095 → startOf k + 12 ≤ length s → payloadOf s k ≡ take 10 (drop (startOf k + 2) s)
+unfolding payloadOf
+payload-there s k a b e = simp (le-leb 1 k a, le-leb k 4095 b, le-leb (startOf k + 12) (length s) e)
+
+-- none, where it is not
+pub payload-low : (s : List ℕ) (k : ℕ) → k < 1 → payloadOf s k ≡ []
+unfolding payloadOf
+payload-low s k a = simp (lt-leb 1 k a)
+
+pub payload-high : (s : List ℕ) (k : ℕ) → 1 ≤ k → 4095 < k → payloadOf s k ≡ []
+unfolding payloadOf
+payload-high s k a b = simp (le-leb 1 k a, lt-leb k 4095 b)
+
+pub payload-short : (s : List ℕ) (k : ℕ) → 1 ≤ k → k ≤ 4095 → length s < startOf k + 12 → payloadOf s k ≡ []
+unfolding payloadOf
+payload-short s k a b e = simp (le-leb 1 k a, le-leb k 4095 b, lt-leb (startOf k + 12) (length s) e)
+
+pub payload-length : (s : List ℕ) (k : ℕ) → Exact s → 1 ≤ k → k ≤ recordCount s → length (payloadOf s k) ≡ 10
+payload-length s k e l h =
+    let f = e .few in
+    let x = e .exact in
+    rw (payload-there s k l (omega arith) (omega arith)) (simp (length-take, length-drop) (omega arith))
+
+-- left is the number in bytes 8–9 of a record and right that in bytes 10–11: bytes 6 and 8 of what follows the link
+pub left-bytes : (n : ℕ) (p : List ℕ) → byteAt p 6 < 256 → byteAt p 7 < 256 → leftOf (decoded n p) ≡ u16At p 6
+unfolding decoded
+left-bytes n p a b = omega arith
+
+pub right-bytes : (n : ℕ) (p : List ℕ) → byteAt p 6 < 256 → byteAt p 7 < 256 → rightOf (decoded n p) ≡ u16At p 8
+unfolding decoded
+right-bytes n p a b = omega arith

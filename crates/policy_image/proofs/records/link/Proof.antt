@@ -1,0 +1,27 @@
+use Rattle.policy_image.specs.Layout.{recordOf, decoded}
+use borrow.Author.Needs.{needs}
+use Rattle.policy_image.proofs.records.link.Statement.{statement}
+use Rattle.policy_image.proofs.records.link.Tie as tie
+
+sub-u16-at : tie.Need-sub-u16-at
+sub-u16-at c = search needs
+
+mul-u16-at : tie.Need-mul-u16-at
+mul-u16-at c = search needs
+
+add-u16-at : tie.Need-add-u16-at
+add-u16-at c = search needs
+
+u16-at-requires : tie.Need-u16-at-requires
+u16-at-requires c κs = search needs
+
+cast-result : tie.Need-cast-result
+cast-result c = search needs
+
+returns : tie.Need-returns
+unfolding recordOf decoded
+returns c = c .u16-at .ensures .0
+
+pub link-spec : {M : Type 1} → statement M
+link-spec =
+    tie.close (tie.spec sub-u16-at mul-u16-at add-u16-at u16-at-requires cast-result returns)

@@ -1,0 +1,6 @@
+pub mod Layout
+pub mod Policy
+pub mod Reading
+pub mod Counts
+pub mod Written
+pub mod Weir

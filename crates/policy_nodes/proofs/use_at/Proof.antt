@@ -1,0 +1,23 @@
+use Rattle.policy_nodes.specs.Nodes.{useOf}
+use mathlib.Core.Path.{_≡_}
+use native.Mathlib.Omega.{arith}
+use Prim.Native.Nat.{ℕ}
+use mathlib.Core.Path.{_∙_, ap, sym}
+use borrow.Author.Needs.{needs}
+use Rattle.policy_nodes.proofs.use_at.Statement.{statement}
+use Rattle.policy_nodes.proofs.use_at.Tie as tie
+
+first-use-requires : tie.Need-first-use-requires
+first-use-requires c κs = search needs
+
+returns : tie.Need-returns
+returns c = c .first-use .ensures ∙ ap (useOf (c .before .before .args .r)) (sym (c .before .if1 .taken))
+
+second-use-requires : tie.Need-second-use-requires
+second-use-requires c κs = search needs
+
+returns-2 : tie.Need-returns-2
+returns-2 c = let e : 1 ≡ c .before .before .args .s = omega arith in c .second-use .ensures ∙ ap (useOf (c .before .before .args .r)) e
+
+pub use-at-spec : {M : Type 1} → statement M
+use-at-spec = tie.close (tie.spec first-use-requires returns second-use-requires returns-2)
