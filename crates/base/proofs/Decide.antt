@@ -10,6 +10,7 @@ use borrow.Author.Tests.{leb-true, leb-false, eqb-true, eqb-false}
 use lib.Dec.{T, leb, eqb}
 use Rattle.base.specs.Decides.{Decides}
 use Rattle.base.specs.Ranges.{Within}
+use Rattle.base.specs.Upto.{allUpto}
 
 -- ---- what a caller learns: after a test `b`, and after a test `!b`
 pub yes-of : {P : Type 0} (b : Bool) → Decides b P → b ≡ true → P
@@ -85,11 +86,7 @@ withinB lo hi n = leb lo n && leb n hi
 pub dec-within : (lo hi n : ℕ) → Says (withinB lo hi n) (Within lo hi n)
 dec-within lo hi n = says-iff (λ h. record { low = h .0; high = h .1 }) (λ h. (h .low, h .high)) (dec-le lo n both dec-le n hi)
 
--- whether f holds from 1 to n
-abbrev pub allUpto : (ℕ → Bool) → ℕ → Bool
-allUpto f zero = true
-allUpto f (suc n) = allUpto f n && f (suc n)
-
+-- every number from 1 to n
 pub dec-all : {P : ℕ → Type 0} {f : ℕ → Bool} → ((i : ℕ) → Says (f i) (P i)) → (n : ℕ) → Says (allUpto f n) ((i : ℕ) → 1 ≤ i → i ≤ n → P i)
 dec-all {P} {f} d zero = record { it = λ i a b. let z : ⊥ = omega arith in absurd z }
 dec-all {P} {f} d (suc n) =

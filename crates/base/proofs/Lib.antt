@@ -1,4 +1,5 @@
 pub mod Numbers
+pub mod UptoLaws
 pub mod Decide
 pub mod QuestionLaws
 pub mod ChainLaws

@@ -2,5 +2,6 @@ pub mod Bytes
 pub mod Bits
 pub mod Decides
 pub mod Ranges
+pub mod Upto
 pub mod Questions
 pub mod Chain

@@ -11,10 +11,11 @@ use lib.Dec.{leb, eqb}
 use lib.ListN.{length, drop}
 use Rattle.base.specs.Decides.{Decides}
 use Rattle.base.specs.Ranges.{Within}
+use Rattle.base.specs.Upto.{allUpto}
 use Rattle.base.specs.Chain.{Rises}
 use Rattle.base.specs.Questions.{AllYes, RefusedWith}
 use Rattle.base.proofs.Numbers.{split-eq, moved, moved-at, moved-off}
-use Rattle.base.proofs.Decide.{Says, says-yes, says-no, says-iff, dec-le, dec-eq, _both_, _or_, withinB, dec-within, allUpto, dec-all}
+use Rattle.base.proofs.Decide.{Says, says-yes, says-no, says-iff, dec-le, dec-eq, _both_, _or_, withinB, dec-within, dec-all}
 use Rattle.policy_image.specs.declared.records.Record.{Record}
 use Rattle.policy_image.specs.declared.counts.Counts.{Counts}
 use Rattle.policy_image.specs.Layout.{Exact, recordCount, countsOf}

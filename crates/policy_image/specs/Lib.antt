@@ -1,5 +1,6 @@
 pub mod Layout
 pub mod Policy
+pub mod OfKind
 pub mod Reading
 pub mod Counts
 pub mod Written

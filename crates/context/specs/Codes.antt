@@ -1,0 +1,23 @@
+-- The numbers that stand for contexts and events in a path slice (paper 01): "entry 2j is xj as 256t + 16r + u, entry 2j + 1
+-- is ej as 32c + p".
+use Prim.Native.Nat.{ℕ, _+_, _*_, _/_, _%_}
+use mathlib.Core.Bool.{Bool, _&&_}
+use lib.Dec.{eqb}
+use Rattle.context.specs.declared.Context.{Context}
+use Rattle.context.specs.declared.Event.{Event}
+
+abbrev pub contextCode : Context → ℕ
+contextCode x = 256 * x .ty + 16 * x .role + x .user
+
+abbrev pub contextOf : ℕ → Context
+contextOf n = record { ty = n / 256; role = n / 16 % 16; user = n % 16 }
+
+abbrev pub eventCode : Event → ℕ
+eventCode e = 32 * e .class + e .perm
+
+abbrev pub eventOf : ℕ → Event
+eventOf n = record { class = n / 32; perm = n % 32 }
+
+-- "Event class 1, permission 0, is process transition."
+abbrev pub isTransition : Event → Bool
+isTransition e = eqb (e .class) 1 && eqb (e .perm) 0
