@@ -1,16 +1,13 @@
 -- The answer to questions 1 to 6: it is one and the same for every program that keeps the promise, and what follows from it.
 use Prim.Native.Nat.{ℕ}
 use mathlib.Core.List.{List}
-use mathlib.Core.Path.{_≡_, sym, ap, subst, _∙_}
+use mathlib.Core.Path.{_≡_, sym, ap, _∙_}
 use Rattle.base.specs.Questions.{AllYes}
 use Rattle.base.proofs.QuestionLaws.{passed-not-refused, one-number}
-use Rattle.policy_image.specs.declared.counts.Counts.{Counts}
 use Rattle.policy_image.specs.declared.counts.Checked.{Checked}
 use Rattle.policy_image.specs.declared.counts.Checked.the-variants.{Accepted, Refused}
-use Rattle.policy_image.specs.Layout.{recordCount, countsOf}
-use Rattle.policy_image.specs.Counts.{CountsInRange}
 use Rattle.policy_check.specs.Answer.{PolicyAnswer, policyQuestions}
-use Rattle.policy_check.specs.Passed.{Passed}
+use Rattle.policy_check.specs.Sound.{Sound}
 
 -- two answers that the promise allows for one image are the same answer
 pub one-answer : (s : List ℕ) (q r : Checked) → PolicyAnswer s q → PolicyAnswer s r → q ≡ r
@@ -19,17 +16,12 @@ one-answer s (Accepted c) (Refused m) h k = absurd (passed-not-refused (policyQu
 one-answer s (Refused n) (Accepted d) h k = absurd (passed-not-refused (policyQuestions s) n (k .1) h)
 one-answer s (Refused n) (Refused m) h k = ap Refused (one-number (policyQuestions s) n m h k)
 
-size-of : (s : List ℕ) (c : Counts) → c ≡ countsOf s → c .records ≡ recordCount s
-unfolding countsOf
-size-of s c e = ap (λ (x : Counts). x .records) e
-
 -- what a layer above learns from acceptance
-pub passed : (s : List ℕ) (c : Counts) → PolicyAnswer s (Accepted c) → Passed s c
-passed s c h =
-    let a = h .1 in
+pub sound : (s : List ℕ) → AllYes (policyQuestions s) → Sound s
+sound s a =
     record {
-      counted = record { exact = a .0; same = h .0; size = size-of s c (h .0) };
-      range = subst CountsInRange (sym (h .0)) (a .1 .0);
+      exact = a .0;
+      range = a .1 .0;
       links = a .1 .1 .0;
       chains = a .1 .1 .1 .0;
       fields = a .1 .1 .1 .1 .0;

@@ -1,18 +1,17 @@
--- What the layers above know of an accepted policy: the same six answers, each by its name.
+-- What the layers above know of an accepted policy: the six answers, each by its name.
 use Prim.Native.Nat.{ℕ}
 use mathlib.Core.List.{List}
-use Rattle.policy_image.specs.declared.counts.Counts.{Counts}
+use Rattle.policy_image.specs.Layout.{Exact, countsOf}
 use Rattle.policy_image.specs.Counts.{CountsInRange}
 use Rattle.policy_image.specs.Policy.{policyOf}
-use Rattle.policy_image.specs.Reading.{Counted}
 use Rattle.policy_chains.specs.Chains.{LinksRise, ChainsByKind}
 use Rattle.policy_fields.specs.Fields.{FieldsInRange}
 use Rattle.policy_nodes.specs.Nodes.{NodesInOrder}
 
--- s passes questions 1 to 6, and c are its counts
-pub record Passed (s : List ℕ) (c : Counts) : Type 0 where
-  pub counted : Counted s c
-  pub range : CountsInRange c
+-- s passes questions 1 to 6
+pub record Sound (s : List ℕ) : Type 0 where
+  pub exact : Exact s
+  pub range : CountsInRange (countsOf s)
   pub links : LinksRise (policyOf s)
   pub chains : ChainsByKind (policyOf s)
   pub fields : FieldsInRange (policyOf s)
