@@ -38,6 +38,11 @@ pub record Visit (l : Linked) (k : ℕ) (Q : ℕ → Type 0) (i : ℕ) : Type 0 
   pub on : (i ≡ 0 → ⊥) → OnChain l k i
   pub rest : (j : ℕ) → OnChain l k j → Q j ⊎ Meets l i j
 
+-- what holds of the records left behind may be weakened
+pub visit-map : (l : Linked) (k i : ℕ) (Q R : ℕ → Type 0) → ((j : ℕ) → Q j → R j) → Visit l k Q i → Visit l k R i
+visit-map l k i Q R f v =
+    record { most = v .most; on = v .on; rest = λ j r. ⊎-elim (λ q. inl (f j q)) (λ m. inr m) (v .rest j r) }
+
 -- how far the loop has to go: 0 at the chain's end
 abbrev pub left : ℕ → ℕ → ℕ
 left n zero = 0

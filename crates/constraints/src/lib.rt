@@ -1,7 +1,10 @@
 // The constraints of a policy: expression nodes evaluated, and all constraints on an event.
 use base::bits::has_bit;
-use context::{Context, Event};
-use policy_image::records::{head_at, payload, record_at};
+use context::Context;
+use context::Event;
+use policy_image::records::head_at;
+use policy_image::records::payload;
+use policy_image::records::record_at;
 ghost use mathlib.Core.Path.{_≡_};
 ghost use Prim.Native.Nat.{_<_};
 ghost use Rattle.policy_image.specs.Layout.{Exact};

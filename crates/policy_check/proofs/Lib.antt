@@ -1,3 +1,4 @@
 pub mod AnswerLaws
+pub mod Along
 pub mod Tests
 pub mod Cases

@@ -1,0 +1,14 @@
+use Rattle.relations.specs.Relations.{allowed}
+use borrow.Author.Needs.{needs}
+use Rattle.relations.proofs.relations.allow_mask.Statement.{statement}
+use Rattle.relations.proofs.relations.allow_mask.Tie as tie
+
+united-requires : tie.Need-united-requires
+united-requires c κs = search needs
+
+returns : tie.Need-returns
+unfolding allowed
+returns c = record { at = λ q. c .united .ensures .at q }
+
+pub allow-mask-spec : {M : Type 1} → statement M
+allow-mask-spec = tie.close (tie.spec united-requires returns)
