@@ -32,3 +32,11 @@ refused-then (q ∷ qs) rs n a r = inr (a .0, refused-then qs rs n (a .1) r)
 pub passed-both : (qs rs : List Question) → AllYes qs → AllYes rs → AllYes (qs ++ rs)
 passed-both [] rs a b = b
 passed-both (q ∷ qs) rs a b = (a .0, passed-both qs rs (a .1) b)
+
+pub passed-first : (qs rs : List Question) → AllYes (qs ++ rs) → AllYes qs
+passed-first [] rs a = tt
+passed-first (q ∷ qs) rs a = (a .0, passed-first qs rs (a .1))
+
+pub passed-then : (qs rs : List Question) → AllYes (qs ++ rs) → AllYes rs
+passed-then [] rs a = a
+passed-then (q ∷ qs) rs a = passed-then qs rs (a .1)

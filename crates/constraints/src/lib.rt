@@ -1,15 +1,117 @@
 // The constraints of a policy: expression nodes evaluated, and all constraints on an event.
 use base::bits::has_bit;
+use base::bytes::u32_at;
+use base::bytes::wide;
 use context::Context;
 use context::Event;
+use policy_image::records::Record;
 use policy_image::records::head_at;
 use policy_image::records::payload;
 use policy_image::records::record_at;
 ghost use mathlib.Core.Path.{_≡_};
+ghost use mathlib.Core.Bool.{not, _||_};
 ghost use Prim.Native.Nat.{_<_};
-ghost use Rattle.policy_image.specs.Layout.{Exact};
+ghost use Rattle.policy_image.specs.Layout.{Exact, rootOf};
 ghost use Rattle.policy_image.specs.Policy.{policyOf};
+ghost use Rattle.policy_image.specs.Reading.{Bytes};
 ghost use Rattle.policy_nodes.specs.Nodes.{NodesInOrder, IsNode};
 ghost use Rattle.policy_check.specs.Sound.{Sound};
 ghost use Rattle.constraints.specs.Eval.{evalNode};
-ghost use Rattle.constraints.specs.Constraints.{constraintsHold};
+ghost use Rattle.constraints.specs.Constraints.{constrains, constraintsHold};
+
+// A node's operator.
+fn operator(image: &[u8], node: usize) -> u32
+    requires { ⌜ Exact (now image) × IsNode (policyOf (now image)) node ⌝ }
+    ensures { λ r. ⌜ r ≡ policyOf (now (image .entry)) .rec node .a ⌝ }
+{
+    let p = payload(image, node);
+    wide(p[1])
+}
+
+// The number that a node compares with.
+fn operand(image: &[u8], node: usize) -> u32
+    requires { ⌜ Exact (now image) × IsNode (policyOf (now image)) node ⌝ }
+    ensures { λ r. ⌜ r ≡ policyOf (now (image .entry)) .rec node .b ⌝ }
+{
+    let p = payload(image, node);
+    wide(p[2])
+}
+
+// The numbers of a node's children: left is the low half, right the high half.
+fn children(image: &[u8], node: usize) -> u32
+    requires { ⌜ Exact (now image) × IsNode (policyOf (now image)) node ⌝ }
+    ensures { λ r. ⌜ r ≡ policyOf (now (image .entry)) .rec node .mask ⌝ }
+{
+    u32_at(payload(image, node), 6)
+}
+
+// The value of a node: x is the process's context, y the resource's.
+// What a call keeps on the stack is little, since a tree may have 4,095 nodes in a row.
+pub fn eval(image: &[u8], node: usize, x: Context, y: Context) -> bool
+    requires { ⌜ Exact (now image) × NodesInOrder (policyOf (now image)) × IsNode (policyOf (now image)) node ⌝ }
+    ensures { λ r. ⌜ r ≡ evalNode (policyOf (now (image .entry))) x y node ⌝ }
+{
+    let op = operator(image, node);
+    let b = operand(image, node);
+    let both = children(image, node);
+    let left = (both % 65536) as usize;
+    let right = (both / 65536) as usize;
+    match op {
+        1 => !eval(image, left, x, y),
+        2 => {
+            if eval(image, left, x, y) {
+                eval(image, right, x, y)
+            } else {
+                false
+            }
+        }
+        3 => {
+            if eval(image, left, x, y) {
+                true
+            } else {
+                eval(image, right, x, y)
+            }
+        }
+        4 => x.ty == y.ty,
+        5 => x.role == y.role,
+        6 => x.user == y.user,
+        7 => x.ty == b,
+        8 => y.ty == b,
+        9 => x.role == b,
+        10 => y.role == b,
+        11 => x.user == b,
+        12 => y.user == b,
+        _ => false,
+    }
+}
+
+// Whether the constraint r is true, or is not on the event: x acts, y is acted on.
+fn constraint_holds(image: &[u8], r: Record, e: Event, x: Context, y: Context) -> bool
+    requires { ⌜ Exact (now image) × NodesInOrder (policyOf (now image)) × IsNode (policyOf (now image)) (rootOf r) ⌝ }
+    requires { ⌜ Bytes r × (e .perm < 32) ⌝ }
+    ensures { λ t. ⌜ t ≡ (not (constrains r e) || evalNode (policyOf (now (image .entry))) x y (rootOf r)) ⌝ }
+{
+    if r.a != e.class {
+        return true;
+    }
+    if !has_bit(r.mask, e.perm) {
+        return true;
+    }
+    eval(image, (r.d + 256 * r.e) as usize, x, y)
+}
+
+// Whether all constraints on the event are true: x acts, y is acted on.
+pub fn constraints_hold(image: &[u8], e: Event, x: Context, y: Context) -> bool
+    requires { ⌜ Sound (now image) × (e .perm < 32) ⌝ }
+    ensures { λ r. ⌜ r ≡ constraintsHold (policyOf (now (image .entry))) e x y ⌝ }
+{
+    let mut i = head_at(image, 8);
+    while i != 0 {
+        let r = record_at(image, i);
+        if !constraint_holds(image, r, e, x, y) {
+            return false;
+        }
+        i = r.next;
+    }
+    true
+}

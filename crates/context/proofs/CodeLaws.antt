@@ -9,6 +9,7 @@ use borrow.Author.Tests.{eq-eqb, ne-eqb}
 use Rattle.base.proofs.Numbers.{split-eq}
 use Rattle.context.specs.declared.Context.{Context}
 use Rattle.context.specs.declared.Event.{Event}
+use Rattle.context.specs.Ranges.{Coded}
 use Rattle.context.specs.Codes.{contextCode, contextOf, eventCode, eventOf, isTransition}
 
 pub context-code-of : (n : ℕ) → contextCode (contextOf n) ≡ n
@@ -39,3 +40,10 @@ transition-code e h =
     (λ b. ne-eqb (eventCode e) 32 (omega arith) ∙ sym (simp (eq-eqb (e .class) 1 a, ne-eqb (e .perm) 0 b))) (split-eq (e .perm) 0))
     (λ a. ne-eqb (eventCode e) 32 (omega arith) ∙ sym (simp (ne-eqb (e .class) 1 a)))
     (split-eq (e .class) 1)
+
+pub coded-of : (n : ℕ) → n < 2097152 → Coded (eventOf n)
+coded-of n h = record { class = omega arith; perm = omega arith }
+
+-- an event in range of counts that question 2 passes has a code, and its code stands for it
+pub code-below : (e : Event) → Coded e → eventCode e < 2097152
+code-below e h = let a = h .class in let b = h .perm in omega arith

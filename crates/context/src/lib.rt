@@ -5,7 +5,7 @@ ghost use mathlib.Core.Path.{_≡_};
 ghost use Prim.Native.Nat.{_<_};
 ghost use Rattle.base.specs.Decides.{Decides};
 ghost use Rattle.context.specs.Codes.{contextCode, contextOf, eventCode, eventOf, isTransition};
-ghost use Rattle.context.specs.Ranges.{ContextInRange, EventInRange};
+ghost use Rattle.context.specs.Ranges.{ContextInRange, EventInRange, Coded};
 
 // A security context: a type, a role and a user, each from 1.
 pub struct Context {
@@ -59,7 +59,7 @@ impl Event {
 
     // The number that stands for the event in a path.
     pub fn code(self) -> u32
-        requires { ⌜ (self .class < 65536) × (self .perm < 32) ⌝ }
+        requires { ⌜ Coded self ⌝ }
         ensures { λ r. ⌜ r ≡ eventCode self ⌝ }
     {
         32 * self.class + self.perm
@@ -85,7 +85,7 @@ impl Event {
     }
 
     pub fn is_transition(self) -> bool
-        requires { ⌜ (self .class < 65536) × (self .perm < 32) ⌝ }
+        requires { ⌜ Coded self ⌝ }
         ensures { λ r. ⌜ r ≡ isTransition self ⌝ }
     {
         self.code() == Event::TRANSITION.code()

@@ -33,41 +33,49 @@ module _ (s : List ℕ) (S : Sound s) (f : Fact) (low : 1 ≤ f .kind) (high : f
 
   pub uniting-start : (i : ℕ) → i ≡ headOf s (f .kind) → Uniting p f 0 i
   uniting-start i e =
-      record { visit = along-start s S (f .kind) low high (Has p f 0) i e
-             ; from = λ q h. let z = bit-zero q in let o : _≡_ {A = ℕ} 0 1 = cc in absurd (omega arith) }
+      record {
+        visit = along-start s S (f .kind) low high (Has p f 0) i e;
+        from = λ q h. let z = bit-zero q in let o : _≡_ {A = ℕ} 0 1 = cc in absurd (omega arith);
+      }
 
   module _ (m i : ℕ) (n : i ≡ 0 → ⊥) (u : Uniting p f m i) (i′ : ℕ) (next : i′ ≡ p .rec i .next) where
     -- record i does not state the fact
     pub uniting-pass : states f (p .rec i) ≡ false → Uniting p f m i′
     uniting-pass e =
-        record { visit = along-step s S (f .kind) low high (Has p f m) i n (u .visit) i′ next
-                   (λ h. let o : _≡_ {A = ℕ} 0 1 = cc in absurd (omega arith))
-               ; from = u .from }
+        record {
+          visit = along-step s S (f .kind) low high (Has p f m) i n (u .visit) i′ next
+              (λ h. let o : _≡_ {A = ℕ} 0 1 = cc in absurd (omega arith));
+          from = u .from;
+        }
 
     -- record i states the fact, and its mask joins
     pub uniting-join : states f (p .rec i) ≡ true → Uniting p f (bitOr m (p .rec i .mask)) i′
     uniting-join e =
-        record { visit = along-step s S (f .kind) low high (Has p f m′) i n
-                   (visit-map (linksOf p) (f .kind) i (Has p f m) (Has p f m′)
-                    (λ j h a q b. bit-or m (p .rec i .mask) q ∙ or-left (bit m q) (bit (p .rec i .mask) q) (h a q b)) (u .visit))
-                   i′ next
-                   (λ a q b. bit-or m (p .rec i .mask) q ∙ or-true (bit m q) (bit (p .rec i .mask) q) b)
-               ; from = λ q h.
-                   ⊎-elim (u .from q)
-                   (λ b. some-yes p (f .kind) (λ r. states f r && bit (r .mask) q) i (along-kind s S (f .kind) low high (Has p f m) i n (u .visit))
-                       (and-true (states f (p .rec i)) (bit (p .rec i .mask) q) e b))
-                   (or-cases (bit m q) (bit (p .rec i .mask) q) (sym (bit-or m (p .rec i .mask) q) ∙ h)) }
+        record {
+          visit = along-step s S (f .kind) low high (Has p f m′) i n
+              (visit-map (linksOf p) (f .kind) i (Has p f m) (Has p f m′)
+              (λ j h a q b. bit-or m (p .rec i .mask) q ∙ or-left (bit m q) (bit (p .rec i .mask) q) (h a q b)) (u .visit))
+              i′ next
+              (λ a q b. bit-or m (p .rec i .mask) q ∙ or-true (bit m q) (bit (p .rec i .mask) q) b);
+          from = λ q h.
+              ⊎-elim (u .from q)
+              (λ b. some-yes p (f .kind) (λ r. states f r && bit (r .mask) q) i (along-kind s S (f .kind) low high (Has p f m) i n (u .visit))
+              (and-true (states f (p .rec i)) (bit (p .rec i .mask) q) e b))
+              (or-cases (bit m q) (bit (p .rec i .mask) q) (sym (bit-or m (p .rec i .mask) q) ∙ h));
+        }
       where
         m′ : ℕ
         m′ = bitOr m (p .rec i .mask)
 
   pub uniting-end : (m : ℕ) → Uniting p f m 0 → United p f m
   uniting-end m u =
-      record { at = λ q.
-                 same-truth (bit m q) (some p (f .kind) (λ r. states f r && bit (r .mask) q)) (u .from q)
-                 (λ h.
-                 let r = some-record p (f .kind) (λ r. states f r && bit (r .mask) q) h in
-                 let i : ℕ = r .0 in
-                 along-end s S (f .kind) low high (Has p f m) (u .visit) i (r .1)
-                 (and-first (states f (p .rec i)) (bit (p .rec i .mask) q) (r .2)) q
-                 (and-second (states f (p .rec i)) (bit (p .rec i .mask) q) (r .2))) }
+      record {
+        at = λ q.
+            same-truth (bit m q) (some p (f .kind) (λ r. states f r && bit (r .mask) q)) (u .from q)
+            (λ h.
+            let r = some-record p (f .kind) (λ r. states f r && bit (r .mask) q) h in
+            let i : ℕ = r .0 in
+            along-end s S (f .kind) low high (Has p f m) (u .visit) i (r .1)
+            (and-first (states f (p .rec i)) (bit (p .rec i .mask) q) (r .2)) q
+            (and-second (states f (p .rec i)) (bit (p .rec i .mask) q) (r .2)));
+      }

@@ -91,7 +91,7 @@ returns-2 c =
     let q = a .args .f in
     let z : c .before .loop .i ≡ 0 = omega arith in
     sym (some-no p (q .kind) (states q) (along-end (a .args .image .now) (a .pre .0) (q .kind) (a .pre .1) (a .pre .2) (Not p q)
-        (subst (λ (j : ℕ). Visit (linksOf p) (q .kind) (Not p q) j) z (c .before .loop .inv))))
+    (subst (λ (j : ℕ). Visit (linksOf p) (q .kind) (Not p q) j) z (c .before .loop .inv))))
 
 pub is-given-spec : {M : Type 1} → statement M
 is-given-spec =
