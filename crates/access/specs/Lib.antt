@@ -1,1 +1,2 @@
 pub mod Authorization
+pub mod Gate

@@ -1,6 +1,6 @@
 -- The value of a node is its operator's value over the values of its children, with no steps counted. It rests on question 6:
 -- a node's children stand at lower numbers, so that as many steps as the node's number are enough.
-use Prim.Native.Nat.{ℕ, zero, suc, _≤_, _<_}
+use Prim.Native.Nat.{ℕ, zero, suc, _≤_}
 use mathlib.Core.Path.{_≡_, refl, ap, ap₂, _∙_}
 use mathlib.Core.Bool.{Bool, false, not, _&&_, _||_}
 use native.Mathlib.Omega.{arith}

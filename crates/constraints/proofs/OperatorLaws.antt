@@ -1,9 +1,8 @@
 -- Each operator's equation (paper 01, kind 9), for every node of every policy that passes question 6.
 use Prim.Native.Nat.{ℕ, _≤_}
 use mathlib.Core.Path.{_≡_, refl, _∙_}
-use mathlib.Core.Bool.{Bool, false, not, _&&_, _||_}
+use mathlib.Core.Bool.{false, not, _&&_, _||_}
 use lib.Dec.{eqb}
-use Rattle.policy_image.specs.declared.records.Record.{Record}
 use Rattle.policy_image.specs.Layout.{leftOf, rightOf}
 use Rattle.policy_image.specs.Policy.{Policy}
 use Rattle.policy_nodes.specs.Nodes.{IsNode, NodesInOrder}

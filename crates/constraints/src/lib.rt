@@ -1,12 +1,9 @@
 // The constraints of a policy: expression nodes evaluated, and all constraints on an event.
 use base::bits::has_bit;
-use base::bytes::u32_at;
-use base::bytes::wide;
 use context::Context;
 use context::Event;
 use policy_image::records::Record;
 use policy_image::records::head_at;
-use policy_image::records::payload;
 use policy_image::records::record_at;
 ghost use mathlib.Core.Path.{_≡_};
 ghost use mathlib.Core.Bool.{not, _||_};
@@ -19,43 +16,17 @@ ghost use Rattle.policy_check.specs.Sound.{Sound};
 ghost use Rattle.constraints.specs.Eval.{evalNode};
 ghost use Rattle.constraints.specs.Constraints.{constrains, constraintsHold};
 
-// A node's operator.
-fn operator(image: &[u8], node: usize) -> u32
-    requires { ⌜ Exact (now image) × IsNode (policyOf (now image)) node ⌝ }
-    ensures { λ r. ⌜ r ≡ policyOf (now (image .entry)) .rec node .a ⌝ }
-{
-    let p = payload(image, node);
-    wide(p[1])
-}
-
-// The number that a node compares with.
-fn operand(image: &[u8], node: usize) -> u32
-    requires { ⌜ Exact (now image) × IsNode (policyOf (now image)) node ⌝ }
-    ensures { λ r. ⌜ r ≡ policyOf (now (image .entry)) .rec node .b ⌝ }
-{
-    let p = payload(image, node);
-    wide(p[2])
-}
-
-// The numbers of a node's children: left is the low half, right the high half.
-fn children(image: &[u8], node: usize) -> u32
-    requires { ⌜ Exact (now image) × IsNode (policyOf (now image)) node ⌝ }
-    ensures { λ r. ⌜ r ≡ policyOf (now (image .entry)) .rec node .mask ⌝ }
-{
-    u32_at(payload(image, node), 6)
-}
-
 // The value of a node: x is the process's context, y the resource's.
-// What a call keeps on the stack is little, since a tree may have 4,095 nodes in a row.
+// A tree of 4,095 nodes in a row has as many calls on the stack at once.
 pub fn eval(image: &[u8], node: usize, x: Context, y: Context) -> bool
     requires { ⌜ Exact (now image) × NodesInOrder (policyOf (now image)) × IsNode (policyOf (now image)) node ⌝ }
     ensures { λ r. ⌜ r ≡ evalNode (policyOf (now (image .entry))) x y node ⌝ }
 {
-    let op = operator(image, node);
-    let b = operand(image, node);
-    let both = children(image, node);
-    let left = (both % 65536) as usize;
-    let right = (both / 65536) as usize;
+    let r = record_at(image, node);
+    let op = r.a;
+    let b = r.b;
+    let left = (r.mask % 65536) as usize;
+    let right = (r.mask / 65536) as usize;
     match op {
         1 => !eval(image, left, x, y),
         2 => {

@@ -10,13 +10,13 @@ use borrow.Fn.PlainCycle.{Measures, is, falls, and}
 use denote.Ref.{now}
 use Rattle.policy_image.specs.Layout.{Exact, leftOf, rightOf}
 use Rattle.policy_image.specs.Policy.{Policy, policyOf}
+use Rattle.policy_image.specs.declared.records.Record.{Record}
+use Rattle.policy_image.proofs.FieldLaws.{SameFields, same-fields}
 use Rattle.policy_nodes.specs.Nodes.{NodesInOrder, IsNode}
 use Rattle.policy_nodes.proofs.UseLaws.{left-child, right-child}
 use Rattle.constraints.specs.Eval.{valueOf, evalNode}
 use Rattle.constraints.proofs.EvalLaws.{eval-by, op-other}
-use Rattle.constraints.proofs.children.Reads as children-reads
-use Rattle.constraints.proofs.operand.Reads as operand-reads
-use Rattle.constraints.proofs.operator.Reads as operator-reads
+use Rattle.policy_image.proofs.records.record_at.Reads as record-at-reads
 use Rattle.constraints.proofs.eval.Reads as eval
 use Rattle.constraints.proofs.eval.Kinds as eval-kinds
 use Rattle.constraints.proofs.+eval.Lts-eval as lts
@@ -34,15 +34,14 @@ abbrev below : ℕ → In 1 eval-kinds.ps
 below t = and 1 eval-kinds.ps (falls 1 eval-kinds.ps _<_ μ-eval t) eval.Pre
 
 abbrev claims : ℕ → lts.Claims
-claims t =
-    (operator-reads.Asked, operator-reads.Learnt, operand-reads.Asked, operand-reads.Learnt, children-reads.Asked, children-reads.Learnt, below t, eval.Post)
+claims t = (record-at-reads.Asked, record-at-reads.Learnt, below t, eval.Post)
 
 -- six numbers in a row ruled out
 six : (k n : ℕ) → k ≤ n → (n ≡ k → ⊥) → (n ≡ k + 1 → ⊥) → (n ≡ k + 2 → ⊥) → (n ≡ k + 3 → ⊥) → (n ≡ k + 4 → ⊥) → (n ≡ k + 5 → ⊥) → k + 6 ≤ n
 six k n h a b c d e f = omega arith
 
 -- what is known where the operator is matched on
-module _ (t : ℕ) (K : lts.After-children (claims t) (at t) eval.Post) where
+module _ (t : ℕ) (K : lts.After-struct-known2 (claims t) (at t) eval.Post) where
   abbrev s : lts.Start (claims t) (at t) eval.Post
   s = K .before .before .before .before
 
@@ -55,23 +54,17 @@ module _ (t : ℕ) (K : lts.After-children (claims t) (at t) eval.Post) where
   abbrev value : ℕ → Bool
   value m = evalNode p (s .args .x) (s .args .y) m
 
-  abbrev op : ℕ
-  op = K .before .before .operator .result
+  abbrev r : Record
+  r = K .before .before .record-at .result
 
-  abbrev b : ℕ
-  b = K .before .operand .result
-
-  abbrev left : ℕ
-  left = K .children .result % 65536
-
-  abbrev right : ℕ
-  right = K .children .result / 65536
+  same : SameFields r (p .rec n)
+  same = same-fields (K .before .before .record-at .ensures .same)
 
   -- the node's value, by the operator's number
-  by : (k : ℕ) → op ≡ k → value n ≡ valueOf k b left right value (s .args .x) (s .args .y)
+  by : (k : ℕ) → r .a ≡ k → value n ≡ valueOf k (r .b) (leftOf r) (rightOf r) value (s .args .x) (s .args .y)
   by k e =
-      eval-by p (s .pre .1 .1) (s .args .x) (s .args .y) n (s .pre .1 .2) k (sym (K .before .before .operator .ensures) ∙ e)
-      ∙ ap₂ (λ (b m : ℕ). valueOf k b (m % 65536) (m / 65536) value (s .args .x) (s .args .y)) (sym (K .before .operand .ensures)) (sym (K .children .ensures))
+      eval-by p (s .pre .1 .1) (s .args .x) (s .args .y) n (s .pre .1 .2) k (sym (same .a) ∙ e)
+      ∙ ap₂ (λ (b m : ℕ). valueOf k b (m % 65536) (m / 65536) value (s .args .x) (s .args .y)) (sym (same .b)) (sym (same .mask))
 
   -- what a call at m asks
   abbrev Asks : ℕ → Type 0
@@ -81,26 +74,18 @@ module _ (t : ℕ) (K : lts.After-children (claims t) (at t) eval.Post) where
   child-asks m k e q =
       subst Asks e (subst (λ (u : ℕ). k < u) (s .pre .0) (q .1), (s .pre .1 .0, s .pre .1 .1, q .0))
 
-  left-asks : (m : ℕ) → m ≡ left → 1 ≤ op → op ≤ 3 → Asks m
+  left-asks : (m : ℕ) → m ≡ leftOf r → 1 ≤ r .a → r .a ≤ 3 → Asks m
   left-asks m e a z =
-      let o = K .before .before .operator .ensures in
-      let c = K .children .ensures in
+      let f = same in
       child-asks m (leftOf (p .rec n)) (omega arith) (left-child p (s .pre .1 .1) n (s .pre .1 .2) (omega arith) (omega arith))
 
-  right-asks : (m : ℕ) → m ≡ right → 2 ≤ op → op ≤ 3 → Asks m
+  right-asks : (m : ℕ) → m ≡ rightOf r → 2 ≤ r .a → r .a ≤ 3 → Asks m
   right-asks m e a z =
-      let o = K .before .before .operator .ensures in
-      let c = K .children .ensures in
+      let f = same in
       child-asks m (rightOf (p .rec n)) (omega arith) (right-child p (s .pre .1 .1) n (s .pre .1 .2) (omega arith) (omega arith))
 
-operator-requires : (t : ℕ) → lts.Need-operator-requires (claims t) (at t) eval.Post
-operator-requires t c κs = search needs
-
-operand-requires : (t : ℕ) → lts.Need-operand-requires (claims t) (at t) eval.Post
-operand-requires t c κs = search needs
-
-children-requires : (t : ℕ) → lts.Need-children-requires (claims t) (at t) eval.Post
-children-requires t c κs = search needs
+record-at-requires : (t : ℕ) → lts.Need-record-at-requires (claims t) (at t) eval.Post
+record-at-requires t c κs = search needs
 
 cast-left : (t : ℕ) → lts.Need-cast-left (claims t) (at t) eval.Post
 cast-left t c = search needs
@@ -135,12 +120,12 @@ returns-2 t c =
 returns-3 : (t : ℕ) → lts.Need-returns-3 (claims t) (at t) eval.Post
 returns-3 t c =
     let K = c .before .before .before in
-    sym (by t K 2 (c .before .before .match .keys2) ∙ ap (λ (v : Bool). v && value t K (right t K)) (sym (c .before .eval2 .ensures) ∙ c .if1 .left))
+    sym (by t K 2 (c .before .before .match .keys2) ∙ ap (λ (v : Bool). v && value t K (rightOf (r t K))) (sym (c .before .eval2 .ensures) ∙ c .if1 .left))
 
 returns-4 : (t : ℕ) → lts.Need-returns-4 (claims t) (at t) eval.Post
 returns-4 t c =
     let K = c .before .before .before in
-    sym (by t K 3 (c .before .before .match .keys3) ∙ ap (λ (v : Bool). v || value t K (right t K)) (sym (c .before .eval4 .ensures) ∙ c .if2 .taken))
+    sym (by t K 3 (c .before .before .match .keys3) ∙ ap (λ (v : Bool). v || value t K (rightOf (r t K))) (sym (c .before .eval4 .ensures) ∙ c .if2 .taken))
 
 returns-5 : (t : ℕ) → lts.Need-returns-5 (claims t) (at t) eval.Post
 returns-5 t c =
@@ -180,20 +165,18 @@ returns-14 t c = sym (by t (c .before .before) 12 (c .before .match .keys12))
 returns-15 : (t : ℕ) → lts.Need-returns-15 (claims t) (at t) eval.Post
 returns-15 t c =
     let K = c .before in
-    let r = c .match .rest in
-    let q = r .0 .0 .0 .0 .0 .0 in
-    let none : 1 ≤ op t K → op t K ≤ 12 → ⊥ = λ a z.
-    let h = six 7 (op t K) (six 1 (op t K) a (q .0 .0 .0 .0 .0 .1) (q .0 .0 .0 .0 .1) (q .0 .0 .0 .1) (q .0 .0 .1) (q .0 .1) (q .1)) (r .0 .0 .0 .0 .0 .1) (r .0 .0 .0 .0 .1) (r .0 .0 .0 .1) (r .0 .0 .1) (r .0 .1) (r .1) in
+    let u = c .match .rest in
+    let q = u .0 .0 .0 .0 .0 .0 in
+    let none : 1 ≤ r t K .a → r t K .a ≤ 12 → ⊥ = λ a z.
+    let h = six 7 (r t K .a) (six 1 (r t K .a) a (q .0 .0 .0 .0 .0 .1) (q .0 .0 .0 .0 .1) (q .0 .0 .0 .1) (q .0 .0 .1) (q .0 .1) (q .1)) (u .0 .0 .0 .0 .0 .1) (u .0 .0 .0 .0 .1) (u .0 .0 .0 .1) (u .0 .0 .1) (u .0 .1) (u .1) in
     omega (arith, h, z) in
-    sym (by t K (op t K) refl ∙ op-other (op t K) _ _ _ _ _ _ none)
+    sym (by t K (r t K .a) refl ∙ op-other (r t K .a) _ _ _ _ _ _ none)
 
 pub +eval-spec : {M : Type 1} → statement M
 +eval-spec =
     close μ-eval λ t.
     lts.spec (claims t) (at t) eval.Post
-    (operator-requires t)
-    (operand-requires t)
-    (children-requires t)
+    (record-at-requires t)
     (cast-left t)
     (cast-right t)
     (eval-requires t)
