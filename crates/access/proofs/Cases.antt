@@ -12,18 +12,12 @@ use Rattle.policy_nodes.specs.Nodes.{useOf}
 use Rattle.policy_check.proofs.Tests.{Accepted, accepted}
 use Rattle.context.specs.declared.Context.{Context}
 use Rattle.context.specs.declared.Event.{Event}
+use Rattle.context.specs.Codes.{contextAt as at, eventAt as event}
 use Rattle.relations.specs.Relations.{domain, Γ, writeLike, readLike, allowed, α, ρ, μ, roleChange}
 use Rattle.constraints.specs.Eval.{evalAt, evalNode}
 use Rattle.constraints.specs.Constraints.{constraintsHold}
 use Rattle.access.specs.Authorization.{χ, roleRule, authorized, flow}
 use Rattle.access.specs.Gate.{gate}
-
--- a context and an event by their numbers
-abbrev at : ℕ → ℕ → ℕ → Context
-at t r u = record { ty = t; role = r; user = u }
-
-abbrev event : ℕ → ℕ → Event
-event c p = record { class = c; perm = p }
 
 pub gate-accepted : Accepted gate
 unfolding countsOf recordCount recordOf headOf payloadOf decoded useOf

@@ -6,17 +6,25 @@ use lib.Dec.{eqb}
 use Rattle.context.specs.declared.Context.{Context}
 use Rattle.context.specs.declared.Event.{Event}
 
+-- "A context is (type, role, user)."
+abbrev pub contextAt : ℕ → ℕ → ℕ → Context
+contextAt t r u = record { ty = t; role = r; user = u }
+
+-- an event is a class and a permission of it
+abbrev pub eventAt : ℕ → ℕ → Event
+eventAt c p = record { class = c; perm = p }
+
 abbrev pub contextCode : Context → ℕ
 contextCode x = 256 * x .ty + 16 * x .role + x .user
 
 abbrev pub contextOf : ℕ → Context
-contextOf n = record { ty = n / 256; role = n / 16 % 16; user = n % 16 }
+contextOf n = contextAt (n / 256) (n / 16 % 16) (n % 16)
 
 abbrev pub eventCode : Event → ℕ
 eventCode e = 32 * e .class + e .perm
 
 abbrev pub eventOf : ℕ → Event
-eventOf n = record { class = n / 32; perm = n % 32 }
+eventOf n = eventAt (n / 32) (n % 32)
 
 -- "Event class 1, permission 0, is process transition."
 abbrev pub isTransition : Event → Bool

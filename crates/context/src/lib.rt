@@ -4,7 +4,7 @@ use policy_image::counts::Counts;
 ghost use mathlib.Core.Path.{_≡_};
 ghost use Prim.Native.Nat.{_<_};
 ghost use Rattle.base.specs.Decides.{Decides};
-ghost use Rattle.context.specs.Codes.{contextCode, contextOf, eventCode, eventOf, isTransition};
+ghost use Rattle.context.specs.Codes.{contextAt, eventAt, contextCode, contextOf, eventCode, eventOf, isTransition};
 ghost use Rattle.context.specs.Ranges.{ContextInRange, EventInRange, Coded};
 
 // A security context: a type, a role and a user, each from 1.
@@ -15,6 +15,12 @@ pub struct Context {
 }
 
 impl Context {
+    pub fn new(ty: u32, role: u32, user: u32) -> Context
+        ensures { λ r. ⌜ r ≡ contextAt ty role user ⌝ }
+    {
+        Context { ty, role, user }
+    }
+
     // The number that stands for the context in a path.
     pub fn code(self) -> u32
         requires { ⌜ (self .ty < 65536) × (self .role < 16) × (self .user < 16) ⌝ }
@@ -56,6 +62,12 @@ pub struct Event {
 impl Event {
     // Process transition.
     pub const TRANSITION: Event = Event { class: 1, perm: 0 };
+
+    pub fn new(class: u32, perm: u32) -> Event
+        ensures { λ r. ⌜ r ≡ eventAt class perm ⌝ }
+    {
+        Event { class, perm }
+    }
 
     // The number that stands for the event in a path.
     pub fn code(self) -> u32

@@ -2,7 +2,7 @@
 use Prim.Native.Nat.{ℕ, _≤_, _<_}
 use mathlib.Core.Bool.{Bool, true, false}
 use mathlib.Core.List.{List, [], _∷_}
-use mathlib.Core.Path.{_≡_, refl, ap, _∙_}
+use mathlib.Core.Path.{_≡_, refl, ap, subst, _∙_}
 use native.Mathlib.Omega.{arith}
 use Rattle.base.specs.Questions.{Question, ask, AllYes}
 use Rattle.base.proofs.QuestionLaws.{passed-first, passed-then, passed-not-refused, one-number}
@@ -17,7 +17,7 @@ use Rattle.context.specs.Ranges.{Coded}
 use Rattle.context.proofs.CodeLaws.{event-of-code, code-below}
 use Rattle.flowgoal.specs.declared.bare.Answer.{Answer}
 use Rattle.flowgoal.specs.declared.bare.Answer.the-variants.{Yes, No, Refused}
-use Rattle.flowgoal.specs.Bare.{AskedInRange, bareQuestions, BareAnswer}
+use Rattle.flowgoal.specs.Bare.{AskedInRange, bareQuestions, BareAnswer, numberOf, NumberOf}
 
 module _ (s : List ℕ) (x y : Context) (e : Event) where
   -- question 13, the only one after the policy's
@@ -57,3 +57,13 @@ module _ (s : List ℕ) (x y : Context) (e : Event) where
     -- .. and its code stands for it
     pub asked-event : {n : ℕ} → n ≡ eventCode e → eventOf n ≡ e
     asked-event q = ap eventOf q ∙ event-of-code e (asked-coded .perm)
+
+-- the number of an answer about contexts and an event that were made of their numbers
+pub numbered : (P : Context → Context → Event → Answer → Type 0) {x v y w : Context} {e f : Event} {n : ℕ} (a : Answer)
+    → x ≡ v → y ≡ w → e ≡ f → P x y e a → n ≡ numberOf a → NumberOf (P v w f) n
+numbered P {x} {v} {y} {w} {e} {f} a h k l p q =
+    record {
+      answer = a;
+      promised = subst (λ (z : Context). P z w f a) h (subst (λ (z : Context). P x z f a) k (subst (λ (z : Event). P x y z a) l p));
+      number = q;
+    }

@@ -17,17 +17,12 @@ use Rattle.policy_check.specs.Answer.{policyQuestions}
 use Rattle.policy_check.proofs.Cases.{weir-accepted, root-zero}
 use Rattle.context.specs.declared.Context.{Context}
 use Rattle.context.specs.declared.Event.{Event}
+use Rattle.context.specs.Codes.{contextAt as at, eventAt as event}
 use Rattle.context.specs.Ranges.{ContextInRange, EventInRange}
 use Rattle.access.proofs.Cases.{weir-2-reads-1, weir-4-reads-no-1, weir-read-flows-in, weir-read-no-flow-out}
 use Rattle.flowgoal.specs.declared.bare.Answer.the-variants.{Yes, No, Refused}
 use Rattle.flowgoal.specs.Bare.{AskedInRange, bareQuestions, AuthorizationAnswer, FlowAnswer}
 use Rattle.flowgoal.proofs.BareLaws.{last, one-answer}
-
-abbrev at : ℕ → ℕ → ℕ → Context
-at t r u = record { ty = t; role = r; user = u }
-
-abbrev event : ℕ → ℕ → Event
-event c p = record { class = c; perm = p }
 
 -- ---- question 13 as a test that computes
 abbrev contextB : Counts → Context → Bool

@@ -8,6 +8,7 @@ use policy_image::counts::Checked;
 use policy_image::counts::Counts;
 ghost use mathlib.Core.Path.{_≡_};
 ghost use Rattle.base.specs.Decides.{Decides};
+ghost use Rattle.context.specs.Codes.{contextAt, eventAt};
 ghost use Rattle.flowgoal.specs.Bare.{AskedInRange, AskedAnswer, AuthorizationAnswer, FlowAnswer, numberOf, NumberOf};
 
 // The answer to a bare question.
@@ -102,23 +103,11 @@ pub extern "C" fn flowgoal_authorized(
     class: u32,
     permission: u32,
 ) -> u64
-    ensures { λ r. ⌜ NumberOf (AuthorizationAnswer (now (policy .entry)) (record { ty = t1; role = r1; user = u1 }) (record { ty = t2; role = r2; user = u2 }) (record { class = class; perm = permission })) r ⌝ }
+    ensures { λ r. ⌜ NumberOf (AuthorizationAnswer (now (policy .entry)) (contextAt t1 r1 u1) (contextAt t2 r2 u2) (eventAt class permission)) r ⌝ }
 {
-    let x = Context {
-        ty: t1,
-        role: r1,
-        user: u1,
-    };
-    let y = Context {
-        ty: t2,
-        role: r2,
-        user: u2,
-    };
-    let e = Event {
-        class,
-        perm: permission,
-    };
-    number(authorization(policy, x, y, e))
+    let x = Context::new(t1, r1, u1);
+    let y = Context::new(t2, r2, u2);
+    number(authorization(policy, x, y, Event::new(class, permission)))
 }
 
 // The flow question for C: from t1 r1 u1 to t2 r2 u2.
@@ -134,21 +123,9 @@ pub extern "C" fn flowgoal_flows(
     class: u32,
     permission: u32,
 ) -> u64
-    ensures { λ r. ⌜ NumberOf (FlowAnswer (now (policy .entry)) (record { ty = t1; role = r1; user = u1 }) (record { ty = t2; role = r2; user = u2 }) (record { class = class; perm = permission })) r ⌝ }
+    ensures { λ r. ⌜ NumberOf (FlowAnswer (now (policy .entry)) (contextAt t1 r1 u1) (contextAt t2 r2 u2) (eventAt class permission)) r ⌝ }
 {
-    let x = Context {
-        ty: t1,
-        role: r1,
-        user: u1,
-    };
-    let y = Context {
-        ty: t2,
-        role: r2,
-        user: u2,
-    };
-    let e = Event {
-        class,
-        perm: permission,
-    };
-    number(flow(policy, x, y, e))
+    let x = Context::new(t1, r1, u1);
+    let y = Context::new(t2, r2, u2);
+    number(flow(policy, x, y, Event::new(class, permission)))
 }
