@@ -11,7 +11,7 @@ use Rattle.base.proofs.Decide.{Says, says-yes, says-no, says-iff, _both_, withi
 use Rattle.base.proofs.QuestionLaws.{refused-first, refused-then, passed-both}
 use Rattle.policy_image.specs.declared.counts.Counts.{Counts}
 use Rattle.policy_image.specs.Layout.{countsOf, recordCount}
-use Rattle.policy_image.specs.Written.{image, constraint}
+use Rattle.policy_image.specs.Written.{image, chainOf, constraint}
 use Rattle.policy_image.specs.Weir.{weir}
 use Rattle.policy_check.specs.Answer.{policyQuestions}
 use Rattle.policy_check.proofs.Cases.{weir-accepted, root-zero}
@@ -138,7 +138,7 @@ policy-first s x y e n r = refused-first (policyQuestions s) (last s x y e) n r
 
 -- an image that fails question 6, asked about contexts and an event out of range: 6, not 13
 abbrev noRoot : List ℕ
-noRoot = image 1 1 1 1 (0 ∷ 0 ∷ 0 ∷ 0 ∷ 0 ∷ 0 ∷ 0 ∷ 1 ∷ 0 ∷ []) (constraint 0 1 1 0 ∷ [])
+noRoot = image 1 1 1 1 (chainOf 8) (constraint 0 1 1 0 ∷ [])
 
 pub six-before-thirteen : RefusedWith (bareQuestions noRoot (at 0 0 0) (at 0 0 0) (event 0 32)) 6
 six-before-thirteen = policy-first noRoot (at 0 0 0) (at 0 0 0) (event 0 32) 6 (root-zero .it)

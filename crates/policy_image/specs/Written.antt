@@ -1,6 +1,8 @@
 -- Policy images written out, for theorems about named images: every number below 256, so that each fits its low byte.
 use Prim.Native.Nat.{ℕ}
 use mathlib.Core.List.{List, [], _∷_, _++_}
+use mathlib.Core.Bool.{cond}
+use lib.Dec.{eqb}
 use lib.ListN.{length}
 
 -- a record, by its bytes
@@ -43,6 +45,16 @@ heads (h ∷ hs) = h ∷ 0 ∷ heads hs
 abbrev pub lines : List (List ℕ) → List ℕ
 lines [] = []
 lines (r ∷ rs) = r ++ lines rs
+
+-- nine heads: none has a chain; that of kind k alone has one, which begins at record 1
+abbrev pub noChain : List ℕ
+noChain = 0 ∷ 0 ∷ 0 ∷ 0 ∷ 0 ∷ 0 ∷ 0 ∷ 0 ∷ 0 ∷ []
+
+abbrev pub chainOf : ℕ → List ℕ
+chainOf k = h 1 ∷ h 2 ∷ h 3 ∷ h 4 ∷ h 5 ∷ h 6 ∷ h 7 ∷ h 8 ∷ h 9 ∷ []
+  where
+    h : ℕ → ℕ
+    h j = cond (eqb j k) 1 0
 
 -- the image with T types, R roles, U users and C classes
 abbrev pub image : ℕ → ℕ → ℕ → ℕ → List ℕ → List (List ℕ) → List ℕ
