@@ -101,7 +101,8 @@ static void answers(void)
 }
 
 /* The deepest constraint that can be asked about: a class with its permission, a constraint on it, and the rest nodes, each
- * `not` of the one before. It has an even number of negations of "same type", so it is true of two equal types. */
+ * `not` of the one before. Where it is to be answered with yes too, an even number of negations of "same type" stands below
+ * the records that authorize the event. */
 static uint64_t deep_result;
 
 static void *ask_deep(void *unused)
@@ -111,19 +112,21 @@ static void *ask_deep(void *unused)
     return NULL;
 }
 
-static void deepest(void)
+static void deepest(int authorized)
 {
     size_t size = 16 << 20, used;
     uint8_t *stack = mmap(NULL, size, PROT_READ | PROT_WRITE, MAP_PRIVATE | MAP_ANONYMOUS, -1, 0);
     pthread_attr_t attributes;
     pthread_t thread;
     start(1, 1, 1, 1);
-    add(1, 1, 0, 0, 0, 0);
     add(2, 1, 0, 0, 0, 1);
-    add(4, 1, 0, 1, 0, 1);
-    add(5, 1, 1, 0, 0, 0);
-    add(7, 1, 1, 0, 0, 0);
     add(8, 1, 0, 0, MOST, 1);
+    if (authorized) {
+        add(1, 1, 0, 0, 0, 0);
+        add(4, 1, 0, 1, 0, 1);
+        add(5, 1, 1, 0, 0, 0);
+        add(7, 1, 1, 0, 0, 0);
+    }
     add(9, 4, 0, 0, 0, 0);
     while (records < MOST)
         add(9, 1, 0, 0, 0, records);
@@ -138,8 +141,9 @@ static void deepest(void)
     pthread_join(thread, NULL);
     for (used = size; used > 0 && stack[size - used] == 0xAA; used--)
         ;
-    printf("the deepest constraint took %zu bytes of stack; the header says %d at the most\n", used, FLOWGOAL_STACK);
-    expect("the deepest constraint", deep_result, FLOWGOAL_YES);
+    printf("a constraint of %u nested nodes took %zu bytes of stack; the header says %d at the most\n",
+           authorized ? MOST - 6 : MOST - 2, used, FLOWGOAL_STACK);
+    expect("the deepest constraint", deep_result, authorized ? FLOWGOAL_YES : FLOWGOAL_NO);
     expect("its stack", used <= FLOWGOAL_STACK, 1);
     munmap(stack, size);
 }
@@ -147,7 +151,8 @@ static void deepest(void)
 int main(void)
 {
     answers();
-    deepest();
+    deepest(1);
+    deepest(0);
     printf("%u passed, %u failed\n", passed, failed);
     return failed != 0;
 }

@@ -2,11 +2,13 @@
 -- lets pass and a near one that it alone forbids, so that each misreading named is one that a theorem here rejects.
 use Prim.Native.Nat.{ℕ}
 use mathlib.Core.Bool.{Bool, true, false}
+use mathlib.Core.List.{List, [], _∷_}
 use mathlib.Core.Path.{_≡_, refl}
 use Rattle.base.specs.Bits.{bit}
 use Rattle.policy_image.specs.Layout.{countsOf, recordCount, recordOf, headOf, payloadOf, decoded}
 use Rattle.policy_image.specs.Policy.{policyOf}
 use Rattle.policy_image.specs.OfKind.{some, every}
+use Rattle.policy_image.specs.Written.{image, domain as domain-record, permissions, flow as flow-record, allow, roleType, userRole, roleChange as role-change-record, constraint, node}
 use Rattle.policy_image.specs.Weir.{weir}
 use Rattle.policy_nodes.specs.Nodes.{useOf}
 use Rattle.policy_check.proofs.Tests.{Accepted, accepted}
@@ -101,6 +103,21 @@ pub read-not-allowed : authorized (policyOf gate) (event 2 0) (at 3 2 1) (at 1 1
 unfolding authorized flow χ roleRule constraintsHold evalNode evalAt domain Γ writeLike readLike allowed α ρ μ roleChange some every bit countsOf recordCount recordOf headOf payloadOf decoded
 read-not-allowed = refl
 
+-- an allow is of its class: the one of signal, permission 1 of class 1, gives no write, permission 1 of class 2
+pub signal-self-class : authorized (policyOf gate) (event 2 1) (at 2 2 1) (at 2 2 1) ≡ false
+unfolding authorized flow χ roleRule constraintsHold evalNode evalAt domain Γ writeLike readLike allowed α ρ μ roleChange some every bit countsOf recordCount recordOf headOf payloadOf decoded
+signal-self-class = refl
+
+-- flow from a context to itself counts
+pub signal-self-flows : flow (policyOf gate) (event 1 1) (at 2 2 1) (at 2 2 1) ≡ true
+unfolding authorized flow χ roleRule constraintsHold evalNode evalAt domain Γ writeLike readLike allowed α ρ μ roleChange some every bit countsOf recordCount recordOf headOf payloadOf decoded
+signal-self-flows = refl
+
+-- a kind 3 record is of its class: that permission 0 of class 1 is write-like says nothing of class 2
+pub gate-read-no-flow-out : flow (policyOf gate) (event 2 0) (at 2 2 1) (at 1 1 1) ≡ false
+unfolding authorized flow χ roleRule constraintsHold evalNode evalAt domain Γ writeLike readLike allowed α ρ μ roleChange some every bit countsOf recordCount recordOf headOf payloadOf decoded
+gate-read-no-flow-out = refl
+
 -- ---- ρ
 pub source-role-2 : authorized (policyOf gate) (event 2 0) (at 2 2 1) (at 1 1 1) ≡ true
 unfolding authorized flow χ roleRule constraintsHold evalNode evalAt domain Γ writeLike readLike allowed α ρ μ roleChange some every bit countsOf recordCount recordOf headOf payloadOf decoded
@@ -175,6 +192,16 @@ pub constraint-of-write-alone : authorized (policyOf gate) (event 2 0) (at 2 2 2
 unfolding authorized flow χ roleRule constraintsHold evalNode evalAt domain Γ writeLike readLike allowed α ρ μ roleChange some every bit countsOf recordCount recordOf headOf payloadOf decoded
 constraint-of-write-alone = refl
 
+-- .. nor on signal, permission 1 of another class
+pub constraint-of-class-alone : authorized (policyOf gate) (event 1 1) (at 2 2 2) (at 2 2 2) ≡ true
+unfolding authorized flow χ roleRule constraintsHold evalNode evalAt domain Γ writeLike readLike allowed α ρ μ roleChange some every bit countsOf recordCount recordOf headOf payloadOf decoded
+constraint-of-class-alone = refl
+
+-- χ is empty outside Γ
+pub chi-outside-gamma : χ (policyOf gate) (event 2 2) (at 2 2 1) (at 1 1 1) ≡ false
+unfolding authorized flow χ roleRule constraintsHold evalNode evalAt domain Γ writeLike readLike allowed α ρ μ roleChange some every bit countsOf recordCount recordOf headOf payloadOf decoded
+chi-outside-gamma = refl
+
 -- ---- the role rule
 -- process transition with a kind 7 record
 pub transition-2-to-3 : authorized (policyOf gate) (event 1 0) (at 2 2 1) (at 3 3 1) ≡ true
@@ -194,3 +221,36 @@ signal-without-rule = refl
 pub transition-flows : flow (policyOf gate) (event 1 0) (at 2 2 1) (at 3 3 1) ≡ true
 unfolding authorized flow χ roleRule constraintsHold evalNode evalAt domain Γ writeLike readLike allowed α ρ μ roleChange some every bit countsOf recordCount recordOf headOf payloadOf decoded
 transition-flows = refl
+
+-- ---- who acts where flow is read-like: the flow's target. Types 1 and 2 are domains; permission 0 of class 1 is process transition
+-- and permission 1 a read, both read-like; 1 may do both to 2; the read is constrained to t1 = 1, and role 2 may change to role 3
+abbrev readers : List ℕ
+readers =
+    image 2 3 1 1 (1 ∷ 3 ∷ 4 ∷ 5 ∷ 6 ∷ 8 ∷ 10 ∷ 11 ∷ 12 ∷ [])
+    (domain-record 2 1
+    ∷ domain-record 0 2
+    ∷ permissions 0 1 3
+    ∷ flow-record 0 1 2 3
+    ∷ allow 0 1 2 1 3
+    ∷ roleType 7 2 1
+    ∷ roleType 0 3 2
+    ∷ userRole 9 1 2
+    ∷ userRole 0 1 3
+    ∷ role-change-record 0 2 3
+    ∷ constraint 0 1 2 12
+    ∷ node 0 7 1 0 0
+    ∷ [])
+
+-- 1 reads 2: flow goes from 2 to 1, and suffix 1 of its constraint is 1
+pub read-flow-suffix-1 : flow (policyOf readers) (event 1 1) (at 2 3 1) (at 1 2 1) ≡ true
+unfolding authorized flow χ roleRule constraintsHold evalNode evalAt domain Γ writeLike readLike allowed α ρ μ roleChange some every bit countsOf recordCount recordOf headOf payloadOf decoded
+read-flow-suffix-1 = refl
+
+pub read-flow-no-back : flow (policyOf readers) (event 1 1) (at 1 2 1) (at 2 3 1) ≡ false
+unfolding authorized flow χ roleRule constraintsHold evalNode evalAt domain Γ writeLike readLike allowed α ρ μ roleChange some every bit countsOf recordCount recordOf headOf payloadOf decoded
+read-flow-no-back = refl
+
+-- 1 makes a transition to 2: flow goes from 2 to 1, and the roles asked are those of 1 and of 2, in this order
+pub read-like-transition : flow (policyOf readers) (event 1 0) (at 2 3 1) (at 1 2 1) ≡ true
+unfolding authorized flow χ roleRule constraintsHold evalNode evalAt domain Γ writeLike readLike allowed α ρ μ roleChange some every bit countsOf recordCount recordOf headOf payloadOf decoded
+read-like-transition = refl

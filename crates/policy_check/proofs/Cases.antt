@@ -391,6 +391,10 @@ pub or-of-one : Refused (image 1 1 1 1 (chainOf 9) (node 2 4 0 0 0 ∷ node 0 3 
 unfolding countsOf recordCount recordOf headOf payloadOf decoded useOf
 or-of-one = refused-6 refl refl refl refl refl refl
 
+pub or-without-left : Refused (image 1 1 1 1 (chainOf 9) (node 2 4 0 0 0 ∷ node 0 3 0 0 1 ∷ [])) 6
+unfolding countsOf recordCount recordOf headOf payloadOf decoded useOf
+or-without-left = refused-6 refl refl refl refl refl refl
+
 -- ---- the order: of two faults the earlier question gives the number, whichever record has it
 pub length-before-counts : Refused (image 0 1 1 1 noChain [] ++ (0 ∷ [])) 1
 unfolding countsOf recordCount recordOf headOf payloadOf decoded useOf

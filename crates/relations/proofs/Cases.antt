@@ -7,7 +7,7 @@ use Rattle.base.specs.Bits.{bit}
 use Rattle.policy_image.specs.Layout.{recordCount, recordOf, payloadOf, decoded}
 use Rattle.policy_image.specs.Policy.{policyOf}
 use Rattle.policy_image.specs.OfKind.{some}
-use Rattle.policy_image.specs.Written.{image, domain as domain-record, permissions, flow, allow, roleType, userRole, roleChange as role-change-record}
+use Rattle.policy_image.specs.Written.{image, line, domain as domain-record, permissions, flow, allow, roleType, userRole, roleChange as role-change-record}
 use Rattle.policy_image.specs.Weir.{weir, weirAllow31}
 use Rattle.context.specs.Codes.{eventAt as event}
 use Rattle.relations.specs.Relations.{domain, Γ, writeLike, readLike, allowed, α, ρ, μ, roleChange}
@@ -156,3 +156,41 @@ change-1-2 = refl
 pub change-2-1 : roleChange (policyOf small) 2 1 ≡ false
 unfolding domain Γ writeLike readLike allowed α ρ μ roleChange some bit recordCount recordOf payloadOf decoded
 change-2-1 = refl
+
+-- permissions 8, 16 and 31: each byte of a mask counts. Type 1 is a domain; class 1 has them, 8 and 31 write-like; 1 may 31 itself
+abbrev wide : List ℕ
+wide =
+    image 1 1 1 1 (1 ∷ 2 ∷ 3 ∷ 4 ∷ 0 ∷ 0 ∷ 0 ∷ 0 ∷ 0 ∷ [])
+    (domain-record 0 1
+    ∷ line 0 2 1 0 0 0 0 0 1 1 128
+    ∷ line 0 3 1 1 0 0 0 0 1 0 128
+    ∷ line 0 4 1 1 1 0 0 0 0 0 128
+    ∷ [])
+
+pub gamma-8 : Γ (policyOf wide) (event 1 8) ≡ true
+unfolding domain Γ writeLike readLike allowed α ρ μ roleChange some bit recordCount recordOf payloadOf decoded
+gamma-8 = refl
+
+pub gamma-9 : Γ (policyOf wide) (event 1 9) ≡ false
+unfolding domain Γ writeLike readLike allowed α ρ μ roleChange some bit recordCount recordOf payloadOf decoded
+gamma-9 = refl
+
+pub gamma-16 : Γ (policyOf wide) (event 1 16) ≡ true
+unfolding domain Γ writeLike readLike allowed α ρ μ roleChange some bit recordCount recordOf payloadOf decoded
+gamma-16 = refl
+
+pub write-like-8 : writeLike (policyOf wide) (event 1 8) ≡ true
+unfolding domain Γ writeLike readLike allowed α ρ μ roleChange some bit recordCount recordOf payloadOf decoded
+write-like-8 = refl
+
+pub write-like-16 : writeLike (policyOf wide) (event 1 16) ≡ false
+unfolding domain Γ writeLike readLike allowed α ρ μ roleChange some bit recordCount recordOf payloadOf decoded
+write-like-16 = refl
+
+pub alpha-31 : α (policyOf wide) 1 1 (event 1 31) ≡ true
+unfolding domain Γ writeLike readLike allowed α ρ μ roleChange some bit recordCount recordOf payloadOf decoded
+alpha-31 = refl
+
+pub alpha-8 : α (policyOf wide) 1 1 (event 1 8) ≡ false
+unfolding domain Γ writeLike readLike allowed α ρ μ roleChange some bit recordCount recordOf payloadOf decoded
+alpha-8 = refl
