@@ -1,0 +1,14 @@
+pub mod Any
+pub mod Monitor
+pub mod Order
+pub mod Events
+pub mod Numbers
+pub mod Monitors
+pub mod Bounds
+pub mod Verdict
+pub mod StageLaws
+pub mod TrackerLaws
+pub mod Finite
+pub mod Decide
+pub mod Drawn
+pub mod Cases
