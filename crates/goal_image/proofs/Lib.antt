@@ -1,0 +1,9 @@
+pub mod LegLaws
+pub mod Pass
+pub mod SortLaws
+pub mod Along
+pub mod SetLaws
+pub mod Gather
+pub mod AnswerLaws
+pub mod Tests
+pub mod Cases

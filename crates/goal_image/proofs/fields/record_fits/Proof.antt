@@ -1,0 +1,52 @@
+use mathlib.Core.Path.{sym, _∙_, subst}
+use native.Mathlib.Omega.{arith}
+use borrow.Author.Needs.{needs}
+use Rattle.base.specs.Decides.{Decides}
+use Rattle.goal_image.specs.Questions.{ContextFits, EventFits}
+use Rattle.goal_image.specs.declared.records.ContextRecord.{ContextRecord}
+use Rattle.goal_image.specs.declared.records.EventRecord.{EventRecord}
+use Rattle.goal_image.proofs.SortLaws.{some-sort, fits-context, fits-event}
+use Rattle.goal_image.proofs.fields.record_fits.Statement.{statement}
+use Rattle.goal_image.proofs.fields.record_fits.Tie as tie
+
+is-context-chain-requires : tie.Need-is-context-chain-requires
+is-context-chain-requires c κs = search needs
+
+context-at-requires : tie.Need-context-at-requires
+context-at-requires c κs = search needs
+
+context-fits-requires : tie.Need-context-fits-requires
+context-fits-requires c κs = search needs
+
+returns : tie.Need-returns
+returns c =
+    let K = c .before .before .before in
+    let s = K .before .before in
+    fits-context (s .args .counts) _ (s .args .h) (s .args .i) (c .context-fits .result) (sym (K .is-context-chain .ensures) ∙ c .before .before .if1 .taken)
+    (subst (λ (r : ContextRecord). Decides (c .context-fits .result) (ContextFits (s .args .counts) r)) (c .before .context-at .ensures) (c .context-fits .ensures))
+
+event-at-requires : tie.Need-event-at-requires
+event-at-requires c κs = search needs
+
+event-fits-requires : tie.Need-event-fits-requires
+event-fits-requires c κs = search needs
+
+returns-2 : tie.Need-returns-2
+returns-2 c =
+    let K = c .before .before .before in
+    let s = K .before .before in
+    fits-event (s .args .counts) _ (s .args .h) (s .args .i) (c .event-fits .result)
+    (some-sort (s .args .h) (omega arith) (sym (K .is-context-chain .ensures) ∙ c .before .before .if1 .left))
+    (subst (λ (r : EventRecord). Decides (c .event-fits .result) (EventFits (s .args .counts) r)) (c .before .event-at .ensures) (c .event-fits .ensures))
+
+pub record-fits-spec : {M : Type 1} → statement M
+record-fits-spec =
+    tie.close
+    (tie.spec
+    is-context-chain-requires
+    context-at-requires
+    context-fits-requires
+    returns
+    event-at-requires
+    event-fits-requires
+    returns-2)

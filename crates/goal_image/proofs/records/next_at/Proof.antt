@@ -1,0 +1,27 @@
+use borrow.Author.Needs.{needs}
+use Rattle.goal_image.specs.Layout.{nextOf}
+use Rattle.goal_image.proofs.records.next_at.Statement.{statement}
+use Rattle.goal_image.proofs.records.next_at.Tie as tie
+
+sub-u16-at : tie.Need-sub-u16-at
+sub-u16-at c = search needs
+
+mul-u16-at : tie.Need-mul-u16-at
+mul-u16-at c = search needs
+
+add-u16-at : tie.Need-add-u16-at
+add-u16-at c = search needs
+
+u16-at-requires : tie.Need-u16-at-requires
+u16-at-requires c κs = search needs
+
+cast-result : tie.Need-cast-result
+cast-result c = search needs
+
+returns : tie.Need-returns
+unfolding nextOf
+returns c = c .u16-at .ensures .0
+
+pub next-at-spec : {M : Type 1} → statement M
+next-at-spec =
+    tie.close (tie.spec sub-u16-at mul-u16-at add-u16-at u16-at-requires cast-result returns)

@@ -1,0 +1,73 @@
+use Prim.Native.Nat.{ℕ, _+_, _-_, _≤_}
+use mathlib.Core.Bool.{Bool, _&&_}
+use mathlib.Core.Logic.{⊎-elim}
+use mathlib.Core.Path.{_≡_, sym, subst, _∙_}
+use native.Mathlib.Omega.{arith}
+use borrow.Author.Needs.{needs}
+use Rattle.base.proofs.UptoLaws.{and-first}
+use Rattle.goal_image.specs.Goal.{goalOf, isEventChain}
+use Rattle.goal_image.specs.Sets.{eventIn}
+use Rattle.goal_image.proofs.Gather.{Gathered, gathered-start, gathered-shift, gathered-pass, gathered-end}
+use Rattle.goal_image.proofs.SortLaws.{event-below}
+use Rattle.goal_image.proofs.sets.event_sets.Statement.{statement}
+use Rattle.goal_image.proofs.sets.event_sets.Tie as tie
+
+abbrev Inv-loop : tie.InvT-loop
+Inv-loop goal e mask₀ h₀ mask h = (h ≤ 15) × Gathered (λ j. isEventChain j && eventIn (goalOf goal) j e) h mask
+
+abbrev μ-loop : tie.MeasureT-loop
+μ-loop goal e mask₀ h₀ mask h = 15 - h
+
+loop-holds : tie.Need-loop-holds Inv-loop μ-loop
+loop-holds c = (omega arith, gathered-start _)
+
+event-in-requires : tie.Need-event-in-requires Inv-loop μ-loop
+event-in-requires c κs = search needs
+
+cast-mask : tie.Need-cast-mask Inv-loop μ-loop
+cast-mask c = search needs
+
+shl-mask : tie.Need-shl-mask Inv-loop μ-loop
+shl-mask c = search needs
+
+add-h : tie.Need-add-h Inv-loop μ-loop
+add-h c = search needs
+
+loop-less : tie.Need-loop-less Inv-loop μ-loop
+loop-less c = search needs
+
+loop-again : tie.Need-loop-again Inv-loop μ-loop
+loop-again c =
+    let K = c .before in
+    let l = K .before .before .loop in
+    let a = K .before .before .before .before in
+    let f : ℕ → Bool = λ j. isEventChain j && eventIn (goalOf (a .args .goal .now)) j (a .args .e) in (
+      omega arith,
+      ⊎-elim
+          (λ w. subst (λ (m : ℕ). Gathered f (l .h + 1) m) (sym (w .1)) (gathered-shift f (l .h) (l .mask) (l .inv .1) (omega arith) (sym (K .event-in .ensures) ∙ w .0 .taken)))
+          (λ w. subst (λ (m : ℕ). Gathered f (l .h + 1) m) (sym (w .1)) (gathered-pass f (l .h) (l .mask) (l .inv .1) (sym (K .event-in .ensures) ∙ w .0 .left)))
+          (c .if1 .came),
+    )
+
+returns : tie.Need-returns Inv-loop μ-loop
+returns c =
+    let a = c .before .before .before in
+    let l = c .before .loop in
+    let f : ℕ → Bool = λ j. isEventChain j && eventIn (goalOf (a .args .goal .now)) j (a .args .e) in
+    let z : l .h ≡ 15 = omega arith in
+    record { at = gathered-end f 15 (l .mask) (subst (λ (h : ℕ). Gathered f h (l .mask)) z (l .inv .1)) (λ j t. event-below j (and-first (isEventChain j) _ t)) }
+
+pub event-sets-spec : {M : Type 1} → statement M
+event-sets-spec =
+    tie.close
+    (tie.spec
+    Inv-loop
+    μ-loop
+    loop-holds
+    event-in-requires
+    cast-mask
+    shl-mask
+    add-h
+    loop-less
+    loop-again
+    returns)

@@ -1,0 +1,65 @@
+// The heads and the records of a goal image.
+use base::bytes::u16_at;
+use base::bytes::u32_at;
+use base::bytes::wide;
+ghost use mathlib.Core.Path.{_≡_};
+ghost use Prim.Native.Nat.{_≤_, _<_};
+ghost use Rattle.goal_image.specs.Layout.{Exact, goalCount, headOf, nextOf, contextRecordOf, eventRecordOf};
+
+// A record of a σ chain, its next aside: 0 in a field means any.
+pub struct ContextRecord {
+    pub ty: u32,
+    pub role: u32,
+    pub user: u32,
+    pub spare: u32,
+}
+
+// A record of a γ chain, its next aside: class 0 means any.
+pub struct EventRecord {
+    pub class: u32,
+    pub spare: u32,
+    pub mask: u32,
+}
+
+// The head of chain h.
+pub fn head_at(goal: &[u8], h: usize) -> usize
+    requires { ⌜ Exact (now goal) × (h < 15) ⌝ }
+    ensures { λ r. ⌜ r ≡ headOf (now (goal .entry)) h ⌝ }
+{
+    u16_at(goal, 4 + 2 * h) as usize
+}
+
+// The number of record k's follower on its chain, 0 for none.
+pub fn next_at(goal: &[u8], k: usize) -> usize
+    requires { ⌜ Exact (now goal) × (1 ≤ k) × (k ≤ goalCount (now goal)) ⌝ }
+    ensures { λ r. ⌜ r ≡ nextOf (now (goal .entry)) k ⌝ }
+{
+    u16_at(goal, 34 + 8 * (k - 1)) as usize
+}
+
+// Record k, as one of a σ chain.
+pub fn context_at(goal: &[u8], k: usize) -> ContextRecord
+    requires { ⌜ Exact (now goal) × (1 ≤ k) × (k ≤ goalCount (now goal)) ⌝ }
+    ensures { λ r. ⌜ r ≡ contextRecordOf (now (goal .entry)) k ⌝ }
+{
+    let at = 34 + 8 * (k - 1);
+    ContextRecord {
+        ty: wide(goal[at + 2]),
+        role: wide(goal[at + 3]),
+        user: wide(goal[at + 4]),
+        spare: wide(goal[at + 5]) + 256 * u16_at(goal, at + 6),
+    }
+}
+
+// Record k, as one of a γ chain.
+pub fn event_at(goal: &[u8], k: usize) -> EventRecord
+    requires { ⌜ Exact (now goal) × (1 ≤ k) × (k ≤ goalCount (now goal)) ⌝ }
+    ensures { λ r. ⌜ r ≡ eventRecordOf (now (goal .entry)) k ⌝ }
+{
+    let at = 34 + 8 * (k - 1);
+    EventRecord {
+        class: wide(goal[at + 2]),
+        spare: wide(goal[at + 3]),
+        mask: u32_at(goal, at + 4),
+    }
+}

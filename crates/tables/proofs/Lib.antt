@@ -1,0 +1,4 @@
+pub mod Gathering
+pub mod SoundLaws
+pub mod MeaningLaws
+pub mod Cases

@@ -1,0 +1,3 @@
+// What a call makes of a checked policy once: tables that say in one step what the records say in many.
+pub mod gather;
+pub mod tables;

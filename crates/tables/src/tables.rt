@@ -1,0 +1,113 @@
+// The tables of a checked policy. An entry is a set of 32 numbers, one to a bit.
+use crate::gather::gather;
+use base::bits::has_bit;
+ghost use mathlib.Core.Bool.{not, _&&_};
+ghost use mathlib.Core.Path.{_≡_};
+ghost use Prim.Native.Nat.{ℕ};
+ghost use lib.Dec.{eqb};
+ghost use Rattle.base.specs.Bits.{bit};
+ghost use Rattle.policy_image.specs.Policy.{policyOf};
+ghost use Rattle.policy_check.specs.Sound.{Sound};
+ghost use Rattle.tables.specs.Tables.{GammaMasks, FlowMasks, ConstraintMasks, DomainTable, ObjectRoles, RoleTable, UserTable, RoleChanges};
+
+// How many entries a table by classes, by types, by roles or users has: one more than the largest number, for entry 0.
+pub const CLASSES: usize = 32;
+
+pub const TYPES: usize = 256;
+
+pub const ROLES: usize = 16;
+
+pub const USERS: usize = 16;
+
+// The set of role 1 alone, which holds what is no domain and is every user's.
+const OBJECT_ROLE: u32 = 2;
+
+// For each class its permissions.
+pub fn gamma_masks(image: &[u8]) -> [u32; CLASSES]
+    requires { ⌜ Sound (now image) ⌝ }
+    ensures { λ r. ⌜ GammaMasks (policyOf (now (image .entry))) r ⌝ }
+{
+    let mut masks = [0u32; CLASSES];
+    gather(image, 2, 0, &mut masks);
+    masks
+}
+
+// For each class its permissions that are write-like (way 1) or read-like (way 2).
+pub fn flow_masks(image: &[u8], way: u32) -> [u32; CLASSES]
+    requires { ⌜ Sound (now image) ⌝ }
+    ensures { λ r. ⌜ FlowMasks (policyOf (now (image .entry))) way r ⌝ }
+{
+    let mut masks = [0u32; CLASSES];
+    gather(image, 3, way, &mut masks);
+    masks
+}
+
+// For each class its permissions on which there is a constraint.
+pub fn constraint_masks(image: &[u8]) -> [u32; CLASSES]
+    requires { ⌜ Sound (now image) ⌝ }
+    ensures { λ r. ⌜ ConstraintMasks (policyOf (now (image .entry))) r ⌝ }
+{
+    let mut masks = [0u32; CLASSES];
+    gather(image, 8, 0, &mut masks);
+    masks
+}
+
+// For each type, in bit 0, whether it is a domain.
+pub fn domain_table(image: &[u8]) -> [u32; TYPES]
+    requires { ⌜ Sound (now image) ⌝ }
+    ensures { λ r. ⌜ DomainTable (policyOf (now (image .entry))) r ⌝ }
+{
+    let mut domains = [0u32; TYPES];
+    gather(image, 1, 0, &mut domains);
+    domains
+}
+
+// The roles that hold a type with no record: role 1, where the type is no domain.
+fn object_roles_of(domain: bool) -> u32
+    ensures { λ r. ⌜ ((role : ℕ) → bit r role ≡ (eqb role 1 && not domain)) ⌝ }
+{
+    if domain { 0 } else { OBJECT_ROLE }
+}
+
+// The same for each type.
+fn object_roles(domains: &[u32; TYPES]) -> [u32; TYPES]
+    ensures { λ r. ⌜ ObjectRoles (now (domains .entry)) r ⌝ }
+{
+    let mut roles = [0u32; TYPES];
+    let mut t = 0;
+    while t < TYPES {
+        roles[t] = object_roles_of(has_bit(domains[t], 0));
+        t += 1;
+    }
+    roles
+}
+
+// For each type the roles that may hold it.
+pub fn role_table(image: &[u8], domains: &[u32; TYPES]) -> [u32; TYPES]
+    requires { ⌜ Sound (now image) × DomainTable (policyOf (now image)) (now domains) ⌝ }
+    ensures { λ r. ⌜ RoleTable (policyOf (now (image .entry))) r ⌝ }
+{
+    let mut roles = object_roles(domains);
+    gather(image, 5, 0, &mut roles);
+    roles
+}
+
+// For each user the roles that it may hold.
+pub fn user_table(image: &[u8]) -> [u32; USERS]
+    requires { ⌜ Sound (now image) ⌝ }
+    ensures { λ r. ⌜ UserTable (policyOf (now (image .entry))) r ⌝ }
+{
+    let mut roles = [OBJECT_ROLE; USERS];
+    gather(image, 6, 0, &mut roles);
+    roles
+}
+
+// For each role those to which it may change.
+pub fn role_changes(image: &[u8]) -> [u32; ROLES]
+    requires { ⌜ Sound (now image) ⌝ }
+    ensures { λ r. ⌜ RoleChanges (policyOf (now (image .entry))) r ⌝ }
+{
+    let mut changes = [0u32; ROLES];
+    gather(image, 7, 0, &mut changes);
+    changes
+}
