@@ -1,2 +1,3 @@
 pub mod BareLaws
 pub mod Cases
+pub mod GoalLaws
