@@ -18,29 +18,29 @@ use Rattle.flowgoal.specs.GoalQuestion.{allQuestions, GoalPromise}
 
 -- ---- two answers of the path definitions
 module _ (M : Model) where
-  order-one : (m k : ℕ) → OrderAt M m → OrderAt M k → m ≡ k
+  pub order-one : (m k : ℕ) → OrderAt M m → OrderAt M k → m ≡ k
   order-one m k p q = let e = right-unique M (order m) (order k) p q in cc
 
-  events-one : (m k : ℕ) → EventsAt M m → EventsAt M k → m ≡ k
+  pub events-one : (m k : ℕ) → EventsAt M m → EventsAt M k → m ≡ k
   events-one m k p q = let e = right-unique M (events m) (events k) p q in cc
 
-  not-both : (m k : ℕ) → OrderAt M m → EventsAt M k → ⊥
+  pub not-both : (m k : ℕ) → OrderAt M m → EventsAt M k → ⊥
   not-both m k p q = let e = right-unique M (order m) (events k) p q in let z : _≡_ {A = ℕ} 0 1 = cc in omega arith
 
-  not-holds-order : (m : ℕ) → Holds M → OrderAt M m → ⊥
+  pub not-holds-order : (m : ℕ) → Holds M → OrderAt M m → ⊥
   not-holds-order m p q = let e = right-unique M holds (order m) p q in let z : _≡_ {A = ℕ} 0 1 = cc in omega arith
 
-  not-holds-events : (m : ℕ) → Holds M → EventsAt M m → ⊥
+  pub not-holds-events : (m : ℕ) → Holds M → EventsAt M m → ⊥
   not-holds-events m p q = let e = right-unique M holds (events m) p q in let z : _≡_ {A = ℕ} 0 1 = cc in omega arith
 
   -- the least count, whichever sort
-  least-one : (m k : ℕ) → OrderAt M m ⊎ EventsAt M m → OrderAt M k ⊎ EventsAt M k → m ≡ k
+  pub least-one : (m k : ℕ) → OrderAt M m ⊎ EventsAt M m → OrderAt M k ⊎ EventsAt M k → m ≡ k
   least-one m k (inl p) (inl q) = order-one m k p q
   least-one m k (inl p) (inr q) = absurd (not-both m k p q)
   least-one m k (inr p) (inl q) = absurd (not-both k m q p)
   least-one m k (inr p) (inr q) = events-one m k p q
 
-  not-holds : (m : ℕ) → Holds M → OrderAt M m ⊎ EventsAt M m → ⊥
+  pub not-holds : (m : ℕ) → Holds M → OrderAt M m ⊎ EventsAt M m → ⊥
   not-holds m p (inl q) = not-holds-order m p q
   not-holds m p (inr q) = not-holds-events m p q
 

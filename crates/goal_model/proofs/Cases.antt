@@ -23,14 +23,14 @@ use Rattle.paths.proofs.Decide.{holds-by, order-by, events-by}
 use Rattle.goal_model.specs.Images.{inRange, held, model}
 use Rattle.goal_model.proofs.Cover.{Step, uncovered, finite}
 
-abbrev step : ℕ → ℕ → ℕ → Step
+abbrev pub step : ℕ → ℕ → ℕ → Step
 step x e y = record { x = x; e = e; y = y }
 
 -- the weir policy's steps: 1 to 2 by read, 2 to 3 by write, 3 to 4 by read
-abbrev steps : List Step
+abbrev pub steps : List Step
 steps = step 273 64 545 ∷ step 545 65 785 ∷ step 785 64 1057 ∷ []
 
-covers : T (not (uncovered (policyOf weir) steps))
+pub covers : T (not (uncovered (policyOf weir) steps))
 unfolding uncovered inRange flow authorized χ roleRule constraintsHold domain Γ writeLike readLike allowed α ρ μ roleChange some every bit countsOf recordCount recordOf payloadOf decoded
 covers = tt
 

@@ -1,0 +1,1 @@
+// The weir policy, case by case: definitions and theorems alone.
