@@ -25,7 +25,7 @@ use Rattle.flowgoal.specs.declared.goal.Outcome.{Outcome}
 use Rattle.flowgoal.specs.declared.goal.Outcome.the-variants as outcome
 use Rattle.flowgoal.specs.GoalQuestion.{workLength, WorkFits, allQuestions, contextsIn, eventsIn, Shows, GoalPromise}
 use Rattle.flowgoal.proofs.GoalLaws.{order-one, not-both, not-holds-order, least-one}
-use Rattle.weir.specs.Goals.{weirAllow41}
+use Rattle.weir.specs.Goals.{weirAllow41, writeOnly}
 use Rattle.weir.specs.Weir.{W5Slice, Weir}
 use Rattle.weir.proofs.Answers.{w1, w2, w3, w4, w5, w6, w7, w8, w5-path}
 
@@ -44,7 +44,7 @@ module _ (work1 work2 : ℕ) where
       (refused-then (goalQuestions (countsOf weir) goalG) eleven 11 goal-passed (inl (h, refl)))
 
 -- "T × R × U × 2^n" is 4 × 2 × 1 × 4
-work-length : workLength weir goalG ≡ 32
+pub work-length : workLength weir goalG ≡ 32
 unfolding countsOf recordCount legsOf
 work-length = refl
 
@@ -69,16 +69,30 @@ goal41-accepted : GoalAccepted (countsOf weirAllow41) goalG
 unfolding countsOf recordCount legsOf flagsOf goalCount goalHeadOf nextOf contextRecordOf eventRecordOf bit
 goal41-accepted = goal-accepted refl refl refl refl
 
+write-only-accepted : GoalAccepted (countsOf weir) writeOnly
+unfolding countsOf recordCount legsOf flagsOf goalCount goalHeadOf nextOf contextRecordOf eventRecordOf bit
+write-only-accepted = goal-accepted refl refl refl refl
+
 work41-length : workLength weirAllow41 goalG ≡ 32
 unfolding countsOf recordCount legsOf
 work41-length = refl
 
+write-only-length : workLength weir writeOnly ≡ 32
+unfolding countsOf recordCount legsOf
+write-only-length = refl
+
+-- where both images are accepted and each work slice has the entries, every question is passed
+enough : (s g : List ℕ) (work : ℕ) → Accepted s → GoalAccepted (countsOf s) g → workLength s g ≡ work → AllYes (allQuestions s g work work)
+enough s g work a b e =
+    let last : List Question = ask 11 (WorkFits s g work work) ∷ [] in
+    passed-both (policyQuestions s) (goalQuestions (countsOf s) g ++ last) (a .it)
+    (passed-both (goalQuestions (countsOf s) g) last (b .it) (record { first = omega arith; second = omega arith }, tt))
+
 w5-enough : AllYes (allQuestions weirAllow41 goalG 32 32)
-w5-enough =
-    let b = work41-length in
-    let last : List Question = ask 11 (WorkFits weirAllow41 goalG 32 32) ∷ [] in
-    passed-both (policyQuestions weirAllow41) (goalQuestions (countsOf weirAllow41) goalG ++ last) (weir41-accepted .it)
-    (passed-both (goalQuestions (countsOf weirAllow41) goalG) last (goal41-accepted .it) (record { first = omega arith; second = omega arith }, tt))
+w5-enough = enough weirAllow41 goalG 32 weir41-accepted goal41-accepted work41-length
+
+pub w2-enough : AllYes (allQuestions weir writeOnly 32 32)
+w2-enough = enough weir writeOnly 32 weir-accepted write-only-accepted write-only-length
 
 pub w5-slice : (before after : List ℕ) (r : Outcome) → 3 ≤ length before → GoalPromise weirAllow41 goalG 32 32 before after r → W5Slice before after r
 w5-slice before after outcome.Holds room p = absurd (not-holds-order (model weirAllow41 goalG) 1 (p .1) w5)
@@ -99,21 +113,23 @@ w5-slice before after (outcome.NoRoom m) room p =
 -- THE THEOREM
 pub weir-cases : Weir
 weir-cases =
-    record { w1 = w1
-           ; w2 = w2
-           ; w3 = w3
-           ; w4 = w4
-           ; w5 = w5
-           ; w5-slice = w5-slice
-           ; w6 = w6
-           ; w7 = w7
-           ; w8 = w8
-           ; w9 = w9-nothing
-           ; w9-authorized = w9-authorized
-           ; w9-flow = w9-flow
-           ; w10 = λ s h. w10-short s h .it
-           ; w10-empty = w10-empty .it
-           ; w11 = λ s e r i a b h. w11 s e r i a b h .it
-           ; w12-first = w12-first
-           ; w12-second = w12-second
-           ; w12-enough = w12-enough }
+    record {
+      w1 = w1;
+      w2 = w2;
+      w3 = w3;
+      w4 = w4;
+      w5 = w5;
+      w5-slice = w5-slice;
+      w6 = w6;
+      w7 = w7;
+      w8 = w8;
+      w9 = w9-nothing;
+      w9-authorized = w9-authorized;
+      w9-flow = w9-flow;
+      w10 = λ s h. w10-short s h .it;
+      w10-empty = w10-empty .it;
+      w11 = λ s e r i a b h. w11 s e r i a b h .it;
+      w12-first = w12-first;
+      w12-second = w12-second;
+      w12-enough = w12-enough;
+    }

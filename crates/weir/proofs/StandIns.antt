@@ -1,0 +1,89 @@
+-- Checkers that the promise of the goal question keeps out, each on a named input ("Four tests of a promise", 3, and ours).
+use Prim.Native.Nat.{ℕ, _+_, _*_, _≤_, _<_}
+use mathlib.Core.List.{List, [], _∷_}
+use mathlib.Core.Logic.{inl, inr}
+use mathlib.Core.Path.{_≡_, ap}
+use native.Mathlib.Omega.{arith}
+use lib.ListN.{length, getD}
+use Rattle.base.proofs.QuestionLaws.{passed-not-refused}
+use Rattle.policy_image.specs.Weir.{weir}
+use Rattle.goal_image.specs.WeirGoal.{goalG}
+use Rattle.goal_model.specs.Images.{model}
+use Rattle.flowgoal.specs.declared.goal.Outcome.{Outcome}
+use Rattle.flowgoal.specs.declared.goal.Outcome.the-variants as outcome
+use Rattle.flowgoal.specs.GoalQuestion.{allQuestions, GoalPromise}
+use Rattle.flowgoal.proofs.GoalLaws.{order-one, events-one, not-both, not-holds-order, not-holds-events, not-holds, least-one}
+use Rattle.weir.specs.Goals.{weirAllow41, writeOnly}
+use Rattle.weir.specs.Weir.{W5Slice}
+use Rattle.weir.proofs.Answers.{w1, w2, w5}
+use Rattle.weir.proofs.Theorem.{w2-enough, w12-enough, w12-second, refused-11, w5-slice, work-length}
+
+-- what may be said of W5's input
+abbrev W5 : List ℕ → List ℕ → Outcome → Type 0
+W5 before after r = GoalPromise weirAllow41 goalG 32 32 before after r
+
+-- "a checker saying 'holds' always"
+pub not-always-holds : (before after : List ℕ) → W5 before after outcome.Holds → ⊥
+not-always-holds before after p = not-holds-order (model weirAllow41 goalG) 1 (p .1) w5
+
+-- "one always naming the same path", or giving any one answer: W5 and W2 have none in common
+pub not-always-same : (b a b′ a′ : List ℕ) (r : Outcome) → W5 b a r → GoalPromise weir writeOnly 32 32 b′ a′ r → ⊥
+not-always-same b a b′ a′ outcome.Holds p q = not-holds-order (model weirAllow41 goalG) 1 (p .1) w5
+not-always-same b a b′ a′ (outcome.Order m) p q = not-both (model weir writeOnly) m 3 (q .1) w2
+not-always-same b a b′ a′ (outcome.Events m) p q = not-both (model weirAllow41 goalG) 1 m w5 (p .1)
+not-always-same b a b′ a′ (outcome.Refused k) p q = passed-not-refused (allQuestions weir writeOnly 32 32) k w2-enough (q .0)
+not-always-same b a b′ a′ (outcome.NoRoom m) p q =
+    let x = least-one (model weirAllow41 goalG) m 1 (p .1) (inl w5) in
+    let y = least-one (model weir writeOnly) m 3 (q .1) (inr w2) in
+    omega arith
+
+-- "or one leaving the path slice untouched"
+pub not-untouched : (r : Outcome) → W5 (0 ∷ 0 ∷ 0 ∷ []) (0 ∷ 0 ∷ 0 ∷ []) r → ⊥
+not-untouched r p = let s = w5-slice (0 ∷ 0 ∷ 0 ∷ []) (0 ∷ 0 ∷ 0 ∷ []) r (omega arith) p in let z : _≡_ {A = ℕ} 0 273 = s .x0 in omega arith
+
+-- "one refusing all"
+pub not-refusing : (before after : List ℕ) (k : ℕ) → GoalPromise weir goalG 32 32 before after (outcome.Refused k) → ⊥
+not-refusing before after k p = passed-not-refused (allQuestions weir goalG 32 32) k w12-enough (p .0)
+
+-- "one following only the first leg": it would let W2 pass, whose leg 0 is done and whose leg 1 is not
+pub not-first-leg : (before after : List ℕ) → GoalPromise weir writeOnly 32 32 before after outcome.Holds → ⊥
+not-first-leg before after p = not-holds-events (model weir writeOnly) 3 (p .1) w2
+
+-- "one inventing m": any other count, of either sort, or a path that is longer than need be
+pub not-invented : (before after : List ℕ) (m : ℕ) → W5 before after (outcome.Order m) → m ≡ 1
+not-invented before after m p = order-one (model weirAllow41 goalG) m 1 (p .1) w5
+
+-- "one giving 12 unsearched": not where the goal holds, not with another count, and not where there is room
+pub not-unsearched : (before after : List ℕ) (m : ℕ) → GoalPromise weir goalG 32 32 before after (outcome.NoRoom m) → ⊥
+not-unsearched before after m p = not-holds (model weir goalG) m w1 (p .1)
+
+pub not-other-room : (before after : List ℕ) (m : ℕ) → W5 before after (outcome.NoRoom m) → (m ≡ 1) × (length before < 3)
+not-other-room before after m p =
+    let e = least-one (model weirAllow41 goalG) m 1 (p .1) (inl w5) in
+    let l = p .2 in
+    (e, omega arith)
+
+-- events on a tie: W5's path breaks both
+pub not-events-on-tie : (before after : List ℕ) (m : ℕ) → W5 before after (outcome.Events m) → ⊥
+not-events-on-tie before after m p = not-both (model weirAllow41 goalG) 1 m w5 (p .1)
+
+-- the path slice written on 12
+pub not-written-on-12 : (m : ℕ) → W5 [] (273 ∷ []) (outcome.NoRoom m) → ⊥
+not-written-on-12 m p = let z : _≡_ {A = ℕ} 1 0 = ap length (p .3) in omega arith
+
+-- an entry past the path changed
+pub not-past-the-path : (r : Outcome) → W5 (0 ∷ 0 ∷ 0 ∷ 7 ∷ []) (273 ∷ 64 ∷ 1057 ∷ 8 ∷ []) r → ⊥
+not-past-the-path r p =
+    let s = w5-slice (0 ∷ 0 ∷ 0 ∷ 7 ∷ []) (273 ∷ 64 ∷ 1057 ∷ 8 ∷ []) r (omega arith) p in
+    let z : _≡_ {A = ℕ} 8 7 = s .rest 3 (omega arith) in
+    omega arith
+
+-- the second work slice not asked
+pub not-one-slice : (before after : List ℕ) → GoalPromise weir goalG 32 31 before after outcome.Holds → ⊥
+not-one-slice before after p = passed-not-refused (allQuestions weir goalG 32 31) 11 (p .0) (w12-second 32)
+
+-- 11 asked with 2^(n−1): 16 entries are not enough
+pub not-half-the-work : (before after : List ℕ) → GoalPromise weir goalG 16 16 before after outcome.Holds → ⊥
+not-half-the-work before after p =
+    let b = work-length in
+    passed-not-refused (allQuestions weir goalG 16 16) 11 (p .0) (refused-11 16 16 (λ h. let a = h .first in omega arith))
