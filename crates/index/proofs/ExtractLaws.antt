@@ -1,0 +1,222 @@
+-- The loop that writes the rules: what the lists hold where it stands at record i with n rules written.
+use mathlib.Core.Path.{_≡_, sym, _∙_, ap, subst}
+use mathlib.Core.Bool.{Bool, true, false, _&&_, cond}
+use mathlib.Core.Logic.{_⊎_, inl, inr, ⊎-elim}
+use mathlib.Core.List.{List}
+use Prim.Native.Nat.{ℕ, _+_, _≤_, _<_}
+use native.Mathlib.Omega.{arith}
+use lib.Dec.{eqb}
+use lib.ListN.{length, getD, set}
+use lib.Seq.{getD-set-same, getD-set-other}
+use borrow.Author.Tests.{eq-eqb, ne-eqb, eqb-true}
+use Rattle.base.specs.Bits.{bit}
+use Rattle.base.specs.Ranges.{Within}
+use Rattle.base.proofs.Numbers.{split-eq}
+use Rattle.base.proofs.ChainLaws.{Visit, visit-map}
+use Rattle.base.proofs.UptoLaws.{and-true, and-first, and-second}
+use Rattle.policy_image.specs.declared.records.Record.{Record}
+use Rattle.policy_image.specs.Layout.{headOf}
+use Rattle.policy_image.specs.Policy.{Policy, policyOf, linksOf}
+use Rattle.policy_fields.specs.Fields.{Meets, limitsOf}
+use Rattle.policy_chains.proofs.KindLaws.{OfKind, some-yes, some-record}
+use Rattle.policy_check.specs.Sound.{Sound}
+use Rattle.policy_check.proofs.Along.{along-start, along-step, along-kind, along-end}
+use Rattle.context.specs.Codes.{eventAt}
+use Rattle.relations.specs.Relations.{domain, allowed, targetOf}
+use Rattle.index.specs.Rules.{Gives}
+use Rattle.index.specs.Extract.{Extracted}
+use Rattle.index.proofs.MaskLaws.{clash, below-or}
+
+-- rule `at` is the record's
+pub record Line (src dst class mask : List ℕ) (at : ℕ) (r : Record) : Type 0 where
+  pub source : getD src at 0 ≡ r .a
+  pub target : getD dst at 0 ≡ targetOf r
+  pub kind : getD class at 0 ≡ r .c
+  pub bears : getD mask at 0 ≡ r .mask
+
+-- one of the first n rules is the record's
+pub record Written (src dst class mask : List ℕ) (n : ℕ) (r : Record) : Type 0 where
+  pub at : ℕ
+  pub below : at < n
+  pub line : Line src dst class mask at r
+
+-- rule `at` is that of an allow record whose source is a domain
+pub record Taken (p : Policy) (src dst class mask : List ℕ) (at : ℕ) : Type 0 where
+  pub number : ℕ
+  pub kind : OfKind p 4 number
+  pub source : domain p (p .rec number .a) ≡ true
+  pub line : Line src dst class mask at (p .rec number)
+
+abbrev Left : Policy → (src dst class mask : List ℕ) → ℕ → ℕ → Type 0
+Left p src dst class mask n j = domain p (p .rec j .a) ≡ true → Written src dst class mask n (p .rec j)
+
+pub record Extracting (p : Policy) (src dst class mask : List ℕ) (n i : ℕ) : Type 0 where
+  pub visit : Visit (linksOf p) 4 (Left p src dst class mask n) i
+  pub taken : (at : ℕ) → at < n → Taken p src dst class mask at
+  pub few : n ≤ p .size
+  -- links rise, so fewer rules are written than the number of the record at hand
+  pub below : (i ≡ 0 → ⊥) → n < i
+
+-- the fields of an allow record
+pub record Allowing (p : Policy) (r : Record) : Type 0 where
+  pub source : Within 1 (p .counts .types) (r .a)
+  pub target : Within 1 (p .counts .types) (targetOf r)
+  pub class : Within 1 (p .counts .classes) (r .c)
+
+target-cases : (r : Record) → ((r .b ≡ 0) × (targetOf r ≡ r .a)) ⊎ ((r .b ≡ 0 → ⊥) × (targetOf r ≡ r .b))
+target-cases r =
+    ⊎-elim (λ e. inl (e, ap (λ (t : Bool). cond t (r .a) (r .b)) (eq-eqb (r .b) 0 e)))
+    (λ n. inr (n, ap (λ (t : Bool). cond t (r .a) (r .b)) (ne-eqb (r .b) 0 n))) (split-eq (r .b) 0)
+
+module _ (s : List ℕ) (S : Sound s) where
+  abbrev p : Policy
+  p = policyOf s
+
+  pub allowing : (j : ℕ) → OfKind p 4 j → Allowing p (p .rec j)
+  allowing j o =
+      let m : Meets (limitsOf (p .counts) 4 (p .rec j .a)) (p .rec j) =
+      subst (λ (k : ℕ). Meets (limitsOf (p .counts) k (p .rec j .a)) (p .rec j)) (o .kind) (S .fields .each j (o .low) (o .high)) in
+      let a = m .a in
+      let b = m .b in
+      record {
+        source = a;
+        target = ⊎-elim (λ h. rw (h .1) a) (λ h. rw (h .1) (record { low = omega (arith, h .0); high = b .high })) (target-cases (p .rec j));
+        class = m .c;
+      }
+
+  pub extract-start : (src dst class mask : List ℕ) (i : ℕ) → i ≡ headOf s 4 → Extracting p src dst class mask 0 i
+  extract-start src dst class mask i e =
+      record {
+        visit = along-start s S 4 (omega arith) (omega arith) (Left p src dst class mask 0) i e;
+        taken = λ at l. absurd (omega arith);
+        few = omega arith;
+        below = λ n. omega (arith, n);
+      }
+
+  module _ (src dst class mask : List ℕ) (n i : ℕ) (nz : i ≡ 0 → ⊥) (x : Extracting p src dst class mask n i) (i′ : ℕ) (next : i′ ≡ p .rec i .next) where
+    pub extract-kind : OfKind p 4 i
+    extract-kind = along-kind s S 4 (omega arith) (omega arith) (Left p src dst class mask n) i nz (x .visit)
+
+    rises : (i′ ≡ 0 → ⊥) → i < i′
+    rises z =
+        let o = extract-kind in
+        ⊎-elim (λ e. absurd (z (next ∙ e))) (λ h. omega (arith, h .0)) (S .links .nexts i (o .low) (o .high))
+
+    -- record i is left out: its source is no domain
+    pub extract-pass : domain p (p .rec i .a) ≡ false → Extracting p src dst class mask n i′
+    extract-pass e =
+        record {
+          visit = along-step s S 4 (omega arith) (omega arith) (Left p src dst class mask n) i nz (x .visit) i′ next (λ h. clash h e);
+          taken = x .taken;
+          few = x .few;
+          below = λ z. omega (arith, x .below nz, rises z);
+        }
+
+    -- record i is written
+    module _ (d : domain p (p .rec i .a) ≡ true) (ls : n < length src) (ld : n < length dst) (lc : n < length class) (lm : n < length mask)
+        (a b c m : ℕ) (ea : a ≡ p .rec i .a) (eb : b ≡ targetOf (p .rec i)) (ec : c ≡ p .rec i .c) (em : m ≡ p .rec i .mask) where
+      abbrev src′ : List ℕ
+      src′ = set src n a
+
+      abbrev dst′ : List ℕ
+      dst′ = set dst n b
+
+      abbrev class′ : List ℕ
+      class′ = set class n c
+
+      abbrev mask′ : List ℕ
+      mask′ = set mask n m
+
+      keep : (at : ℕ) (r : Record) → at < n → Line src dst class mask at r → Line src′ dst′ class′ mask′ at r
+      keep at r l h =
+          record {
+            source = getD-set-other src n at a 0 (λ q. omega arith) ∙ h .source;
+            target = getD-set-other dst n at b 0 (λ q. omega arith) ∙ h .target;
+            kind = getD-set-other class n at c 0 (λ q. omega arith) ∙ h .kind;
+            bears = getD-set-other mask n at m 0 (λ q. omega arith) ∙ h .bears;
+          }
+
+      fresh : Line src′ dst′ class′ mask′ n (p .rec i)
+      fresh =
+          record {
+            source = getD-set-same src n a 0 ls ∙ ea;
+            target = getD-set-same dst n b 0 ld ∙ eb;
+            kind = getD-set-same class n c 0 lc ∙ ec;
+            bears = getD-set-same mask n m 0 lm ∙ em;
+          }
+
+      kept : (j : ℕ) → Left p src dst class mask n j → Left p src′ dst′ class′ mask′ (n + 1) j
+      kept j h e =
+          let w = h e in
+          record { at = w .at; below = omega (arith, w .below); line = keep (w .at) (p .rec j) (w .below) (w .line) }
+
+      pub extract-write : Extracting p src′ dst′ class′ mask′ (n + 1) i′
+      extract-write =
+          record {
+            visit = along-step s S 4 (omega arith) (omega arith) (Left p src′ dst′ class′ mask′ (n + 1)) i nz
+                (visit-map (linksOf p) 4 i (Left p src dst class mask n) (Left p src′ dst′ class′ mask′ (n + 1)) kept (x .visit)) i′ next
+                (λ e. record { at = n; below = omega arith; line = fresh });
+            taken = λ at l. ⊎-elim
+                (λ (q : at ≡ n). subst (λ (y : ℕ). Taken p src′ dst′ class′ mask′ y) (sym q) (record { number = i; kind = extract-kind; source = d; line = fresh }))
+                (λ (lt : at < n). let t = x .taken at lt in record { number = t .number; kind = t .kind; source = t .source; line = keep at (p .rec (t .number)) lt (t .line) })
+                (below-or l);
+            few = omega (arith, x .below nz, extract-kind .high);
+            below = λ z. omega (arith, x .below nz, rises z);
+          }
+
+  module _ (src dst class mask : List ℕ) (n : ℕ) (x : Extracting p src dst class mask n 0) where
+    -- what an allow record has to say for a to act on b with permission q of class c
+    abbrev says : ℕ → ℕ → ℕ → ℕ → Record → Bool
+    says a b c q r = (eqb (r .a) a && (eqb (targetOf r) b && eqb (r .c) c)) && bit (r .mask) q
+
+    gives-source : (a b c q : ℕ) → Gives src dst class mask n a b c q → domain p a ≡ true
+    gives-source a b c q g =
+        let t = x .taken (g .at) (g .below) in
+        subst (λ (y : ℕ). domain p y ≡ true) (sym (t .line .source) ∙ g .source) (t .source)
+
+    gives-allowed : (a b c q : ℕ) → Gives src dst class mask n a b c q → allowed p a b (eventAt c q) ≡ true
+    unfolding allowed
+    gives-allowed a b c q g =
+        let t = x .taken (g .at) (g .below) in
+        let r = p .rec (t .number) in
+        some-yes p 4 (says a b c q) (t .number) (t .kind)
+        (and-true (eqb (r .a) a && (eqb (targetOf r) b && eqb (r .c) c)) (bit (r .mask) q)
+        (and-true (eqb (r .a) a) (eqb (targetOf r) b && eqb (r .c) c) (eq-eqb (r .a) a (sym (t .line .source) ∙ g .source))
+        (and-true (eqb (targetOf r) b) (eqb (r .c) c) (eq-eqb (targetOf r) b (sym (t .line .target) ∙ g .target)) (eq-eqb (r .c) c (sym (t .line .kind) ∙ g .kind))))
+        (subst (λ (y : ℕ). bit y q ≡ true) (t .line .bears) (g .bears)))
+
+    allowed-gives : (a b c q : ℕ) → domain p a ≡ true → allowed p a b (eventAt c q) ≡ true → Gives src dst class mask n a b c q
+    unfolding allowed
+    allowed-gives a b c q d e =
+        let f = some-record p 4 (says a b c q) e in
+        let r = p .rec (f .0) in
+        let key = and-first (eqb (r .a) a && (eqb (targetOf r) b && eqb (r .c) c)) (bit (r .mask) q) (f .2) in
+        let set = and-second (eqb (r .a) a && (eqb (targetOf r) b && eqb (r .c) c)) (bit (r .mask) q) (f .2) in
+        let is-a = eqb-true (r .a) a (and-first (eqb (r .a) a) (eqb (targetOf r) b && eqb (r .c) c) key) in
+        let rest = and-second (eqb (r .a) a) (eqb (targetOf r) b && eqb (r .c) c) key in
+        let is-b = eqb-true (targetOf r) b (and-first (eqb (targetOf r) b) (eqb (r .c) c) rest) in
+        let is-c = eqb-true (r .c) c (and-second (eqb (targetOf r) b) (eqb (r .c) c) rest) in
+        let w = along-end s S 4 (omega arith) (omega arith) (Left p src dst class mask n) (x .visit) (f .0) (f .1) (subst (λ (y : ℕ). domain p y ≡ true) (sym is-a) d) in
+        record {
+          at = w .at;
+          below = w .below;
+          source = w .line .source ∙ is-a;
+          target = w .line .target ∙ is-b;
+          kind = w .line .kind ∙ is-c;
+          bears = subst (λ (y : ℕ). bit y q ≡ true) (sym (w .line .bears)) set;
+        }
+
+    fields : (at : ℕ) (l : at < n) → Allowing p (p .rec (x .taken at l .number))
+    fields at l = allowing (x .taken at l .number) (x .taken at l .kind)
+
+    pub extract-end : Extracted p src dst class mask n
+    extract-end =
+        record {
+          few = x .few;
+          src-range = λ at l. subst (λ (y : ℕ). Within 1 (p .counts .types) y) (sym (x .taken at l .line .source)) (fields at l .source);
+          dst-range = λ at l. subst (λ (y : ℕ). Within 1 (p .counts .types) y) (sym (x .taken at l .line .target)) (fields at l .target);
+          class-range = λ at l. subst (λ (y : ℕ). Within 1 (p .counts .classes) y) (sym (x .taken at l .line .kind)) (fields at l .class);
+          source = gives-source;
+          sound = gives-allowed;
+          whole = allowed-gives;
+        }

@@ -1,0 +1,7 @@
+pub mod MaskLaws
+pub mod ChainedLaws
+pub mod InsertLaws
+pub mod BlockLaws
+pub mod BuildLaws
+pub mod ExtractLaws
+pub mod MeaningLaws

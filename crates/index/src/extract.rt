@@ -1,0 +1,52 @@
+// The allow records of a policy image, as rules in four lists.
+use base::bits::has_bit;
+use policy_image::records::Record;
+use policy_image::records::head_at;
+use policy_image::records::record_at;
+use tables::tables::TYPES;
+ghost use mathlib.Core.Path.{_≡_};
+ghost use Rattle.policy_image.specs.Layout.{recordCount};
+ghost use Rattle.policy_image.specs.Policy.{policyOf};
+ghost use Rattle.policy_image.specs.Reading.{Bytes};
+ghost use Rattle.policy_check.specs.Sound.{Sound};
+ghost use Rattle.relations.specs.Relations.{targetOf};
+ghost use Rattle.tables.specs.Tables.{DomainTable};
+ghost use Rattle.index.specs.Extract.{Room, Extracted};
+
+// The target type of an allow record, which is its source type where b is 0.
+fn target(r: Record) -> u16
+    requires { ⌜ Bytes r ⌝ }
+    ensures { λ t. ⌜ t ≡ targetOf r ⌝ }
+{
+    if r.b == 0 { r.a as u16 } else { r.b as u16 }
+}
+
+// Writes a rule for each allow record whose source is a domain, as `domains` says. How many there are.
+pub fn extract(
+    image: &[u8],
+    domains: &[u32; TYPES],
+    src: &mut [u16],
+    dst: &mut [u16],
+    class: &mut [u8],
+    mask: &mut [u32],
+) -> usize
+    requires { ⌜ Sound (now image) ⌝ ∗ ⌜ DomainTable (policyOf (now image)) (now domains) ⌝ ∗ ⌜ Room (recordCount (now image)) (now src) (now dst) (now class) (now mask) ⌝ }
+    ensures { λ n. ⌜ Extracted (policyOf (now (image .entry))) (now (src .exit)) (now (dst .exit)) (now (class .exit)) (now (mask .exit)) n ⌝ }
+{
+    let mut n: usize = 0;
+    let mut i = head_at(image, 4);
+    while i != 0 {
+        let r = record_at(image, i);
+        let a = r.a as usize;
+        let from_domain = has_bit(domains[a], 0);
+        if from_domain {
+            src[n] = r.a as u16;
+            dst[n] = target(r);
+            class[n] = r.c as u8;
+            mask[n] = r.mask;
+            n += 1;
+        }
+        i = r.next;
+    }
+    n
+}

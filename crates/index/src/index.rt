@@ -1,0 +1,50 @@
+// The index of a checked policy image.
+use crate::build::build;
+use crate::extract::extract;
+use policy_image::counts::Counts;
+use tables::tables::CLASSES;
+use tables::tables::TYPES;
+ghost use Rattle.policy_image.specs.Layout.{recordCount};
+ghost use Rattle.policy_image.specs.Policy.{policyOf};
+ghost use Rattle.policy_image.specs.Reading.{Counted};
+ghost use Rattle.policy_check.specs.Sound.{Sound};
+ghost use Rattle.tables.specs.Tables.{GammaMasks, DomainTable};
+ghost use Rattle.index.specs.Extract.{Room};
+ghost use Rattle.index.specs.Build.{Space};
+ghost use Rattle.index.specs.Meaning.{AllowIndex};
+
+// Makes the index of the image's allow records in `first`, `keys`, `towards` and `from`; the other lent slices are for the
+// rules on the way there.
+pub fn index(
+    image: &[u8],
+    counts: Counts,
+    domains: &[u32; TYPES],
+    perms: &[u32; CLASSES],
+    src: &mut [u16],
+    dst: &mut [u16],
+    class: &mut [u8],
+    mask: &mut [u32],
+    first: &mut [u32],
+    keys: &mut [u32],
+    towards: &mut [u32],
+    from: &mut [u32],
+)
+    requires { ⌜ Sound (now image) × Counted (now image) counts ⌝ ∗ ⌜ DomainTable (policyOf (now image)) (now domains) × GammaMasks (policyOf (now image)) (now perms) ⌝ ∗ ⌜ Room (recordCount (now image)) (now src) (now dst) (now class) (now mask) ⌝ ∗ ⌜ Space (now first) (now keys) (now towards) (now from) (recordCount (now image)) (counts .types) ⌝ }
+    ensures { λ _. ⌜ AllowIndex (policyOf (now (image .entry))) (now (first .exit)) (now (keys .exit)) (now (towards .exit)) (now (from .exit)) ⌝ }
+{
+    let n = extract(image, domains, src, dst, class, mask);
+    let types = counts.types as usize;
+    build(
+        src,
+        dst,
+        class,
+        mask,
+        perms,
+        n,
+        types,
+        first,
+        keys,
+        towards,
+        from,
+    );
+}
