@@ -6,6 +6,7 @@ ghost use Prim.Native.Nat.{_<_};
 ghost use Rattle.base.specs.Decides.{Decides};
 ghost use Rattle.context.specs.Codes.{contextAt, eventAt, contextCode, contextOf, eventCode, eventOf, isTransition};
 ghost use Rattle.context.specs.Ranges.{ContextInRange, EventInRange, Coded};
+ghost use Rattle.context.specs.Places.{Countable, contextCount, contextIndex, contextAtIndex};
 
 // A security context: a type, a role and a user, each from 1.
 pub struct Context {
@@ -50,6 +51,35 @@ impl Context {
             return false;
         }
         within(1, counts.users, self.user)
+    }
+
+    // How many contexts are in range.
+    pub fn count(counts: Counts) -> u32
+        requires { ⌜ Countable counts ⌝ }
+        ensures { λ r. ⌜ r ≡ contextCount counts ⌝ }
+    {
+        counts.types * counts.roles * counts.users
+    }
+
+    // The context's place among those in range, from 0: by type, then role, then user.
+    pub fn index(self, counts: Counts) -> u32
+        requires { ⌜ ContextInRange counts self × Countable counts ⌝ }
+        ensures { λ r. ⌜ r ≡ contextIndex counts self ⌝ }
+    {
+        ((self.ty - 1) * counts.roles + (self.role - 1)) * counts.users + (self.user - 1)
+    }
+
+    // The context at a place.
+    pub fn at(index: u32, counts: Counts) -> Context
+        requires { ⌜ Countable counts × (index < contextCount counts) ⌝ }
+        ensures { λ r. ⌜ r ≡ contextAtIndex counts index ⌝ }
+    {
+        let rest = index / counts.users;
+        Context {
+            ty: rest / counts.roles + 1,
+            role: rest % counts.roles + 1,
+            user: index % counts.users + 1,
+        }
     }
 }
 

@@ -23,7 +23,7 @@ module _ (M : Model) where
   order-small (more e y r g) = pack-lt legs _
 
   -- stage n is entered in σn alone
-  top : (N e y i : ℕ) → i ≡ legs → T (opens M (bit N) e y i) → T (σ i y)
+  pub top : (N e y i : ℕ) → i ≡ legs → T (opens M (bit N) e y i) → T (σ i y)
   top N e y i q t = go i q (or-cases (goes M (bit N) e i && repeated i) (enters M (bit N) e y i) t)
     where
       go : (i : ℕ) → i ≡ legs → T (goes M (bit N) e i && repeated i) ⊎ T (enters M (bit N) e y i) → T (σ i y)
@@ -31,7 +31,7 @@ module _ (M : Model) where
       go zero q (inr u) = absurd u
       go (suc i) q (inr u) = let (w, s) = simp and-T at u in s
 
-  one-lt : (n : ℕ) → 0 < n → 1 < 2 ^ n
+  pub one-lt : (n : ℕ) → 0 < n → 1 < 2 ^ n
   one-lt zero h = absurd (not-suc-le-zero h)
   one-lt (suc n) h = omega (arith, pow-suc 2 n, pow-pos n)
 

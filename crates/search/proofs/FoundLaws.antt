@@ -1,0 +1,100 @@
+-- What the search of the graph says of the model, and that the two images give all that a search is given.
+use mathlib.Core.Path.{_≡_, refl, sym, _∙_, ap, subst}
+use mathlib.Core.List.{List}
+use Prim.Native.Nat.{ℕ, zero, suc, _+_, _*_, _^_, _≤_, _<_}
+use native.Mathlib.Nat.{mul-le-mul}
+use native.Mathlib.Omega.{arith}
+use lib.Pow.{pow-mono}
+use Rattle.policy_image.specs.declared.counts.Counts.{Counts}
+use Rattle.policy_image.specs.Layout.{countsOf}
+use Rattle.policy_image.specs.Counts.{CountsInRange}
+use Rattle.policy_check.specs.Sound.{Sound}
+use Rattle.context.specs.declared.Context.{Context}
+use Rattle.context.specs.Codes.{contextCode}
+use Rattle.context.specs.Ranges.{ContextInRange}
+use Rattle.context.specs.Places.{Countable, contextCount, contextAtIndex}
+use Rattle.context.proofs.PlaceLaws.{at-in-range}
+use Rattle.goal_image.specs.declared.check.Legs.{Legs}
+use Rattle.goal_image.specs.Goal.{goalOf}
+use Rattle.goal_image.specs.Questions.{legsIn}
+use Rattle.goal_image.specs.Sound.{SoundGoal}
+use Rattle.paths.proofs.Verdict.{Least, at, nowhere}
+use Rattle.goal_model.specs.Images.{model}
+use Rattle.steps.specs.Steps.{Ready}
+use Rattle.search.specs.declared.levels.Found.{Found}
+use Rattle.search.specs.declared.levels.Found.the-variants.{Nothing, Start, At}
+use Rattle.search.specs.declared.monitor.Mode.{Mode}
+use Rattle.search.specs.Nodes.{watchOf, monitorOf, codeAt, BadStart}
+use Rattle.search.specs.Arrivals.{Given, GivenGoal}
+use Rattle.search.specs.Tasks.{Task, graphOf}
+use Rattle.search.specs.Seeds.{SownStart}
+use Rattle.search.specs.Found.{Searched, FoundStart, FoundStep, FoundLeast}
+use Rattle.search.proofs.NodeLaws.{least-start, least-at, least-nowhere}
+use Rattle.search.proofs.ModelLaws.{bounded}
+
+module _ {s g : List ℕ} {n : Counts} {l : Legs} (A : Task s g n l) (m : Mode) where
+  pub found-least : (back : List ℕ) (r : Found) → ((x : ℕ) → BadStart (model s g) n (watchOf m (model s g)) x → ⊥) → Searched (graphOf s g n m) back r
+      → FoundLeast s g n m back r
+  found-least back Nothing none f = least-nowhere (model s g) n (watchOf m (model s g)) (bounded (A .given .ready) (A .given .goal) m) none f
+  found-least back (Start x) none f = absurd f
+  found-least back (At u e v d) none f =
+      record { found = f; least = least-at (model s g) n (watchOf m (model s g)) (bounded (A .given .ready) (A .given .goal) m) none f }
+
+  pub range-at : {y : ℕ} → y < contextCount n → ContextInRange n (contextAtIndex n y)
+  range-at {y} h = at-in-range n y (A .legs .countable .roles) (A .legs .countable .users) h
+
+  -- its type has a code
+  pub few-types : n .types < 65536
+  few-types =
+      let q : n .types ≡ countsOf s .types = ap (λ (k : Counts). k .types) (A .given .ready .same) in
+      omega (arith, A .given .ready .sound .range .types .high)
+
+  pub coded : {y : ℕ} {x : Context} → y < contextCount n → x ≡ contextAtIndex n y → (x .ty < 65536) × (x .role < 16) × (x .user < 16)
+  coded {y} {x} h q =
+      let r = range-at h in
+      let a = r .ty .high in
+      let b = r .role .high in
+      let c = r .user .high in
+      rw q (omega (arith, few-types), omega (arith, A .legs .roles), omega (arith, A .legs .users))
+
+  pub found-start : {y c : ℕ} {x : Context} → SownStart s g n m y → x ≡ contextAtIndex n y → c ≡ contextCode x → FoundStart s g n m c
+  unfolding codeAt
+  found-start {y} {c} {x} S q p =
+      let k : codeAt n y ≡ c = ap contextCode (sym q) ∙ sym p in
+      record {
+        bad = subst (BadStart (model s g) n (watchOf m (model s g))) k (S .bad);
+        least = least-start (model s g) n (watchOf m (model s g)) (bounded (A .given .ready) (A .given .goal) m) (S .bad);
+      }
+
+-- ---- two accepted images give a search all that it is given; the bounds hold for up to 4,095 types
+module _ {s g : List ℕ} {n : Counts} {l : Legs} (S : Sound s) (q : n ≡ countsOf s) (G : SoundGoal g) (p : l ≡ legsIn (goalOf g)) where
+  range : CountsInRange n
+  range = subst CountsInRange (sym q) (S .range)
+
+  few-contexts : contextCount n ≤ 921375
+  few-contexts =
+      mul-le-mul {n₂ = 61425} {m₂ = 15}
+      (mul-le-mul {n₂ = 4095} {m₂ = 15} (omega (arith, range .types .high)) (range .roles .high)) (range .users .high)
+
+  countable : Countable n
+  countable = record { roles = range .roles .low; users = range .users .low; few = omega (arith, few-contexts) }
+
+  six : l .count ≤ 6
+  six = rw p (G .legs .legs .high)
+
+  pub task-of : Task s g n l
+  task-of =
+      record {
+        given = record { ready = record { sound = S; same = q; countable = countable }; goal = G };
+        legs = record {
+          goal = G;
+          legs = p;
+          count = ap (λ (k : Legs). k .count) p;
+          some-leg = rw p (G .legs .legs .low);
+          few-legs = six;
+          countable = countable;
+          roles = range .roles .high;
+          users = range .users .high;
+          nodes = let h : contextCount n * 2 ^ (l .count) ≤ 921375 * 2 ^ 6 = mul-le-mul few-contexts (pow-mono six) in omega arith;
+        };
+      }

@@ -1,0 +1,11 @@
+pub mod SearchLaws
+pub mod NodeLaws
+pub mod ModelLaws
+pub mod WatchLaws
+pub mod ArrivalLaws
+pub mod LevelLaws
+pub mod LoopLaws
+pub mod SeedLaws
+pub mod FoundLaws
+pub mod PathLaws
+pub mod StepLaws

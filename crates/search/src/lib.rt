@@ -1,0 +1,39 @@
+// The search of a goal's nodes, each a context and a monitor's state, level by level.
+pub mod arrival;
+pub mod levels;
+pub mod monitor;
+pub mod path;
+pub mod seed;
+
+use crate::levels::Found;
+use crate::levels::search_levels;
+use crate::monitor::Mode;
+use crate::seed::Seeded;
+use crate::seed::seed;
+use context::Context;
+use goal_image::check::Legs;
+use policy_image::counts::Counts;
+ghost use Rattle.search.specs.Found.{FoundLeast};
+ghost use Rattle.search.specs.Seeds.{Roomy};
+ghost use Rattle.search.specs.Tasks.{Task};
+
+// The least number of steps to a bad end, for a mode. The slices hold an entry for each node; back then leads from the node that
+// is found to a start.
+pub fn search(
+    policy: &[u8],
+    goal: &[u8],
+    counts: Counts,
+    legs: Legs,
+    mode: Mode,
+    queue: &mut [u32],
+    back: &mut [u32],
+) -> Found
+    requires { ⌜ Task (now policy) (now goal) counts legs × Roomy counts legs (now queue) (now back) ⌝ }
+    ensures { λ r. ⌜ FoundLeast (now (policy .entry)) (now (goal .entry)) counts mode (now (back .exit)) r ⌝ }
+{
+    let seeded = seed(policy, goal, counts, legs, mode, queue, back);
+    match seeded {
+        Seeded::Start(y) => Found::Start(Context::at(y, counts).code()),
+        Seeded::Nodes(tail) => search_levels(policy, goal, counts, legs, mode, tail, queue, back),
+    }
+}
