@@ -1,8 +1,8 @@
 use Prim.Native.Nat.{_-_, _≤_}
 use native.Mathlib.Omega.{arith}
 use borrow.Author.Needs.{needs}
-use Rattle.goal_program.proofs.print_path.Statement.{statement}
-use Rattle.goal_program.proofs.print_path.Tie as tie
+use Rattle.report.proofs.print_path.Statement.{statement}
+use Rattle.report.proofs.print_path.Tie as tie
 
 abbrev Inv-loop : tie.InvT-loop
 Inv-loop path m last j₀ j = j ≤ m

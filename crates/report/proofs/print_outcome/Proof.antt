@@ -1,10 +1,10 @@
 use mathlib.Core.Path.{subst}
 use denote.Ref.{now}
 use Rattle.flowgoal.specs.declared.goal.Outcome.{Outcome}
-use Rattle.goal_program.specs.Program.{Shown}
+use Rattle.report.specs.Printing.{Shown}
 use borrow.Author.Needs.{needs}
-use Rattle.goal_program.proofs.print_outcome.Statement.{statement}
-use Rattle.goal_program.proofs.print_outcome.Tie as tie
+use Rattle.report.proofs.print_outcome.Statement.{statement}
+use Rattle.report.proofs.print_outcome.Tie as tie
 
 enum-told : tie.Need-enum-told
 enum-told c = search needs
