@@ -147,15 +147,24 @@ pub planned : {s g old p1 p2 p3 plan : List ℕ} {n : Counts} {classes : ℕ} �
     → TablesPut (policyOf s) p2 p3 → BlocksPut (policyOf s) p3 plan → Planned s g n plan
 planned {s} {g} {old} {p1} {p2} {p3} {plan} {n} {classes} size same few E C A B =
     record {
-      size = size;
-      tables = record {
-        special-at = λ c q h. ap (λ (k : ℕ). bit k q) (B .below c (omega arith)) ∙ A .tables .special-at c q h;
-        change = λ r1 r2 h. ap (λ (k : ℕ). bit k r2) (B .below (32 + r1) (omega arith)) ∙ A .tables .change r1 r2 h;
+      policy = record {
+        size = size;
+        tables = record {
+          special-at = λ c q h. ap (λ (k : ℕ). bit k q) (B .below c (omega arith)) ∙ A .tables .special-at c q h;
+          change = λ r1 r2 h. ap (λ (k : ℕ). bit k r2) (B .below (32 + r1) (omega arith)) ∙ A .tables .change r1 r2 h;
+        };
+        index = B .blocks;
+        meets = λ y h. known y h .holds;
       };
-      index = B .blocks;
-      events = λ e l h. subst (EventSets (goalOf g) (eventOf e)) (sym (after (25088 + e) (omega arith) ∙ C .below (25088 + e) (omega arith))) (E .here e l (omega arith));
-      contexts = λ y h. subst (Known (policyOf s) (goalOf g) (contextAtIndex n y)) (sym (after (26112 + y) (omega arith))) (C .here y (omega arith) h);
+      goal = record {
+        events = λ e l h.
+            subst (EventSets (goalOf g) (eventOf e)) (sym (after (25088 + e) (omega arith) ∙ C .below (25088 + e) (omega arith))) (E .here e l (omega arith));
+        contexts = λ y h. known y h .sets;
+      };
     }
   where
     after : (i : ℕ) → 25088 ≤ i → getD plan i 0 ≡ getD p2 i 0
     after i h = B .above i h ∙ A .above i (omega arith)
+
+    known : (y : ℕ) → y < contextCount n → Known (policyOf s) (goalOf g) (contextAtIndex n y) (contextsAt plan y)
+    known y h = subst (Known (policyOf s) (goalOf g) (contextAtIndex n y)) (sym (after (26112 + y) (omega arith))) (C .here y (omega arith) h)

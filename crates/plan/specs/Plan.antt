@@ -117,10 +117,19 @@ pub record Known (p : Policy) (g : Goal) (x : Context) (v : ℕ) : Type 0 where
   pub sets : ContextSets g x (v % 32768)
   pub holds : bit v 31 ≡ held p x
 
--- the plan of the policy s and the goal g
-pub record Planned (s g : List ℕ) (n : Counts) (plan : List ℕ) : Type 0 where
+-- what the plan says of the policy s, whatever the goal
+pub record PolicyPlan (s : List ℕ) (n : Counts) (plan : List ℕ) : Type 0 where
   pub size : 26112 + contextCount n ≤ length plan
   pub tables : Tabled (policyOf s) plan
   pub index : Blocks (policyOf s) plan
+  pub meets : (y : ℕ) → y < contextCount n → bit (contextsAt plan y) 31 ≡ held (policyOf s) (contextAtIndex n y)
+
+-- .. and of the goal g, for contexts and events of a policy with the counts n
+pub record GoalPlan (g : List ℕ) (n : Counts) (plan : List ℕ) : Type 0 where
   pub events : (e : ℕ) → 32 ≤ e → e < 32 * (n .classes + 1) → EventSets (goalOf g) (eventOf e) (eventsAt plan e)
-  pub contexts : (y : ℕ) → y < contextCount n → Known (policyOf s) (goalOf g) (contextAtIndex n y) (contextsAt plan y)
+  pub contexts : (y : ℕ) → y < contextCount n → ContextSets (goalOf g) (contextAtIndex n y) (contextsAt plan y % 32768)
+
+-- the plan of the policy s and the goal g
+pub record Planned (s g : List ℕ) (n : Counts) (plan : List ℕ) : Type 0 where
+  pub policy : PolicyPlan s n plan
+  pub goal : GoalPlan g n plan
