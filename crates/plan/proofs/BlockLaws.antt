@@ -157,6 +157,7 @@ planned {s} {g} {old} {p1} {p2} {p3} {plan} {n} {classes} size same few E C A B 
         meets = λ y h. known y h .holds;
       };
       goal = record {
+        size = size;
         events = λ e l h.
             subst (EventSets (goalOf g) (eventOf e)) (sym (after (25088 + e) (omega arith) ∙ C .below (25088 + e) (omega arith))) (E .here e l (omega arith));
         contexts = λ y h. known y h .sets;

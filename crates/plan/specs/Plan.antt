@@ -126,6 +126,7 @@ pub record PolicyPlan (s : List ℕ) (n : Counts) (plan : List ℕ) : Type 0 whe
 
 -- .. and of the goal g, for contexts and events of a policy with the counts n
 pub record GoalPlan (g : List ℕ) (n : Counts) (plan : List ℕ) : Type 0 where
+  pub size : 26112 + contextCount n ≤ length plan
   pub events : (e : ℕ) → 32 ≤ e → e < 32 * (n .classes + 1) → EventSets (goalOf g) (eventOf e) (eventsAt plan e)
   pub contexts : (y : ℕ) → y < contextCount n → ContextSets (goalOf g) (contextAtIndex n y) (contextsAt plan y % 32768)
 

@@ -31,8 +31,8 @@ use Rattle.search.proofs.LevelLaws.{edge-flow, edge-free, edge-freeE, o
 use Rattle.search.proofs.LoopLaws.{Around, around, at-place, stand}
 
 module _ {s g : List ℕ} {n : Counts} {l : Legs} (A : Task s g n l) (m : Mode) {u w states : ℕ} (L : Linked (graphOf s g n m) u w) (St : States l states) where
-  fixed : Around s g n l (contextCount n) states
-  fixed = around A refl St
+  fixed : Around s g n l states
+  fixed = around A St
 
   pub from-below : u / states < contextCount n
   from-below = at-place u fixed (L .from)
