@@ -2,16 +2,18 @@
  *
  * Link with the static library that `rt staticlib flowgoal` writes to target/staticlib/libflowgoal.a (x86-64).
  *
- * What is lent. A policy image is lent as a pointer to its first byte and its length in bytes. It is only read, and only
- * while the call runs; nothing is kept. No memory is allocated, no file is touched, and no state is held between calls, so
- * calls may run at the same time in several threads, also on the same image.
+ * What is lent. An image is lent as a pointer to its first byte and its length in bytes. It is only read, and only while the
+ * call runs; nothing is kept. A work slice or a path slice is lent as a pointer to its first entry, of 32 bits, and the number
+ * of its entries. No memory is allocated, no file is touched, and no state is held between calls, so calls may run at the same
+ * time in several threads, also on the same images, each with slices of its own.
  *
  * What comes back. Every call ends, whatever the bytes and the numbers are, and its result is what the specification gives
  * for them: that is proved, for all bytes and all values.
  *
- * What the caller must not do. The pointer must lead to at least so many readable bytes as the length says, and the bytes
- * must not change while the call runs: nothing can be promised where they do. A null pointer with length 0 is an empty
- * image; a null pointer with any other length is not allowed.
+ * What the caller must not do. A pointer must lead to at least so many bytes or entries as its length says, and they must not
+ * be changed by anyone else while the call runs: nothing can be promised where they are. No two of the slices of a call may
+ * overlap, nor a slice and an image. A null pointer with length 0 is an empty image or slice; a null pointer with any other
+ * length is not allowed.
  *
  * Stack. A call needs FLOWGOAL_STACK bytes of stack at the most: constraints are evaluated by recursion, and the deepest
  * constraint of an accepted policy has 4,093 nested nodes below a permission that can be asked about.
@@ -29,14 +31,48 @@ extern "C" {
 /* The stack that a call needs at the most, in bytes. */
 #define FLOWGOAL_STACK (384 * 1024)
 
-/* A result is 4 * number + answer. The number is that of the refusal, and 0 for every other answer. */
+/* A result is 256 * steps + 4 * number + answer. The number is that of the refusal, and 0 for every other answer. Steps are
+ * those of a shortest path that breaks a goal, and 0 where there is none to tell of. */
 #define FLOWGOAL_ANSWER(result) ((unsigned)((result) % 4))
-#define FLOWGOAL_NUMBER(result) ((unsigned)((result) / 4))
+#define FLOWGOAL_NUMBER(result) ((unsigned)((result) / 4 % 64))
+#define FLOWGOAL_STEPS(result) ((uint64_t)((result) / 256))
 
-/* The answers to the two questions below. */
+/* The answers to the goal question. */
+#define FLOWGOAL_HOLDS 0
+#define FLOWGOAL_ORDER 1
+#define FLOWGOAL_EVENTS 2
+
+/* The answers to the two questions about one event. */
 #define FLOWGOAL_NO 0
 #define FLOWGOAL_YES 1
+
+/* An answer to all of them: refused, with its number. */
 #define FLOWGOAL_REFUSED 3
+
+/* Does the goal hold of the policy?
+ *
+ * FLOWGOAL_HOLDS   no path, of any length, breaks the goal.
+ * FLOWGOAL_ORDER   some path breaks it, none by fewer steps than FLOWGOAL_STEPS, and one of so many steps breaks order: it
+ *                  stands in the path slice.
+ * FLOWGOAL_EVENTS  likewise, where none of so many steps breaks order: the path in the path slice breaks events.
+ *
+ * A path of m steps takes 2 * m + 1 entries: entry 2 * j is the context after j steps, as 256 * type + 16 * role + user, and
+ * entry 2 * j + 1 is the event of the next step, as 32 * class + permission. Later entries are left as they are, and all of
+ * them where the goal holds or the question is refused. The work slices are overwritten; what they hold does not matter.
+ *
+ * The call refuses with 1 to 6 as below, or with
+ *   7   the goal is shorter than 34 bytes, has more than 255 records, or its length does not fit the number of records
+ *   8   the number of legs is out of range, or a flag or a head of a leg that is not there is not 0
+ *   9   a head or a next is out of range, a next is not above its record, or a record lies on no chain or on two
+ *   10  a field of a record is above its count, or a spare byte is not 0
+ *   11  a work slice has fewer than T * R * U * 2^n entries, for T types, R roles, U users and n legs
+ *   12  the goal is broken, and the path slice has fewer than 2 * m + 1 entries for a shortest path of m steps, which are
+ *       FLOWGOAL_STEPS of the result
+ * and these are asked in this order, after those of the policy: the first that applies is the number.
+ */
+uint64_t flowgoal_check(const uint8_t *policy, size_t policy_length, const uint8_t *goal, size_t goal_length,
+                        uint32_t *work1, size_t work1_length, uint32_t *work2, size_t work2_length, uint32_t *path,
+                        size_t path_length);
 
 /* Is the permission of the class authorized from the context (t1, r1, u1), which acts, on (t2, r2, u2)?
  *

@@ -1,3 +1,5 @@
 pub mod BareLaws
 pub mod Cases
 pub mod GoalLaws
+pub mod AnswerLaws
+pub mod AskedLaws

@@ -6,14 +6,21 @@ use Prim.Native.Nat.{ℕ, _+_, _*_, _^_, _≤_, _<_}
 use mathlib.Core.List.{List, [], _∷_, _++_}
 use mathlib.Core.Logic.{_⊎_}
 use mathlib.Core.Path.{_≡_}
-use lib.ListN.{length, getD}
+use lib.ListN.{length}
 use Rattle.base.specs.Questions.{Question, ask, AllYes, RefusedWith}
+use Rattle.policy_image.specs.declared.counts.Counts.{Counts}
+use Rattle.policy_image.specs.declared.counts.Checked.{Checked}
+use Rattle.policy_image.specs.declared.counts.Checked.the-variants as policy
 use Rattle.policy_image.specs.Layout.{countsOf}
 use Rattle.policy_check.specs.Answer.{policyQuestions}
+use Rattle.goal_image.specs.declared.check.Legs.{Legs}
+use Rattle.goal_image.specs.declared.check.CheckedGoal.{CheckedGoal}
+use Rattle.goal_image.specs.declared.check.CheckedGoal.the-variants as goal
 use Rattle.goal_image.specs.Layout.{legsOf}
-use Rattle.goal_image.specs.Questions.{goalQuestions}
-use Rattle.paths.specs.Model.{Model}
-use Rattle.paths.specs.Paths.{IsPath, BreaksOrder, BreaksEvents, Holds, OrderAt, EventsAt}
+use Rattle.goal_image.specs.Goal.{goalOf}
+use Rattle.goal_image.specs.Questions.{goalQuestions, legsIn}
+use Rattle.paths.specs.Paths.{BreaksOrder, BreaksEvents, Holds, OrderAt, EventsAt}
+use Rattle.paths.specs.Slice.{contextsIn, eventsIn, Shows}
 use Rattle.goal_model.specs.Images.{model}
 use Rattle.flowgoal.specs.declared.goal.Outcome.{Outcome}
 use Rattle.flowgoal.specs.declared.goal.Outcome.the-variants as outcome
@@ -30,20 +37,6 @@ pub record WorkFits (s g : List ℕ) (work1 work2 : ℕ) : Type 0 where
 -- "Policy, before all else", "Goal, next", then 11
 abbrev pub allQuestions : List ℕ → List ℕ → ℕ → ℕ → List Question
 allQuestions s g work1 work2 = policyQuestions s ++ (goalQuestions (countsOf s) g ++ (ask 11 (WorkFits s g work1 work2) ∷ []))
-
--- a path slice as a path: "entry 2j is xj .., entry 2j + 1 is ej"
-abbrev pub contextsIn : List ℕ → ℕ → ℕ
-contextsIn path j = getD path (2 * j) 0
-
-abbrev pub eventsIn : List ℕ → ℕ → ℕ
-eventsIn path j = getD path (2 * j + 1) 0
-
--- a path of m steps is shown: it fits the slice, "later entries are unchanged", and it is a path
-pub record Shows (M : Model) (m : ℕ) (before after : List ℕ) : Type 0 where
-  pub room : 2 * m + 1 ≤ length before
-  pub whole : length after ≡ length before
-  pub rest : (i : ℕ) → 2 * m + 1 ≤ i → getD after i 0 ≡ getD before i 0
-  pub path : IsPath M m (contextsIn after) (eventsIn after)
 
 -- what each case of the answer says, with the path slice before and after the call
 abbrev pub GoalPromise : List ℕ → List ℕ → ℕ → ℕ → List ℕ → List ℕ → Outcome → Type 0
@@ -70,3 +63,25 @@ outcomeNumber (outcome.Order m) = 256 * m + 1
 outcomeNumber (outcome.Events m) = 256 * m + 2
 outcomeNumber (outcome.Refused k) = 4 * k + 3
 outcomeNumber (outcome.NoRoom m) = 256 * m + 4 * 12 + 3
+
+-- ---- what the call's parts hand on
+-- n is the number of an outcome that keeps the promise P
+pub record OutcomeNumber (P : Outcome → Type 0) (n : ℕ) : Type 0 where
+  pub outcome : Outcome
+  pub promised : P outcome
+  pub number : n ≡ outcomeNumber outcome
+
+-- "A refused image stops the goal question with the image's own number"; 0 where it is accepted
+abbrev pub refusalOf : Checked → ℕ
+refusalOf (policy.Accepted n) = 0
+refusalOf (policy.Refused k) = k
+
+abbrev pub goalRefusalOf : CheckedGoal → ℕ
+goalRefusalOf (goal.Accepted l) = 0
+goalRefusalOf (goal.Refused k) = k
+
+-- questions 1 to 11 are passed, and the counts and the legs are the images'
+pub record Passed (s g : List ℕ) (n : Counts) (l : Legs) (work1 work2 : ℕ) : Type 0 where
+  pub questions : AllYes (allQuestions s g work1 work2)
+  pub counts : n ≡ countsOf s
+  pub legs : l ≡ legsIn (goalOf g)

@@ -4,3 +4,4 @@ pub mod Answer
 pub mod Below
 pub mod Stages
 pub mod Tracker
+pub mod Slice

@@ -126,7 +126,7 @@ module _ {s g : List ℕ} {n : Counts} {l : Legs} (A : Task s g n l) (m : Mode) 
     pub edge-freeE : {e w : ℕ} → G .Edge u e w → eventIn (goalOf g) γe (eventOf e) ≡ false
     edge-freeE {e} {w} ed = not-true (M .γe e) (ed .edge .freeE)
 
-    range-at : {w : ℕ} → w < G .k → ContextInRange (policyOf s .counts) (contextAtIndex n (placeOf K w))
+    pub range-at : {w : ℕ} → w < G .k → ContextInRange (policyOf s .counts) (contextAtIndex n (placeOf K w))
     range-at {w} lw = subst (λ (k : Counts). ContextInRange k (contextAtIndex n (placeOf K w))) same-counts (at-place (place-lt (pow-pos (M .legs)) lw))
 
     -- ---- the target at place y, and the monitor's state there

@@ -7,5 +7,3 @@ pub mod LevelLaws
 pub mod LoopLaws
 pub mod SeedLaws
 pub mod FoundLaws
-pub mod PathLaws
-pub mod StepLaws

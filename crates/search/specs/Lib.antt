@@ -6,4 +6,3 @@ pub mod Arrivals
 pub mod Tasks
 pub mod Found
 pub mod Seeds
-pub mod Path

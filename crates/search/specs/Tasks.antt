@@ -17,7 +17,6 @@ use Rattle.goal_image.specs.Sets.{contextIn, eventIn, EventSets}
 use Rattle.goal_model.specs.Images.{model}
 use Rattle.search.specs.declared.monitor.Mode.{Mode}
 use Rattle.search.specs.Graph.{Graph}
-use Rattle.search.specs.Path.{Some}
 use Rattle.search.specs.Nodes.{watchOf, placeOf, stateOf, graph}
 use Rattle.search.specs.Arrivals.{Given, GivenGoal}
 
@@ -47,10 +46,3 @@ pub record Faced (p : Policy) (g : Goal) (n : Counts) (x : Context) (event y : �
   pub high : y ≤ contextCount n
   pub free : y < contextCount n → eventIn g γe (eventOf event) ≡ false
   pub flows : y < contextCount n → flow p (eventOf event) x (contextAtIndex n y) ≡ true
-
--- some event leads from the node u to the node w, which is no end
-pub record Linked (G : Graph) (u w : ℕ) : Type 0 where
-  pub from : u < G .k
-  pub to : w < G .k
-  pub event : Some (λ e. G .Edge u e w) (G .e)
-  pub open-end : G .End w → ⊥

@@ -2,7 +2,6 @@
 pub mod arrival;
 pub mod levels;
 pub mod monitor;
-pub mod path;
 pub mod seed;
 
 use crate::levels::Found;

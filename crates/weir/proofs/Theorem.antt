@@ -23,7 +23,8 @@ use Rattle.goal_image.proofs.Cases.{g-accepted}
 use Rattle.goal_model.specs.Images.{model}
 use Rattle.flowgoal.specs.declared.goal.Outcome.{Outcome}
 use Rattle.flowgoal.specs.declared.goal.Outcome.the-variants as outcome
-use Rattle.flowgoal.specs.GoalQuestion.{workLength, WorkFits, allQuestions, contextsIn, eventsIn, Shows, GoalPromise}
+use Rattle.paths.specs.Slice.{contextsIn, eventsIn, Shows}
+use Rattle.flowgoal.specs.GoalQuestion.{workLength, WorkFits, allQuestions, GoalPromise}
 use Rattle.flowgoal.proofs.GoalLaws.{order-one, not-both, not-holds-order, least-one}
 use Rattle.weir.specs.Goals.{weirAllow41, writeOnly}
 use Rattle.weir.specs.Weir.{W5Slice, Weir}

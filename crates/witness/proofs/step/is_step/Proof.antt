@@ -1,10 +1,10 @@
 use mathlib.Core.Path.{refl, sym, _∙_}
 use native.Mathlib.Omega.{arith}
 use Rattle.search.proofs.LoopLaws.{sets-same}
-use Rattle.search.proofs.StepLaws.{from-below, to-below, no-event, no-flow, no-drop, no-break, decided}
+use Rattle.witness.proofs.StepLaws.{from-below, to-below, no-event, no-flow, no-drop, no-break, decided}
 use borrow.Author.Needs.{needs}
-use Rattle.search.proofs.path.is_step.Statement.{statement}
-use Rattle.search.proofs.path.is_step.Tie as tie
+use Rattle.witness.proofs.step.is_step.Statement.{statement}
+use Rattle.witness.proofs.step.is_step.Tie as tie
 
 states-of-requires : tie.Need-states-of-requires
 states-of-requires c κs = search needs

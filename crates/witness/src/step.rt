@@ -1,8 +1,5 @@
-// The events of the path that a search's links hold: each is found again as the least that leads from a node to the next.
-use crate::arrival::Arrival;
-use crate::arrival::arrive;
-use crate::arrival::states_of;
-use crate::monitor::Mode;
+// The event of a step between two nodes. A search does not keep it: it is found again, as the least that leads from one to the
+// other.
 use access::flows;
 use base::bits::has_bit;
 use context::Context;
@@ -10,10 +7,15 @@ use context::Event;
 use goal_image::check::Legs;
 use goal_image::sets::event_sets;
 use policy_image::counts::Counts;
+use search::arrival::Arrival;
+use search::arrival::arrive;
+use search::arrival::states_of;
+use search::monitor::Mode;
+use steps::next_event;
 ghost use Prim.Native.Nat.{_<_};
 ghost use Rattle.base.specs.Decides.{Decides};
-ghost use Rattle.search.specs.Path.{Least};
-ghost use Rattle.search.specs.Tasks.{Task, Linked, graphOf};
+ghost use Rattle.search.specs.Tasks.{Task, graphOf};
+ghost use Rattle.witness.specs.Links.{Least, Linked};
 
 // Whether the event leads from node u to node w.
 fn is_step(
@@ -59,12 +61,13 @@ pub fn least_event(
     requires { ⌜ Task (now policy) (now goal) counts legs × Linked (graphOf (now policy) (now goal) counts mode) u w ⌝ }
     ensures { λ r. ⌜ Least (λ e. graphOf (now (policy .entry)) (now (goal .entry)) counts mode .Edge u e w) 1024 r ⌝ }
 {
-    let mut e = 0;
+    let x = Context::at(u / states_of(legs), counts);
+    let mut e = next_event(policy, counts, x, 0);
     while e < 1024 {
         if is_step(policy, goal, counts, legs, mode, u, e, w) {
             return e;
         }
-        e += 1;
+        e = next_event(policy, counts, x, e + 1);
     }
     e
 }

@@ -2,8 +2,11 @@
 use mathlib.Core.Path.{_≡_, refl, sym, _∙_, ap, subst}
 use mathlib.Core.Bool.{Bool, true, false, not}
 use mathlib.Core.List.{List}
+use mathlib.Core.Logic.{⊎-elim}
 use Prim.Native.Nat.{ℕ, _+_, _*_, _/_, _%_, _^_, _≤_, _<_}
+use native.Mathlib.Nat.{eq-or-lt-of-le}
 use native.Mathlib.Omega.{arith}
+use native.Mathlib.Decide.{decLt}
 use borrow.Author.Tests.{not-true, not-false, eqb-true, eqb-false}
 use lib.Dec.{T, eqb}
 use Rattle.base.specs.Bits.{bit}
@@ -12,6 +15,7 @@ use Rattle.policy_image.specs.declared.counts.Counts.{Counts}
 use Rattle.policy_image.specs.Policy.{policyOf}
 use Rattle.context.specs.declared.Context.{Context}
 use Rattle.context.specs.Codes.{eventOf}
+use Rattle.context.specs.Ranges.{ContextInRange}
 use Rattle.context.specs.Places.{contextCount, contextAtIndex}
 use Rattle.access.specs.Authorization.{flow}
 use Rattle.goal_image.specs.declared.check.Legs.{Legs}
@@ -19,16 +23,18 @@ use Rattle.goal_image.specs.Layout.{legsOf}
 use Rattle.goal_image.specs.Goal.{goalOf}
 use Rattle.goal_image.specs.Sets.{EventSets}
 use Rattle.goal_model.specs.Images.{model}
+use Rattle.steps.specs.Steps.{NextEvent}
 use Rattle.search.specs.declared.arrival.Arrival.{Arrival}
 use Rattle.search.specs.declared.arrival.Arrival.the-variants.{Enter, Dropped, Broken}
 use Rattle.search.specs.declared.monitor.Mode.{Mode}
 use Rattle.search.specs.Nodes.{watchOf, codeAt, placeOf}
 use Rattle.search.specs.Arrivals.{States, Lands, LandsOpen, LandsGood, LandsBad, Arriving}
-use Rattle.search.specs.Tasks.{Task, Linked, Stands, graphOf}
+use Rattle.search.specs.Tasks.{Task, Stands, graphOf}
+use Rattle.witness.specs.Links.{Linked}
 use Rattle.search.proofs.ModelLaws.{bounded}
 use Rattle.search.proofs.ArrivalLaws.{clash}
-use Rattle.search.proofs.LevelLaws.{edge-flow, edge-free, edge-freeE, only-at, edge-at}
+use Rattle.search.proofs.LevelLaws.{edge-flow, edge-free, edge-freeE, range-at, only-at, edge-at}
 use Rattle.search.proofs.LoopLaws.{Around, around, at-place, stand}
 
 module _ {s g : List ℕ} {n : Counts} {l : Legs} (A : Task s g n l) (m : Mode) {u w states : ℕ} (L : Linked (graphOf s g n m) u w) (St : States l states) where
   fixed : Around s g n l (contextCount n) states
@@ -47,6 +53,26 @@ module _ {s g : List ℕ} {n : Counts} {l : Legs} (A : Task s g n l) (m : Mode) 
   -- an end is not where w is
   no-end : T (model s g .σ (model s g .legs) (codeAt n (w / states))) → ⊥
   no-end z = L .open-end (record { arrives = subst (λ (i : ℕ). T (model s g .σ (model s g .legs) (codeAt n i))) (sym place-w) z })
+
+  module _ {x : Context} (q : x ≡ contextAtIndex n (u / states)) where
+    pub from-range : ContextInRange n x
+    from-range = stand u fixed (L .from) q .range
+
+    -- the events that are passed over do not lead from u to w
+    pub passed : {e r : ℕ} → NextEvent (policyOf s) x e r → (j : ℕ) → e ≤ j → j < r → graphOf s g n m .Edge u j w → ⊥
+    passed N j lo hi ed =
+        let S = stand u fixed (L .from) q in
+        N .none j (contextAtIndex n (placeOf (2 ^ legsOf g) w)) lo hi (range-at A m S (L .to)) (edge-flow A m S (L .to) ed)
+
+    pub passed-more : {e r : ℕ} → NextEvent (policyOf s) x (e + 1) r → ((j : ℕ) → j < e → graphOf s g n m .Edge u j w → ⊥) → (graphOf s g n m .Edge u e w → ⊥)
+        → (j : ℕ) → j < r → graphOf s g n m .Edge u j w → ⊥
+    passed-more {e} N below here j hi ed = go (decLt j e)
+      where
+        go : Dec (j < e) → ⊥
+        go (yes z) = below j z ed
+        go (no z) =
+            ⊎-elim (λ (k : e ≡ j). here (subst (λ (i : ℕ). graphOf s g n m .Edge u i w) (sym k) ed)) (λ (k : e < j). passed N j (omega arith) hi ed)
+            (eq-or-lt-of-le (omega arith))
 
   module _ {x : Context} (q : x ≡ contextAtIndex n (u / states)) (e : ℕ) {by : ℕ} (E : EventSets (goalOf g) (eventOf e) by) where
     stands : Stands g n u x (u % states)

@@ -1,0 +1,143 @@
+-- What two searches and a path that is shown come to, in the words of the promise.
+use Prim.Native.Nat.{ℕ, zero, suc, _+_, _*_, _^_, _≤_, _<_}
+use mathlib.Core.List.{List, [], _∷_, _++_}
+use mathlib.Core.Logic.{_⊎_, inl, inr}
+use mathlib.Core.Path.{_≡_, refl, sym, ap, subst, _∙_}
+use native.Mathlib.Omega.{arith}
+use native.Mathlib.Decide.{decLt}
+use lib.ListN.{length}
+use Rattle.base.specs.Questions.{Question, ask, AllYes}
+use Rattle.base.proofs.QuestionLaws.{passed-first, passed-then}
+use Rattle.policy_image.specs.declared.counts.Counts.{Counts}
+use Rattle.policy_image.specs.Layout.{countsOf}
+use Rattle.policy_check.specs.Answer.{policyQuestions}
+use Rattle.policy_check.specs.Sound.{Sound}
+use Rattle.policy_check.proofs.AnswerLaws.{sound}
+use Rattle.context.specs.Places.{contextCount}
+use Rattle.goal_image.specs.declared.check.Legs.{Legs}
+use Rattle.goal_image.specs.Layout.{legsOf}
+use Rattle.goal_image.specs.Goal.{goalOf}
+use Rattle.goal_image.specs.Questions.{goalQuestions, legsIn}
+use Rattle.goal_image.specs.Sound.{SoundGoal}
+use Rattle.goal_image.proofs.AnswerLaws.{sound as goal-sound}
+use Rattle.paths.specs.Model.{Model}
+use Rattle.paths.specs.Paths.{SomeOrder, SomeEvents, NoneBelow, OrderAt, EventsAt}
+use Rattle.paths.specs.Answer.{Right}
+use Rattle.paths.proofs.Monitor.{Monitor, BadNode}
+use Rattle.paths.proofs.Monitors.{trackerN, stagerN, order-iff, events-iff}
+use Rattle.paths.proofs.Verdict.{Least, at, nowhere, answer, answers}
+use Rattle.paths.proofs.Verdict.{Found as Reached}
+use Rattle.goal_model.specs.Images.{model}
+use Rattle.search.specs.declared.levels.Found.{Found}
+use Rattle.search.specs.declared.levels.Found.the-variants.{Nothing, Start, At}
+use Rattle.search.specs.declared.monitor.Mode.{Mode}
+use Rattle.search.specs.declared.monitor.Mode.the-variants.{Order, Events}
+use Rattle.search.specs.Found.{FoundLeast}
+use Rattle.search.specs.Nodes.{watchOf, monitorOf}
+use Rattle.search.specs.Seeds.{Roomy}
+use Rattle.search.specs.Tasks.{Task}
+use Rattle.search.proofs.FoundLaws.{task-of}
+use Rattle.witness.specs.declared.verdict.Verdict.{Verdict}
+use Rattle.witness.specs.Shown.{reachedBy, Something, stepsTo, Short, answerOf, Shown}
+use Rattle.flowgoal.specs.declared.goal.Outcome.the-variants as outcome
+use Rattle.flowgoal.specs.GoalQuestion.{workLength, WorkFits, allQuestions, GoalPromise, Passed}
+
+-- ---- what a search found
+-- two counts that are least are one
+one-least : {M : Model} {A : Monitor} {m k : ℕ} → Least M A (at m) → Least M A (at k) → m ≡ k
+one-least {m = m} {k = k} p q = go (decLt m k) (decLt k m)
+  where
+    go : Dec (m < k) → Dec (k < m) → m ≡ k
+    go (yes h) d = absurd (q .1 m h (p .0))
+    go (no h) (yes l) = absurd (p .1 k l (q .0))
+    go (no h) (no l) = omega arith
+
+module _ (s g : List ℕ) (n : Counts) (mode : Mode) (back : List ℕ) where
+  pub least-of : (r : Found) → FoundLeast s g n mode back r → Least (model s g) (monitorOf (watchOf mode (model s g))) (reachedBy r)
+  least-of Nothing f = f
+  least-of (Start x) f = f .least
+  least-of (At u e v d) f = f .least
+
+  -- what is found is m steps away, where m is the least
+  pub found-some : {m : ℕ} (r : Found) → FoundLeast s g n mode back r → Least (model s g) (monitorOf (watchOf mode (model s g))) (at m) → Something r × (stepsTo r ≡ m)
+  found-some {m} Nothing f l = absurd (f m (l .0))
+  found-some {m} (Start x) f l = (tt, one-least (f .least) l)
+  found-some {m} (At u e v d) f l = (tt, let q : suc d ≡ m = one-least (f .least) l in omega arith)
+
+-- ---- the questions that were passed
+module _ {s g : List ℕ} {n : Counts} {l : Legs} {work1 work2 : ℕ} (P : Passed s g n l work1 work2) where
+  abbrev eleven : List Question
+  eleven = ask 11 (WorkFits s g work1 work2) ∷ []
+
+  goal-part : AllYes (goalQuestions (countsOf s) g ++ eleven)
+  goal-part = passed-then (policyQuestions s) (goalQuestions (countsOf s) g ++ eleven) (P .questions)
+
+  policy-sound : Sound s
+  policy-sound = sound s (passed-first (policyQuestions s) (goalQuestions (countsOf s) g ++ eleven) (P .questions))
+
+  sound-goal : SoundGoal g
+  sound-goal = goal-sound (countsOf s) g (passed-first (goalQuestions (countsOf s) g) eleven goal-part)
+
+  pub passed-task : Task s g n l
+  passed-task = task-of policy-sound (P .counts) sound-goal (P .legs)
+
+  pub some-leg : 0 < legsOf g
+  some-leg = sound-goal .legs .legs .low
+
+  nodes : contextCount n * 2 ^ (l .count) ≡ workLength s g
+  nodes = ap (λ (k : Counts). contextCount k * 2 ^ (l .count)) (P .counts) ∙ ap (λ (k : Legs). contextCount (countsOf s) * 2 ^ (k .count)) (P .legs)
+
+  work-fits : WorkFits s g work1 work2
+  work-fits = passed-then (goalQuestions (countsOf s) g) eleven goal-part .0
+
+  pub passed-room : {queue back : List ℕ} → length queue ≡ work1 → length back ≡ work2 → Roomy n l queue back
+  passed-room p q =
+      let f = work-fits in
+      record { queue-room = omega (arith, nodes, f .first); back-room = omega (arith, nodes, f .second) }
+
+  pub passed-back : {k : ℕ} → k ≡ work2 → contextCount n * 2 ^ legsOf g ≤ k
+  passed-back q =
+      let z : contextCount n * 2 ^ legsOf g ≡ workLength s g = ap (λ (c : Counts). contextCount c * 2 ^ legsOf g) (P .counts) in
+      omega (arith, work-fits .second)
+
+  module _ (mode : Mode) (back : List ℕ) where
+    pub short-of : (r : Found) → FoundLeast s g n mode back r → Short r
+    short-of Nothing f = tt
+    short-of (Start x) f = tt
+    short-of (At u e v d) f =
+        let h : contextCount n * 2 ^ legsOf g < 2 ^ 26 = subst (λ (k : ℕ). contextCount n * 2 ^ k < 2 ^ 26) (passed-task .legs .count) (passed-task .legs .nodes) in
+        omega (arith, f .found .short)
+
+  -- the verdict on what the two searches found is right
+  pub judged : (back back′ : List ℕ) (o v : Found) (r : Verdict) → FoundLeast s g n Order back o → FoundLeast s g n Events back′ v → answerOf r ≡ answer (reachedBy o) (reachedBy v)
+      → Right (model s g) (answerOf r)
+  judged back back′ o v r p q e =
+      subst (Right (model s g)) (sym e)
+      (answers (model s g) some-leg (reachedBy o) (reachedBy v) (least-of s g n Order back o p) (least-of s g n Events back′ v q))
+
+  order-least : {m : ℕ} → OrderAt (model s g) m → Least (model s g) (trackerN (model s g)) (at m)
+  order-least {m} p =
+      (order-iff (model s g) some-leg m .0 (p .1), λ k h b. p .0 k h .0 (order-iff (model s g) some-leg k .1 b))
+
+  events-least : {m : ℕ} → EventsAt (model s g) m → Least (model s g) (stagerN (model s g)) (at m)
+  events-least {m} p = (events-iff (model s g) m .0 (p .1), λ k h b. p .0 k h .1 (events-iff (model s g) k .1 b))
+
+  -- another search for what the verdict names finds it as many steps away
+  pub order-found : (back : List ℕ) {m : ℕ} (r : Found) → FoundLeast s g n Order back r → OrderAt (model s g) m → Something r × (stepsTo r ≡ m)
+  order-found back r f p = found-some s g n Order back r f (order-least p)
+
+  pub events-found : (back : List ℕ) {m : ℕ} (r : Found) → FoundLeast s g n Events back r → EventsAt (model s g) m → Something r × (stepsTo r ≡ m)
+  events-found back r f p = found-some s g n Events back r f (events-least p)
+
+  -- ---- the promise, by the answer
+  pub promise-order : {m k : ℕ} {before after : List ℕ} → OrderAt (model s g) m → k ≡ m → Shown (model s g) Order k before after
+      → GoalPromise s g work1 work2 before after (outcome.Order m)
+  promise-order {before = before} {after = after} p q h =
+      let z = subst (λ (i : ℕ). Shown (model s g) Order i before after) q h in
+      (P .questions, p, z .shows, z .breaks)
+
+  pub promise-events : {m k : ℕ} {before after : List ℕ} → EventsAt (model s g) m → k ≡ m → Shown (model s g) Events k before after
+      → GoalPromise s g work1 work2 before after (outcome.Events m)
+  promise-events {before = before} {after = after} p q h =
+      let z = subst (λ (i : ℕ). Shown (model s g) Events i before after) q h in
+      (P .questions, p, z .shows, z .breaks)

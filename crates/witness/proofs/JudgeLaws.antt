@@ -1,0 +1,34 @@
+-- The answer that two searches come to, by cases.
+use mathlib.Core.Path.{_≡_, refl, ap}
+use Prim.Native.Nat.{ℕ, suc, _+_, _≤_, _<_}
+use native.Mathlib.Omega.{arith}
+use native.Mathlib.Decide.{decLe}
+use Rattle.paths.specs.Answer.{Answer, holds, order, events}
+use Rattle.paths.proofs.Verdict.{Found, at, nowhere, answer, answerBy}
+
+pub one-more : {d : ℕ} → suc d ≡ d + 1
+one-more = omega arith
+
+-- a path of no steps that breaks order is a shortest one
+pub order-first : (r : Found) → order 0 ≡ answer (at 0) r
+order-first (at k) = go (decLe 0 k)
+  where
+    go : (d : Dec (0 ≤ k)) → order 0 ≡ answerBy d (order 0) (events k)
+    go (yes h) = refl
+    go (no h) = absurd (h (omega arith))
+order-first nowhere = refl
+
+-- the fewer steps, and order on a tie
+pub order-wins : {m k : ℕ} → m ≤ k → order m ≡ answer (at m) (at k)
+order-wins {m} {k} h = go (decLe m k)
+  where
+    go : (d : Dec (m ≤ k)) → order m ≡ answerBy d (order m) (events k)
+    go (yes l) = refl
+    go (no l) = absurd (l h)
+
+pub events-win : {m k : ℕ} → k < m → events k ≡ answer (at m) (at k)
+events-win {m} {k} h = go (decLe m k)
+  where
+    go : (d : Dec (m ≤ k)) → events k ≡ answerBy d (order m) (events k)
+    go (yes l) = absurd (omega arith)
+    go (no l) = refl

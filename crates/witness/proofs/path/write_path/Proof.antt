@@ -1,0 +1,158 @@
+use Prim.Native.Nat.{ℕ, suc, _+_, _*_, _-_, _^_, _≤_, _<_}
+use mathlib.Core.Path.{_≡_, refl, _∙_}
+use native.Mathlib.Omega.{arith}
+use denote.Ref.{now}
+use lib.ListN.{length, length-set, set}
+use Rattle.search.proofs.SearchLaws.{chain-bound}
+use Rattle.witness.proofs.PathLaws.{Writing, unlink, write-begin, write-step, write-next, write-end, shown-by, node-in, node-small, code-at, rest-of}
+use Rattle.witness.proofs.path.write_path.Statement.{statement}
+use Rattle.witness.proofs.path.write_path.Tie as tie
+
+abbrev Inv-loop : tie.InvT-loop
+Inv-loop policy goal counts legs mode u event v d back path₀ states i₀ w₀ e₀ path i w e = Writing policy goal counts mode back u v (d + 1) path₀ path i w e
+
+abbrev μ-loop : tie.MeasureT-loop
+μ-loop policy goal counts legs mode u event v d back path₀ states i₀ w₀ e₀ path i w e = i
+
+-- where the loop stands, the start, and that i is one more than the place that is written next
+module _ (c : tie.At-loop Inv-loop μ-loop) where
+  abbrev start : tie.Start Inv-loop μ-loop
+  start = c .before .before .before .before .before .before .before
+
+  room : 2 * (start .args .d + 1) + 1 ≤ length (set (now (start .args .path)) (2 * (start .args .d + 1)) (c .before .code-of .result))
+  room = rw (length-set (now (start .args .path)) (2 * (start .args .d + 1)) (c .before .code-of .result)) (start .pre .3)
+
+  next : c .loop .i ≡ suc (c .loop .i - 1)
+  next = omega (arith, c .loop .inv .some)
+
+  small : c .loop .w < 2 ^ 26
+  small = node-small (start .pre .0) (c .before .before .states-of .ensures) (chain-bound (c .loop .inv .chain))
+
+states-of-requires : tie.Need-states-of-requires Inv-loop μ-loop
+states-of-requires c κs = c .before .before .before .before .pre .0 .legs .few-legs
+
+add-i : tie.Need-add-i Inv-loop μ-loop
+add-i c = omega arith
+
+code-of-requires : tie.Need-code-of-requires Inv-loop μ-loop
+code-of-requires c κs = let s = c .before .before .before .before .before in node-in (s .pre .0) (c .states-of .ensures) (s .pre .1 .breaks .target)
+
+mul-path : tie.Need-mul-path Inv-loop μ-loop
+mul-path c = omega arith
+
+mul-path-2 : tie.Need-mul-path-2 Inv-loop μ-loop
+mul-path-2 c = omega arith
+
+slice-write-path : tie.Need-slice-write-path Inv-loop μ-loop
+slice-write-path c = omega arith
+
+loop-holds : tie.Need-loop-holds Inv-loop μ-loop
+loop-holds c = let s = c .before .before .before .before .before .before in write-begin (now (s .args .path)) refl (s .pre .3) (code-at _ (s .pre .0) (c .before .states-of .ensures) (c .code-of .ensures)) (s .pre .1 .breaks .edge) (s .pre .1 .chain)
+
+sub-i : tie.Need-sub-i Inv-loop μ-loop
+sub-i c = omega (arith, c .loop .inv .some)
+
+mul-path-3 : tie.Need-mul-path-3 Inv-loop μ-loop
+mul-path-3 c = omega arith
+
+add-path : tie.Need-add-path Inv-loop μ-loop
+add-path c = omega arith
+
+mul-path-4 : tie.Need-mul-path-4 Inv-loop μ-loop
+mul-path-4 c = omega arith
+
+slice-write-path-2 : tie.Need-slice-write-path-2 Inv-loop μ-loop
+slice-write-path-2 c = omega (arith, c .loop .inv .some, c .loop .inv .high, c .loop .inv .written .whole, room c)
+
+code-of-requires-2 : tie.Need-code-of-requires-2 Inv-loop μ-loop
+code-of-requires-2 c κs = node-in (start c .pre .0) (c .before .before .states-of .ensures) (chain-bound (c .loop .inv .chain))
+
+mul-path-5 : tie.Need-mul-path-5 Inv-loop μ-loop
+mul-path-5 c = omega arith
+
+mul-path-6 : tie.Need-mul-path-6 Inv-loop μ-loop
+mul-path-6 c = omega arith
+
+slice-write-path-3 : tie.Need-slice-write-path-3 Inv-loop μ-loop
+slice-write-path-3 c =
+    let a = c .before in
+    simp length-set (omega (arith, a .loop .inv .some, a .loop .inv .high, a .loop .inv .written .whole, room a))
+
+same-length : tie.Need-same-length Inv-loop μ-loop
+same-length c =
+    let a = c .before .before in
+    simp length-set (omega (arith, a .loop .inv .written .whole, length-set (now (start a .args .path)) (2 * (start a .args .d + 1)) (a .before .code-of .result)))
+
+returns : tie.Need-returns Inv-loop μ-loop
+returns c =
+    let a = c .before .before in
+    let s = start a in
+    let R = a .loop .inv in
+    let p = code-at _ (s .pre .0) (a .before .before .states-of .ensures) (c .before .code-of2 .ensures) in
+    let W = write-step _ R (room a) (next a) p in
+    let b = s .pre .1 .breaks in
+    let o = now (s .args .path) in
+    let m = s .args .d + 1 in
+    let v = a .before .code-of .result in
+    shown-by (now (s .args .policy)) (now (s .args .goal)) _ (s .args .mode) (omega (arith, s .pre .0 .legs .some-leg, s .pre .0 .legs .count)) (s .pre .3) (W .whole ∙ length-set o (2 * m) v) (rest-of o v W)
+    (write-end _ R (room a) (next a) p (c .if1 .taken) (b .ends) (b .edge .kept (b .ends .arrives)))
+
+cast-at : tie.Need-cast-at Inv-loop μ-loop
+cast-at c = let a = c .before .before in omega (arith, small a)
+
+mul-w : tie.Need-mul-w Inv-loop μ-loop
+mul-w c = let a = c .before .before in omega (arith, small a)
+
+shared-slice-read-w : tie.Need-shared-slice-read-w Inv-loop μ-loop
+shared-slice-read-w c = let a = c .before .before .before in omega (arith, chain-bound (a .loop .inv .chain), start a .pre .2)
+
+sub-w : tie.Need-sub-w Inv-loop μ-loop
+sub-w c = let a = c .before .before .before in omega (arith, unlink (a .loop .inv .chain) (omega (arith, c .before .if1 .left)) .marked)
+
+least-event-requires : tie.Need-least-event-requires Inv-loop μ-loop
+least-event-requires c κs =
+    let a = c .before .before .before in
+    (start a .pre .0, unlink (a .loop .inv .chain) (omega (arith, c .before .if1 .left)) .linked)
+
+loop-less : tie.Need-loop-less Inv-loop μ-loop
+loop-less c = omega arith
+
+loop-again : tie.Need-loop-again Inv-loop μ-loop
+loop-again c =
+    let b = c .before .before .before in
+    let a = b .before in
+    let s = start a in
+    let p = code-at _ (s .pre .0) (a .before .before .states-of .ensures) (b .code-of2 .ensures) in
+    write-next _ (a .loop .inv) (room a) (next a) p (omega (arith, c .before .before .if1 .left)) refl (c .least-event .ensures .holds)
+
+pub write-path-spec : {M : Type 1} → statement M
+write-path-spec =
+    tie.close
+    (tie.spec
+    Inv-loop
+    μ-loop
+    states-of-requires
+    add-i
+    code-of-requires
+    mul-path
+    mul-path-2
+    slice-write-path
+    loop-holds
+    sub-i
+    mul-path-3
+    add-path
+    mul-path-4
+    slice-write-path-2
+    code-of-requires-2
+    mul-path-5
+    mul-path-6
+    slice-write-path-3
+    same-length
+    returns
+    cast-at
+    mul-w
+    shared-slice-read-w
+    sub-w
+    least-event-requires
+    loop-less
+    loop-again)

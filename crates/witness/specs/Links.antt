@@ -1,0 +1,22 @@
+-- The links that a search leaves: which event leads from a node to the next is found again.
+use Prim.Native.Nat.{ℕ, _<_}
+use Rattle.search.specs.Graph.{Graph}
+
+-- r is the least number below n of which P holds
+pub record Least (P : ℕ → Type 0) (n r : ℕ) : Type 0 where
+  pub within : r < n
+  pub holds : P r
+  pub before : (j : ℕ) → j < r → P j → ⊥
+
+-- P holds of some number below n
+pub record Some (P : ℕ → Type 0) (n : ℕ) : Type 0 where
+  pub which : ℕ
+  pub within : which < n
+  pub holds : P which
+
+-- some event leads from the node u to the node w, which is no end
+pub record Linked (G : Graph) (u w : ℕ) : Type 0 where
+  pub from : u < G .k
+  pub to : w < G .k
+  pub event : Some (λ e. G .Edge u e w) (G .e)
+  pub open-end : G .End w → ⊥

@@ -1,0 +1,86 @@
+// The path to the end that a search found, written from that end by the links that the search left.
+use crate::step::least_event;
+use context::Context;
+use goal_image::check::Legs;
+use policy_image::counts::Counts;
+use search::arrival::states_of;
+use search::levels::Found;
+use search::monitor::Mode;
+ghost use mathlib.Core.Path.{_≡_};
+ghost use Prim.Native.Nat.{_+_, _*_, _≤_};
+ghost use lib.ListN.{length};
+ghost use Rattle.goal_model.specs.Images.{model};
+ghost use Rattle.search.specs.Found.{FoundLeast};
+ghost use Rattle.search.specs.Graph.{FoundAt};
+ghost use Rattle.search.specs.Nodes.{codeOf};
+ghost use Rattle.search.specs.Tasks.{Task, graphOf};
+ghost use Rattle.witness.specs.Shown.{Shown, Something, stepsTo, NodeIn};
+
+// The code of a node's context.
+fn code_of(counts: Counts, states: u32, v: u32) -> u32
+    requires { ⌜ NodeIn counts states v ⌝ }
+    ensures { λ r. ⌜ r ≡ codeOf counts states v ⌝ }
+{
+    Context::at(v / states, counts).code()
+}
+
+// Writes the path that ends with the step from node u by the event to node v, after d steps from a start to u.
+fn write_path(
+    policy: &[u8],
+    goal: &[u8],
+    counts: Counts,
+    legs: Legs,
+    mode: Mode,
+    u: u32,
+    event: u32,
+    v: u32,
+    d: u32,
+    back: &[u32],
+    path: &mut [u32],
+)
+    requires { ⌜ Task (now policy) (now goal) counts legs × FoundAt (graphOf (now policy) (now goal) counts mode) (now back) u event v d × (graphOf (now policy) (now goal) counts mode .k ≤ length (now back)) × (2 * (d + 1) + 1 ≤ length (now path)) ⌝ }
+    ensures { λ _. ⌜ Shown (model (now (policy .entry)) (now (goal .entry))) mode (d + 1) (now (path .entry)) (now (path .exit)) ⌝ }
+{
+    let states = states_of(legs);
+    let mut i = d as usize + 1;
+    path[2 * i] = code_of(counts, states, v);
+    let mut w = u;
+    let mut e = event;
+    loop {
+        i -= 1;
+        path[2 * i + 1] = e;
+        path[2 * i] = code_of(counts, states, w);
+        if i == 0 {
+            return;
+        }
+        let next = w;
+        let at = next as usize;
+        w = back[at] - 1;
+        e = least_event(policy, goal, counts, legs, mode, w, next);
+    }
+}
+
+// Writes the path to the end that a search found.
+pub fn show(
+    policy: &[u8],
+    goal: &[u8],
+    counts: Counts,
+    legs: Legs,
+    mode: Mode,
+    found: Found,
+    back: &[u32],
+    path: &mut [u32],
+)
+    requires { ⌜ Task (now policy) (now goal) counts legs × FoundLeast (now policy) (now goal) counts mode (now back) found × Something found × (graphOf (now policy) (now goal) counts mode .k ≤ length (now back)) × (2 * stepsTo found + 1 ≤ length (now path)) ⌝ }
+    ensures { λ _. ⌜ Shown (model (now (policy .entry)) (now (goal .entry))) mode (stepsTo found) (now (path .entry)) (now (path .exit)) ⌝ }
+{
+    match found {
+        Found::Nothing => {}
+        Found::Start(x) => {
+            path[0] = x;
+        }
+        Found::At(u, e, v, d) => {
+            write_path(policy, goal, counts, legs, mode, u, e, v, d, back, path);
+        }
+    }
+}
