@@ -72,3 +72,12 @@ pub fn damaged(number: u64) -> Case {
     }
     Case { name: format!("damaged case {number}"), policy, goal, rng }
 }
+
+/// The images of a folder, however large.
+pub fn stored(folder: &str) -> Case {
+    let read = |image: &str| {
+        let file = format!("{folder}/{image}");
+        std::fs::read(&file).unwrap_or_else(|why| panic!("{file} cannot be read: {why}"))
+    };
+    Case { name: folder.to_string(), policy: read("policy.img"), goal: read("goal.img"), rng: Rng(3) }
+}

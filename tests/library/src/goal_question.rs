@@ -8,14 +8,14 @@ use second_search::paths::{validate, Sort};
 /// With more nodes than this, not every length of the path slice is tried.
 const EVERY_LENGTH: usize = 4096;
 
-/// The library's number for a goal image and policy image that are lent exactly the entries that they need, or the program's
-/// where they need more.
-pub fn ask(case: &mut Case, tally: &mut Tally) -> Result<u64, String> {
+/// The library's number for the case, each work slice being lent as many entries as are needed, or the limit where more are.
+pub fn ask(case: &mut Case, limit: usize, tally: &mut Tally) -> Result<u64, String> {
     let both = check_both(&case.policy, &case.goal);
     let need = both.as_ref().map_or(LIMIT, |(p, g)| nodes(p, g));
-    tally.nodes(if both.is_ok() && need <= LIMIT { need } else { 0 });
-    let lent = need.min(LIMIT);
-    let ours = goal_question(&case.policy, &case.goal, [lent; 2], &mut vec![0; 2 * LIMIT + 1]);
+    let searched = both.is_ok() && need <= limit;
+    tally.nodes(if searched { need } else { 0 });
+    let lent = need.min(limit);
+    let ours = goal_question(&case.policy, &case.goal, [lent; 2], &mut vec![0; 2 * lent + 1]);
     let number = ours.number();
     match &ours {
         Answer::Broken(sort, path) => {
@@ -29,7 +29,7 @@ pub fn ask(case: &mut Case, tally: &mut Tally) -> Result<u64, String> {
             untouched(case, [lent; 2], length, number, tally)?;
         }
     }
-    if both.is_ok() && need <= LIMIT {
+    if searched {
         for work in [[need - 1, need], [need, need - 1]] {
             untouched(case, work, 9, 4 * 11 + 3, tally)?;
         }
