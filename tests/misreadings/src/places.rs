@@ -93,11 +93,7 @@ pub const PLACES: [Place; 21] = [
         reads: "if !order.closed && order.ends() {",
         switched: "if !order.closed && order.ends() && !(crate::on(15) && !events.closed && events.ends()) {",
     },
-    Place {
-        file: "layers.rs",
-        reads: "filter(|&x| policy.valid(x))",
-        switched: "filter(|&x| crate::on(16) || policy.valid(x))",
-    },
+    Place { file: "layers.rs", reads: "filter(|&x| policy.valid(x))", switched: "filter(|&x| crate::on(16) || policy.valid(x))" },
     Place {
         file: "policy.rs",
         reads: "e != TRANSITION ||",
@@ -127,26 +123,22 @@ pub const PLACES: [Place; 21] = [
         reads: "k.kind == 2 && k.a as u32 == e.c && k.masks(e.p))",
         switched: "k.kind == 2 && k.a as u32 == e.c && k.masks(e.p)) || crate::on(24)",
     },
-    Place {
-        file: "policy.rs",
-        reads: "(r == 1 && !self.domain(t))",
-        switched: "(r == 1 && (crate::on(25) || !self.domain(t)))",
-    },
+    Place { file: "policy.rs", reads: "(r == 1 && !self.domain(t))", switched: "(r == 1 && (crate::on(25) || !self.domain(t)))" },
     Place {
         file: "policy.rs",
         reads: "any(|k| k.has(6, u, r)) || r == 1",
         switched: "any(|k| k.has(6, u, r)) || (r == 1 && !crate::on(26))",
     },
-    Place { file: "policy.rs", reads: "k.b != 1 && k.masks", switched: "(if crate::on(29) { k.b == 2 } else { k.b != 1 }) && k.masks" },
+    Place {
+        file: "policy.rs",
+        reads: "k.b != 1 && k.masks",
+        switched: "(if crate::on(29) { k.b == 2 } else { k.b != 1 }) && k.masks",
+    },
     Place {
         file: "layers.rs",
         reads: "History::default().visit(goal, x)",
         switched: "let start = History::default().visit(goal, x);
         History { broken: start.broken && !crate::on(31), ..start }",
     },
-    Place {
-        file: "goal.rs",
-        reads: "(c == 0 || c == e.c)",
-        switched: "((c == 0 && !crate::on(32)) || c == e.c)",
-    },
+    Place { file: "goal.rs", reads: "(c == 0 || c == e.c)", switched: "((c == 0 && !crate::on(32)) || c == e.c)" },
 ];

@@ -21,7 +21,7 @@ pub fn check(text: &str) -> Result<(), String> {
         let (name, words) = words(line);
         let Some(name) = name else { continue };
         let at = i + 1;
-        if words.first().map_or(true, |word| NO_RECORD.contains(word)) {
+        if words.first().is_none_or(|word| NO_RECORD.contains(word)) {
             return Err(format!("line {at}: the name {name:?} stands before no record"));
         }
         if name.is_empty() || name.parse::<u64>().is_ok() {
