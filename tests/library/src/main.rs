@@ -8,6 +8,7 @@ mod misread;
 mod tally;
 
 use cases::{damaged, generated, stored, Case, DAMAGED, GENERATED, LIMIT};
+use misread::Asked;
 use tally::Tally;
 
 /// Failing cases that are shown.
@@ -59,14 +60,16 @@ fn ask_seeded() -> Vec<(u64, u64)> {
     println!("the library against the second search, {GENERATED} generated cases and {DAMAGED} damaged ones ..");
     let (mut tally, answers) = ask_all(generated, GENERATED, threads);
     let mut results = vec![report("generated", GENERATED, &tally)];
-    let (more, _) = ask_all(damaged, DAMAGED, threads);
+    let whole = Asked { case: generated, answers };
+    let (more, answers) = ask_all(damaged, DAMAGED, threads);
+    let hurt = Asked { case: damaged, answers };
     results.push(report("damaged", DAMAGED, &more));
     tally.add(more);
     results.push(tally.print());
     let largest = tally.most_nodes() == LIMIT;
     println!("the largest search went over {} nodes; the program has room for {LIMIT}", tally.most_nodes());
     results.push((largest as u64, !largest as u64));
-    results.push(misread::table(&answers, threads));
+    results.extend(misread::tables(&whole, &hurt, threads));
     results
 }
 

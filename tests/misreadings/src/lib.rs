@@ -4,7 +4,7 @@
 use std::cell::Cell;
 
 mod places;
-pub use places::NAMES;
+pub use places::{NAMES, OF_IMAGES};
 
 macro_rules! copied {
     ($($module:ident $file:literal;)*) => {

@@ -6,8 +6,10 @@ pub struct Place {
     pub switched: &'static str,
 }
 
-/// The misreadings, numbered from 1. The first 27 are those of `../second-search/mutants.py`, in its order; the rest are ours.
-pub const NAMES: [&str; 32] = [
+/// The misreadings, numbered from 1. The first 27 are those of `../second-search/mutants.py`, in its order; the rest are ours,
+/// and those from `OF_IMAGES` on are misreadings of the questions about images, for damaged images to tell apart.
+pub const OF_IMAGES: usize = 33;
+pub const NAMES: [&str; 41] = [
     "order: same context counts (l <= j)",
     "order: i from 0",
     "order: i below n-1",
@@ -40,9 +42,18 @@ pub const NAMES: [&str; 32] = [
     "no flow from a context to itself",
     "order not asked of the start",
     "any class in a gamma matches none",
+    "a node may be used twice",
+    "right of a not may be anything",
+    "a root must stand below its constraint",
+    "a node that nothing uses is refused",
+    "self is no target",
+    "sigma e is a spare head",
+    "spare bytes of a sigma record may be anything",
+    "flags above the last leg may be set",
+    "a policy may be longer than its records",
 ];
 
-pub const PLACES: [Place; 21] = [
+pub const PLACES: [Place; 30] = [
     Place {
         file: "layers.rs",
         reads: "(1..goal.n).any(|i| goal.sigma(i + 1, x) && !self.seen.contains(&i))",
@@ -141,4 +152,37 @@ pub const PLACES: [Place; 21] = [
         History { broken: start.broken && !crate::on(31), ..start }",
     },
     Place { file: "goal.rs", reads: "(c == 0 || c == e.c)", switched: "((c == 0 && !crate::on(32)) || c == e.c)" },
+    Place { file: "policy.rs", reads: "(0..uses.len()).all(|i|", switched: "(0..uses.len()).all(|i| crate::on(33) ||" },
+    Place {
+        file: "policy.rs",
+        reads: "1 => r.b == 0 && r.right() == 0,",
+        switched: "1 => r.b == 0 && (crate::on(34) || r.right() == 0),",
+    },
+    Place {
+        file: "policy.rs",
+        reads: "if r.kind == 8 {\n",
+        switched: "if r.kind == 8 && crate::on(35) && r.root() >= own {
+                return false;
+            }
+            if r.kind == 8 {\n",
+    },
+    Place {
+        file: "policy.rs",
+        reads: "uses.iter().all(|&k| is_node(k)) &&",
+        switched: "!(crate::on(36) && uses.len() < self.records.iter().filter(|r| r.kind == 9).count())
+            && uses.iter().all(|&k| is_node(k)) &&",
+    },
+    Place { file: "policy.rs", reads: "(r.b == 0 || is(r.b, ty))", switched: "((r.b == 0 && !crate::on(37)) || is(r.b, ty))" },
+    Place {
+        file: "goal.rs",
+        reads: "if (n + 1..=6).any(|i| head(i) != 0)",
+        switched: "if (crate::on(38) && head(SIGMA_E) != 0) || (n + 1..=6).any(|i| head(i) != 0)",
+    },
+    Place { file: "goal.rs", reads: "r[5..8] != [0, 0, 0]", switched: "(!crate::on(39) && r[5..8] != [0, 0, 0])" },
+    Place { file: "goal.rs", reads: "img[1] >> n != 0", switched: "(!crate::on(40) && img[1] >> n != 0)" },
+    Place {
+        file: "policy.rs",
+        reads: "img.len() != 24 + 12 * n",
+        switched: "if crate::on(41) { img.len() < 24 + 12 * n } else { img.len() != 24 + 12 * n }",
+    },
 ];
