@@ -21,8 +21,9 @@ pub fn ask(case: &mut Case, limit: usize, tally: &mut Tally) -> Result<u64, Stri
         Answer::Broken(sort, path) => {
             let m = path.steps();
             for length in path_lengths(m, need) {
-                broken(case, lent, length, *sort, m, tally)?;
+                broken(case, [lent; 2], length, *sort, m, tally)?;
             }
+            broken(case, [lent + 1, lent + 5], 2 * m + 1, *sort, m, tally)?;
         }
         _ => {
             let length = case.rng.range(0, 9) as usize;
@@ -78,15 +79,15 @@ fn untouched(case: &Case, work: [usize; 2], length: usize, wanted: u64, tally: &
 }
 
 /// A call on a goal that m steps break: 12 with m where the path has no room, and else a path that breaks what is named.
-fn broken(case: &Case, work: usize, length: usize, sort: Sort, m: usize, tally: &mut Tally) -> Result<(), String> {
+fn broken(case: &Case, work: [usize; 2], length: usize, sort: Sort, m: usize, tally: &mut Tally) -> Result<(), String> {
     let steps = 256 * m as u64;
     if length < 2 * m + 1 {
-        return untouched(case, [work; 2], length, steps + 4 * 12 + 3, tally);
+        return untouched(case, work, length, steps + 4 * 12 + 3, tally);
     }
     let wanted = steps + if sort == Sort::Order { 1 } else { 2 };
-    let (number, path) = call(case, [work; 2], length, tally)?;
+    let (number, path) = call(case, work, length, tally)?;
     if number != wanted {
-        return Err(format!("{number}, expected {wanted} (path slice {length})"));
+        return Err(format!("{number}, expected {wanted} (work slices {work:?}, path slice {length})"));
     }
     if !path.unchanged_from(2 * m + 1) {
         return Err(format!("an entry from 2m + 1 on was changed (path slice {length})"));
