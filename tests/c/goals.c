@@ -1,0 +1,274 @@
+/* The goal question through the header, as the controller's loader asks it: it reads policy.img and goal.img of W1 to W8 from
+ * the folder of examples that it is given, and builds the rest. Its last line is 'N passed, M failed'. */
+#include "flowgoal.h"
+#include "images.h"
+
+#include <stdio.h>
+#include <stdlib.h>
+#include <string.h>
+
+/* W1 to W12 need 32 entries of work: 4 types, 2 roles, 1 user, 2 legs. */
+enum { WORK = 32, PATH = 16, UNTOUCHED = 0x5EED };
+enum { HOLDS = 0, ORDER = 1, EVENTS = 2, REFUSED = 3 };
+
+static struct policy policy;
+static struct goal goal;
+static uint32_t path[PATH];
+
+static uint64_t result(uint64_t steps, unsigned number, unsigned answer)
+{
+    return 256 * steps + 4 * number + answer;
+}
+
+/* A copy of so many bytes on the heap, with nothing behind it, so that valgrind sees every byte that is touched beyond; of no
+ * source, bytes that nobody set, so that it sees where an answer hangs on what they are. */
+static void *lent(const void *source, size_t length)
+{
+    void *copy = malloc(length == 0 ? 1 : length);
+    if (copy == NULL) {
+        printf("no memory\n");
+        exit(1);
+    }
+    if (source != NULL)
+        memcpy(copy, source, length);
+    return copy;
+}
+
+/* The goal question with slices of these lengths. Every entry of the path slice is set before; `path` has what it is after. */
+static uint64_t ask(size_t work1_length, size_t work2_length, size_t path_length)
+{
+    uint8_t *policy_bytes = lent(policy.bytes, policy.length), *goal_bytes = lent(goal.bytes, goal.length);
+    uint32_t *work1 = lent(NULL, work1_length * sizeof *work1), *work2 = lent(NULL, work2_length * sizeof *work2), *slice;
+    uint64_t answer;
+    for (unsigned i = 0; i < PATH; i++)
+        path[i] = UNTOUCHED;
+    slice = lent(path, path_length * sizeof *path);
+    answer = flowgoal_check(policy_bytes, policy.length, goal_bytes, goal.length, work1, work1_length, work2, work2_length,
+                            slice, path_length);
+    memcpy(path, slice, path_length * sizeof *path);
+    free(policy_bytes);
+    free(goal_bytes);
+    free(work1);
+    free(work2);
+    free(slice);
+    return answer;
+}
+
+static int untouched_from(unsigned entry)
+{
+    while (entry < PATH && path[entry] == UNTOUCHED)
+        entry++;
+    return entry == PATH;
+}
+
+static void expect_refused(const char *what, unsigned number)
+{
+    expect(what, ask(WORK, WORK, PATH), result(0, number, REFUSED));
+    expect("the path slice after a refusal", untouched_from(0), 1);
+}
+
+/* As a loader does: a file of at most so many bytes. */
+static size_t read_image(const char *folder, const char *name, uint8_t *bytes, size_t most)
+{
+    char file[512];
+    size_t length;
+    FILE *stream;
+    snprintf(file, sizeof file, "%s/%s", folder, name);
+    stream = fopen(file, "rb");
+    if (stream == NULL) {
+        printf("%s cannot be opened\n", file);
+        exit(1);
+    }
+    length = fread(bytes, 1, most, stream);
+    fclose(stream);
+    return length;
+}
+
+struct weir_case {
+    const char *name;
+    unsigned steps, answer;
+    uint32_t path[7];
+};
+
+static void weir_examples(const char *examples)
+{
+    static const struct weir_case cases[] = {
+        {"weir-w1", 0, HOLDS, {0}},
+        {"weir-w2", 3, EVENTS, {0x111, 64, 0x221, 65, 0x311, 64, 0x421}},
+        {"weir-w3", 0, HOLDS, {0}},
+        {"weir-w4", 3, EVENTS, {0x111, 64, 0x221, 65, 0x311, 64, 0x421}},
+        {"weir-w5", 1, ORDER, {0x111, 64, 0x421}},
+        {"weir-w6", 0, ORDER, {0x111}},
+        {"weir-w7", 0, EVENTS, {0x111}},
+        {"weir-w8", 0, HOLDS, {0}},
+    };
+    for (size_t i = 0; i < sizeof cases / sizeof *cases; i++) {
+        const struct weir_case *weir = &cases[i];
+        unsigned entries = weir->answer == HOLDS ? 0 : 2 * weir->steps + 1;
+        char folder[400];
+        snprintf(folder, sizeof folder, "%s/%s", examples, weir->name);
+        policy.length = read_image(folder, "policy.img", policy.bytes, sizeof policy.bytes);
+        goal.length = read_image(folder, "goal.img", goal.bytes, sizeof goal.bytes);
+        expect(weir->name, ask(WORK, WORK, PATH), result(weir->steps, 0, weir->answer));
+        expect("its path", memcmp(path, weir->path, entries * sizeof *path) == 0, 1);
+        expect("the entries after it", untouched_from(entries), 1);
+        for (unsigned length = 0; length < entries; length++) {
+            expect("no room for its path", ask(WORK, WORK, length), result(weir->steps, 12, REFUSED));
+            expect("the path slice after 12", untouched_from(0), 1);
+        }
+        if (entries > 0)
+            expect("just room for its path", ask(WORK, WORK, entries), result(weir->steps, 0, weir->answer));
+    }
+}
+
+/* W9: an added allow from a type that is no domain authorizes nothing. */
+static void weir_9(void)
+{
+    static struct policy plain;
+    unsigned same = 1, from_3 = 0;
+    policy_weir(&plain);
+    policy_weir(&policy);
+    policy_add(&policy, 4, 3, 1, 2, 0, 1);
+    for (unsigned i = 0; i < 4 * 2 * 4 * 2 * 2 * 32; i++) {
+        unsigned t1 = i % 4 + 1, r1 = i / 4 % 2 + 1, t2 = i / 8 % 4 + 1, r2 = i / 32 % 2 + 1, c = i / 64 % 2 + 1, p = i / 128;
+        uint64_t now = flowgoal_authorized(policy.bytes, policy.length, t1, r1, 1, t2, r2, 1, c, p);
+        same &= now == flowgoal_authorized(plain.bytes, plain.length, t1, r1, 1, t2, r2, 1, c, p);
+        from_3 |= t1 == 3 && now != FLOWGOAL_NO;
+    }
+    expect("W9: all answers as without the record", same, 1);
+    expect("W9: type 3 is authorized to nothing", from_3, 0);
+    goal_g(&goal);
+    expect("W9: G", ask(WORK, WORK, PATH), result(0, 0, HOLDS));
+}
+
+static void weir_10_to_12(void)
+{
+    policy_start(&policy, 1, 1, 1, 1);
+    goal_g(&goal);
+    policy.length = 23;
+    expect_refused("W10: 23 bytes", 1);
+    policy.length = 24;
+    goal.length = 0;
+    expect_refused("W10: 24 bytes are accepted, so the goal is asked about", 7);
+    expect("W10: and a bare question is answered", flowgoal_authorized(policy.bytes, 24, 1, 1, 1, 1, 1, 1, 1, 0), FLOWGOAL_NO);
+    policy_weir(&policy);
+    goal_g(&goal);
+    put16(policy.bytes + POLICY_HEADER, 1);
+    expect_refused("W11", 3);
+    policy_weir(&policy);
+    expect("W12: 31 entries in the first", ask(31, 32, PATH), result(0, 11, REFUSED));
+    expect("W12: 31 entries in the second", ask(32, 31, PATH), result(0, 11, REFUSED));
+    expect("W12: its path slice", untouched_from(0), 1);
+    expect("W12: 32 suffice", ask(32, 32, PATH), result(0, 0, HOLDS));
+}
+
+struct damage {
+    const char *what;
+    int in_goal;
+    unsigned offset, value, number;
+};
+
+/* One byte of the weir policy (with a constraint: not t1 = 2, on read) or of G, and the number that it gets. */
+static void refusals(void)
+{
+    enum { DOMAIN_1 = POLICY_HEADER, NODE = POLICY_HEADER + 11 * POLICY_RECORD, CONSTRAINT = NODE + 2 * POLICY_RECORD };
+    static const struct damage cases[] = {
+        {"one record more than there are", 0, 4, 15, 1}, {"4,096 records", 0, 5, 16, 1},
+        {"no type", 0, 0, 0, 2},                         {"16 users", 0, 2, 16, 2},
+        {"a head above N", 0, 6, 15, 3},                 {"a next that falls", 0, DOMAIN_1 + POLICY_RECORD, 1, 3},
+        {"a head left out", 0, 6, 0, 4},                 {"kind 10", 0, DOMAIN_1 + 2, 10, 4},
+        {"type 5 of 4", 0, DOMAIN_1 + 3, 5, 5},          {"operator 13", 0, NODE + 3, 13, 5},
+        {"no root", 0, CONSTRAINT + 6, 0, 6},            {"a child above its node", 0, NODE + POLICY_RECORD + 8, 13, 6},
+        {"one goal record more than there are", 1, 2, 6, 7}, {"261 goal records", 1, 3, 1, 7},
+        {"no leg", 1, 0, 0, 8},                          {"a flag above the legs", 1, 1, 6, 8},
+        {"two equal heads", 1, 30, 1, 9},                {"a next equal to its own number", 1, GOAL_HEADER, 1, 9},
+        {"a spare byte", 1, GOAL_HEADER + 7, 1, 10},     {"class 3 of 2", 1, GOAL_HEADER + 3 * GOAL_RECORD + 2, 3, 10},
+    };
+    for (size_t i = 0; i < sizeof cases / sizeof *cases; i++) {
+        policy_weir(&policy);
+        policy_add(&policy, 9, 7, 2, 0, 0, 0);
+        policy_add(&policy, 9, 1, 0, 0, 0, 12);
+        policy_add(&policy, 8, 2, 0, 0, 13, 1);
+        goal_g(&goal);
+        expect("before the damage", ask(WORK, WORK, PATH), result(0, 0, HOLDS));
+        (cases[i].in_goal ? goal.bytes : policy.bytes)[cases[i].offset] = (uint8_t)cases[i].value;
+        expect_refused(cases[i].what, cases[i].number);
+    }
+}
+
+static uint64_t ask_nulls(size_t policy_length, size_t goal_length, int with_work)
+{
+    static uint32_t work1[WORK], work2[WORK];
+    return flowgoal_check(policy_length == 0 ? NULL : policy.bytes, policy_length, goal_length == 0 ? NULL : goal.bytes,
+                          goal_length, with_work ? work1 : NULL, with_work ? WORK : 0, with_work ? work2 : NULL,
+                          with_work ? WORK : 0, NULL, 0);
+}
+
+/* A null pointer with length 0 is an empty slice. */
+static void null_pointers(void)
+{
+    policy_weir(&policy);
+    goal_g(&goal);
+    expect("all null", ask_nulls(0, 0, 0), result(0, 1, REFUSED));
+    expect("no goal", ask_nulls(policy.length, 0, 1), result(0, 7, REFUSED));
+    expect("no work", ask_nulls(policy.length, goal.length, 0), result(0, 11, REFUSED));
+    expect("no path slice where the goal holds", ask_nulls(policy.length, goal.length, 1), result(0, 0, HOLDS));
+    policy_add(&policy, 4, 4, 1, 2, 0, 1);
+    expect("no path slice where it does not", ask_nulls(policy.length, goal.length, 1), result(1, 12, REFUSED));
+    goal_start(&goal, 1, 0);
+    goal_sigma(&goal, SIGMA + 0, 1, 0, 0);
+    goal_sigma(&goal, SIGMA + 1, 1, 0, 0);
+    expect("no path slice for no step", ask_nulls(policy.length, goal.length, 1), result(0, 12, REFUSED));
+}
+
+/* The deepest constraint that a goal question can come to: a class, its way of flow, a constraint, and the rest nodes, each
+ * `not` of the one before, above "same type". With the records that let type 1 write to type 2 there are fewer nodes, and an
+ * odd number of negations makes the constraint true for them. */
+static uint64_t deep_result;
+
+static void ask_deep(void)
+{
+    deep_result = ask(WORK, WORK, PATH);
+}
+
+static void deepest(int allowed)
+{
+    unsigned last = allowed ? POLICY_MOST - 1 : POLICY_MOST;
+    size_t used;
+    policy_start(&policy, 2, 1, 1, 2);
+    policy_add(&policy, 2, 2, 0, 0, 0, 1);
+    policy_add(&policy, 3, 2, 1, 0, 0, 1);
+    policy_add(&policy, 8, 2, 0, 0, last, 1);
+    if (allowed) {
+        policy_add(&policy, 1, 1, 0, 0, 0, 0);
+        policy_add(&policy, 4, 1, 2, 2, 0, 1);
+        policy_add(&policy, 5, 1, 1, 0, 0, 0);
+    }
+    policy_add(&policy, 9, 4, 0, 0, 0, 0);
+    while (policy.records < last)
+        policy_add(&policy, 9, 1, 0, 0, 0, policy.records);
+    goal_start(&goal, 1, 0);
+    goal_sigma(&goal, SIGMA + 0, 1, 0, 0);
+    goal_sigma(&goal, SIGMA + 1, 2, 0, 0);
+    used = stack_of(ask_deep);
+    printf("a goal question over %u nested nodes took %zu bytes of stack; the header says %d at the most\n",
+           allowed ? last - 6 : last - 3, used, FLOWGOAL_STACK);
+    expect("the deepest constraint", deep_result, allowed ? result(1, 0, EVENTS) : result(0, 0, HOLDS));
+    expect("its stack", used <= FLOWGOAL_STACK, 1);
+}
+
+int main(int count, char **arguments)
+{
+    if (count != 2) {
+        printf("usage: goals EXAMPLES\n");
+        return 2;
+    }
+    weir_examples(arguments[1]);
+    weir_9();
+    weir_10_to_12();
+    refusals();
+    null_pointers();
+    deepest(0);
+    deepest(1);
+    return results();
+}

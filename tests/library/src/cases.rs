@@ -1,0 +1,83 @@
+//! The cases: seeded by their numbers, so that a case that fails can be had again.
+use second_search::gen::{case, damage, Rng};
+use second_search::goal::Goal;
+use second_search::policy::Policy;
+
+/// The entries that the goal program lends in each work slice.
+pub const LIMIT: usize = 16384;
+pub const GENERATED: u64 = 20_000;
+pub const DAMAGED: u64 = 20_000;
+
+pub struct Case {
+    pub name: String,
+    pub policy: Vec<u8>,
+    pub goal: Vec<u8>,
+    /// where the case's own choices (lengths, arguments) go on from
+    pub rng: Rng,
+}
+
+/// The entries that each work slice must have.
+pub fn nodes(policy: &Policy, goal: &Goal) -> usize {
+    let contexts = policy.types * policy.roles * policy.users;
+    (contexts << goal.n) as usize
+}
+
+/// The most types of a case, by its number: mostly small, one in fifty larger, up to as many as a policy can have.
+fn size(number: u64) -> u32 {
+    const SMALL: [u32; 12] = [1, 2, 3, 3, 4, 5, 6, 7, 8, 10, 12, 16];
+    const LARGE: [u32; 6] = [24, 40, 64, 100, 160, 255];
+    match number % 50 {
+        49 => LARGE[(number / 50 % 6) as usize],
+        small => SMALL[(small % 12) as usize],
+    }
+}
+
+/// The same policy with counts such that the goal has exactly as many nodes as the program lends entries for.
+fn raised_to_limit(mut policy: Policy, goal: &Goal) -> Option<Policy> {
+    let counts = [[128, 8, 8], [128, 8, 4], [128, 4, 4], [64, 4, 4], [64, 4, 2], [32, 4, 2]][goal.n - 1];
+    let fits = policy.types <= counts[0] && policy.roles <= counts[1] && policy.users <= counts[2];
+    [policy.types, policy.roles, policy.users] = counts;
+    fits.then_some(policy)
+}
+
+/// Every 500th case is one of the largest that the program has room for, where its counts can be raised to that.
+fn generate(number: u64, rng: &mut Rng) -> (Policy, Goal) {
+    let (policy, goal) = case(rng, size(number));
+    if number % 500 != 7 {
+        return (policy, goal);
+    }
+    match raised_to_limit(policy.clone(), &goal) {
+        Some(raised) => (raised, goal),
+        None => (policy, goal),
+    }
+}
+
+pub fn generated(number: u64) -> Case {
+    let mut rng = Rng(number.wrapping_mul(1_000_003) + 1);
+    let (policy, goal) = generate(number, &mut rng);
+    Case { name: format!("generated case {number}"), policy: policy.encode(), goal: goal.encode(), rng }
+}
+
+/// A damaged policy, a damaged goal, or both. Some are still accepted.
+pub fn damaged(number: u64) -> Case {
+    let mut rng = Rng(number.wrapping_mul(1_000_003) + 2);
+    let (policy, goal) = case(&mut rng, size(number));
+    let (mut policy, mut goal) = (policy.encode(), goal.encode());
+    let hurt = rng.range(0, 9);
+    if hurt <= 5 {
+        damage(&mut rng, &mut policy, false);
+    }
+    if hurt >= 5 {
+        damage(&mut rng, &mut goal, true);
+    }
+    Case { name: format!("damaged case {number}"), policy, goal, rng }
+}
+
+/// The images of a folder, however large.
+pub fn stored(folder: &str) -> Case {
+    let read = |image: &str| {
+        let file = format!("{folder}/{image}");
+        std::fs::read(&file).unwrap_or_else(|why| panic!("{file} cannot be read: {why}"))
+    };
+    Case { name: folder.to_string(), policy: read("policy.img"), goal: read("goal.img"), rng: Rng(3) }
+}

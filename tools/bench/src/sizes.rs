@@ -1,0 +1,175 @@
+//! The images that are measured, made from fixed seeds. Each has as many allow records as its size says; the rest of its
+//! records make as many types domains, held by every role, as there is room for.
+use second_search::gen::Rng;
+use second_search::goal::{Goal, Item, GAMMA};
+use second_search::policy::{Policy, Record};
+
+/// The permissions that each allow record has.
+#[derive(Clone, Copy, PartialEq, Eq)]
+pub enum Masks {
+    OneBit,
+    All,
+}
+
+#[derive(Clone, Copy, PartialEq, Eq)]
+pub enum Goals {
+    /// No path reaches the end, and every context that may be is reached.
+    Holds,
+    /// Types in a line, with every other allow leading back: the only way to the end is all the way.
+    LongPath,
+}
+
+#[derive(Clone, Copy)]
+pub struct Size {
+    pub types: u32,
+    pub roles: u32,
+    pub users: u32,
+    pub classes: u32,
+    pub allows: u32,
+    pub legs: usize,
+    pub constraints: u32,
+    pub masks: Masks,
+    pub goal: Goals,
+}
+
+const MOST_RECORDS: u32 = 4095;
+/// A constraint is two leaves and the node that joins them, and itself.
+const RECORDS_OF_A_CONSTRAINT: u32 = 4;
+
+impl Size {
+    pub fn nodes(&self) -> usize {
+        ((self.types * self.roles * self.users) << self.legs) as usize
+    }
+    fn frame_records(&self) -> u32 {
+        3 * self.classes + self.users * (self.roles - 1) + RECORDS_OF_A_CONSTRAINT * self.constraints
+    }
+    fn domains(&self) -> u32 {
+        let room = MOST_RECORDS - self.allows - self.frame_records();
+        (room / (1 + self.roles)).min(self.types - 1)
+    }
+    pub fn images(&self, seed: u64) -> (Vec<u8>, Vec<u8>) {
+        let mut maker = Maker { size: *self, rng: Rng(seed), records: vec![] };
+        maker.frame();
+        match self.goal {
+            Goals::Holds => maker.all_reached(),
+            Goals::LongPath => maker.line(),
+        }
+        let Size { types, roles, users, classes, .. } = *self;
+        let goal = maker.goal().encode();
+        (Policy { types, roles, users, classes, records: maker.records }.encode(), goal)
+    }
+}
+
+struct Maker {
+    size: Size,
+    rng: Rng,
+    records: Vec<Record>,
+}
+
+/// Even permissions are write-like and odd ones read-like.
+const WRITES: u32 = 0x5555_5555;
+
+impl Maker {
+    /// Domains are spread evenly over the types.
+    fn is_domain(&self, t: u32) -> bool {
+        let (types, domains) = (self.size.types, self.size.domains());
+        t * domains / types != (t - 1) * domains / types
+    }
+    fn add(&mut self, kind: u8, a: u32, b: u32, c: u32, mask: u32) {
+        self.records.push(Record::new(kind, a, b, c, mask));
+    }
+
+    fn frame(&mut self) {
+        let Size { types, roles, users, classes, .. } = self.size;
+        for t in (1..=types).filter(|&t| self.is_domain(t)).collect::<Vec<_>>() {
+            self.add(1, t, 0, 0, 0);
+            (1..=roles).for_each(|r| self.add(5, r, t, 0, 0));
+        }
+        for u in 1..=users {
+            (2..=roles).for_each(|r| self.add(6, u, r, 0, 0));
+        }
+        for c in 1..=classes {
+            self.add(2, c, 0, 0, u32::MAX);
+            self.add(3, c, 1, 0, WRITES);
+            self.add(3, c, 2, 0, !WRITES);
+        }
+        for k in 0..self.size.constraints {
+            // on one class each: the same user, or the first role
+            let at = self.records.len();
+            self.records.push(Record::node(6, 0, 0, 0));
+            self.records.push(Record::node(9, 1, 0, 0));
+            self.records.push(Record::node(3, 0, at + 1, at + 2));
+            self.records.push(Record::constraint(k % classes + 1, u32::MAX, at + 3));
+        }
+    }
+
+    /// An allow that lets information go from one type to the other, where one of them is a domain; a class and permissions at
+    /// random. With one bit the direction is that of the bit, with all bits there is flow both ways.
+    fn allow(&mut self, from: u32, to: u32) {
+        let class = self.rng.range(1, self.size.classes);
+        // permission 0 of class 1 is the transition, which asks for more
+        let bit = 2 * self.rng.range(1, 15);
+        let (source, target, bit) = if self.is_domain(from) { (from, to, bit) } else { (to, from, bit + 1) };
+        let mask = if self.size.masks == Masks::OneBit { 1 << bit } else { u32::MAX };
+        self.add(4, source, target, class, mask);
+    }
+    fn domain_near(&self, t: u32) -> u32 {
+        (t..=self.size.types).chain(1..t).find(|&d| self.is_domain(d)).expect("a domain")
+    }
+
+    /// Every type but the last is reached from every other; nothing reaches the last.
+    fn all_reached(&mut self) {
+        let before = self.records.len();
+        let end = self.size.types - 1;
+        for t in 1..=end {
+            let (here, next) = (self.domain_near(t).min(end), self.domain_near(t % end + 1));
+            match self.is_domain(t) {
+                true => self.allow(t, next),
+                false => {
+                    self.allow(here, t);
+                    self.allow(t, next);
+                }
+            }
+        }
+        while self.records.len() - before < self.size.allows as usize {
+            let (from, to) = (self.rng.range(1, end), self.rng.range(1, end));
+            if self.is_domain(from) || self.is_domain(to) {
+                self.allow(from, to);
+            }
+        }
+        self.records.truncate(before + self.size.allows as usize);
+    }
+
+    /// Type t leads to t + 1, and every other allow to a lower type. One bit in each mask: two would lead both ways.
+    fn line(&mut self) {
+        let before = self.records.len();
+        for t in 1..self.size.types {
+            self.allow(t, t + 1);
+        }
+        while self.records.len() - before < self.size.allows as usize {
+            let (a, b) = (self.rng.range(1, self.size.types), self.rng.range(1, self.size.types));
+            if self.is_domain(a) || self.is_domain(b) {
+                self.allow(a.max(b), a.min(b));
+            }
+        }
+    }
+
+    fn goal(&mut self) -> Goal {
+        let Size { types, classes, legs, goal, .. } = self.size;
+        let mut items = vec![(0, Item::Sigma { t: 1, r: 0, u: 0 }), (legs, Item::Sigma { t: types, r: 0, u: 0 })];
+        // with a long path the set before the end stays empty, so that the path breaks order, or events where there is one leg
+        let inner = if goal == Goals::Holds { legs } else { legs - 1 };
+        for i in 1..inner {
+            for _ in 0..types / 8 {
+                items.push((i, Item::Sigma { t: self.rng.range(1, types - 1), r: 0, u: 0 }));
+            }
+        }
+        for i in 0..if goal == Goals::Holds || legs > 1 { legs } else { 0 } {
+            for c in 1..=classes.min(8) {
+                items.push((GAMMA + i, Item::Gamma { c, mask: self.rng.next() as u32 | self.rng.next() as u32 }));
+            }
+        }
+        items.truncate(255);
+        Goal { n: legs, flags: (1 << legs) - 1, items }
+    }
+}
