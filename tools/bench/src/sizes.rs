@@ -113,8 +113,9 @@ impl Maker {
         let mask = if self.size.masks == Masks::OneBit { 1 << bit } else { u32::MAX };
         self.add(4, source, target, class, mask);
     }
+    /// The next domain from t on, round the types but the last.
     fn domain_near(&self, t: u32) -> u32 {
-        (t..=self.size.types).chain(1..t).find(|&d| self.is_domain(d)).expect("a domain")
+        (t..self.size.types).chain(1..t).find(|&d| self.is_domain(d)).expect("a domain")
     }
 
     /// Every type but the last is reached from every other; nothing reaches the last.
@@ -122,7 +123,7 @@ impl Maker {
         let before = self.records.len();
         let end = self.size.types - 1;
         for t in 1..=end {
-            let (here, next) = (self.domain_near(t).min(end), self.domain_near(t % end + 1));
+            let (here, next) = (self.domain_near(t), self.domain_near(t % end + 1));
             match self.is_domain(t) {
                 true => self.allow(t, next),
                 false => {
@@ -140,11 +141,22 @@ impl Maker {
         self.records.truncate(before + self.size.allows as usize);
     }
 
-    /// Type t leads to t + 1, and every other allow to a lower type. One bit in each mask: two would lead both ways.
+    /// The types of the line, from the first to the last, which is a domain: of two that follow each other one is.
+    fn stops(&self) -> Vec<u32> {
+        let mut stops = vec![1];
+        for t in 2..=self.size.types {
+            if self.is_domain(t) || self.is_domain(*stops.last().expect("a stop")) {
+                stops.push(t);
+            }
+        }
+        stops
+    }
+
+    /// Each stop leads to the next, and every other allow to a lower type. One bit in each mask: two would lead both ways.
     fn line(&mut self) {
         let before = self.records.len();
-        for t in 1..self.size.types {
-            self.allow(t, t + 1);
+        for pair in self.stops().windows(2) {
+            self.allow(pair[0], pair[1]);
         }
         while self.records.len() - before < self.size.allows as usize {
             let (a, b) = (self.rng.range(1, self.size.types), self.rng.range(1, self.size.types));
