@@ -8,3 +8,4 @@ pub mod Tasks
 pub mod Found
 pub mod Seeds
 pub mod Path
+pub mod Memory
