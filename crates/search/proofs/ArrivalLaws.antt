@@ -27,6 +27,7 @@ use Rattle.paths.specs.Model.{Model}
 use Rattle.paths.proofs.StageLaws.{one-shl}
 use Rattle.goal_model.specs.Images.{held, model}
 use Rattle.plan.specs.Plan.{contextsAt, Planned}
+use Rattle.steps.specs.declared.nearest.Asker.{Asker}
 use Rattle.steps.specs.declared.nearest.Offer.{Offer}
 use Rattle.steps.specs.Nearest.{Cursor}
 use Rattle.steps.specs.Steps.{NextOffer}
@@ -37,7 +38,7 @@ use Rattle.search.specs.declared.monitor.Mode.{Mode}
 use Rattle.search.specs.Nodes.{watchOf, codeAt}
 use Rattle.search.specs.Watching.{LegsOf, Into, By, Stepped, Judged}
 use Rattle.search.specs.Arrivals.{GivenGoal, States, Entered, Ended, Broke, Arrived, Lands, Arriving}
-use Rattle.search.specs.Blocks.{FirstStep}
+use Rattle.search.specs.Blocks.{Asks, FirstStep}
 use Rattle.search.proofs.ModelLaws.{to-true, of-true}
 
 -- a cursor is one for later steps too
@@ -144,32 +145,45 @@ arriving {g} {n} {l} {m} {state} {by} {into} {y} r G h S st a =
     }
 
 -- ---- the first step
-module _ {s g : List ℕ} {n : Counts} {plan : List ℕ} {x : Context} (P : Planned s g n plan) {y : ℕ} (h : y < contextCount n) (q : x ≡ contextAtIndex n y) where
-  none-ahead : {group entry : ℕ} → ((i : ℕ) (z : Context) → contextIn (goalOf g) σe x ≡ false → flow (policyOf s) (eventOf i) x z ≡ true → ⊥)
-      → FirstStep (policyOf s) (goalOf g) plan x (record { group = group; entry = entry; at = 4194304 })
-  none-ahead k = record { high = omega arith; ahead = λ l. absurd (omega arith); none = λ i z _ _ f t. k i z f t }
+module _ {s g : List ℕ} {n : Counts} {plan : List ℕ} (P : Planned s g n plan) {y : ℕ} (h : y < contextCount n) where
+  excepted : bit (contextsAt plan y % 32768) 13 ≡ contextIn (goalOf g) σe (contextAtIndex n y)
+  excepted = P .goal .contexts y h .at 13
 
-  pub no-step : {group entry : ℕ} {b : Bool} → b ≡ bit (contextsAt plan y % 32768) 13 → b ≡ true
-      → FirstStep (policyOf s) (goalOf g) plan x (record { group = group; entry = entry; at = 4194304 })
-  no-step p t = none-ahead (λ i z f _. clash (sym (sets-at (sym q) (P .goal .contexts y h) .at 13) ∙ sym p ∙ t) f)
+  pub asks-not : {b : Bool} → b ≡ bit (contextsAt plan y % 32768) 13 → b ≡ true → Asks (policyOf s) (goalOf g) (contextAtIndex n y) false
+  asks-not p t =
+      record {
+        free = λ k. absurd (clash k refl);
+        meets = λ k. absurd (clash k refl);
+        never = λ _ f _. clash (sym excepted ∙ sym p ∙ t) f;
+      }
 
-  is-held : held (policyOf s) x ≡ bit (contextsAt plan y) 31
-  is-held = ap (held (policyOf s)) q ∙ sym (P .policy .meets y h)
+  pub asks-if : {b c : Bool} → b ≡ bit (contextsAt plan y % 32768) 13 → b ≡ false → c ≡ bit (contextsAt plan y) 31 → Asks (policyOf s) (goalOf g) (contextAtIndex n y) c
+  asks-if p t q =
+      record {
+        free = λ _. sym excepted ∙ sym p ∙ t;
+        meets = λ k. sym (P .policy .meets y h) ∙ sym q ∙ k;
+        never = λ f _ k. clash k (sym (P .policy .meets y h) ∙ sym q ∙ f);
+      }
 
-  pub not-held : {group entry : ℕ} {b : Bool} → b ≡ bit (contextsAt plan y) 31 → not b ≡ true
-      → FirstStep (policyOf s) (goalOf g) plan x (record { group = group; entry = entry; at = 4194304 })
-  not-held {b = b} p t = none-ahead (λ i z _ f. clash (flow-held (policyOf s) (eventOf i) x z f .0) (is-held ∙ sym p ∙ not-true b t))
+module _ {p : Policy} {g : Goal} {plan swept : List ℕ} {a : Asker} {x : Context} {b : Bool} (A : Asks p g x b) where
+  pub no-step : {group entry : ℕ} → not b ≡ true → FirstStep p g plan swept a x (record { group = group; entry = entry; at = 4194304 })
+  no-step t =
+      record {
+        high = omega arith;
+        ahead = λ l. absurd (omega arith);
+        none = λ i z _ _ f k. absurd (A .never (not-true b t) f (flow-held p (eventOf i) x z k .0));
+      }
 
-  pub some-step : {a b : Bool} {r : Offer} → a ≡ bit (contextsAt plan y % 32768) 13 → a ≡ false → b ≡ bit (contextsAt plan y) 31 → not b ≡ false
-      → NextOffer (policyOf s) plan x 0 r → FirstStep (policyOf s) (goalOf g) plan x r
-  some-step {b = b} p t p′ t′ N =
+  pub some-step : {r : Offer} → not b ≡ false → NextOffer p plan swept a x 0 r → FirstStep p g plan swept a x r
+  some-step t N =
       record {
         high = N .high;
         ahead = λ l. record {
-          free = sym (sets-at (sym q) (P .goal .contexts y h) .at 13) ∙ sym p ∙ t;
-          meets = is-held ∙ sym p′ ∙ not-false b t′;
+          free = A .free (not-false b t);
+          meets = A .meets (not-false b t);
           offering = N .offers l;
+          unclosed = N .unclosed l;
           cursor = later (N .cursor) (omega arith);
         };
-        none = λ i z w l _ f. N .none i z w (omega arith) l f;
+        none = λ i z w l _ k. N .none i z w (omega arith) l k;
       }

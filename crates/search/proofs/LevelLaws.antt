@@ -29,14 +29,13 @@ use Rattle.paths.specs.Model.{Model}
 use Rattle.paths.proofs.Any.{and-T, not-true}
 use Rattle.paths.proofs.Monitor.{Start, Edge}
 use Rattle.goal_model.specs.Images.{inRange, model}
-use Rattle.steps.specs.declared.nearest.Offer.{Offer}
-use Rattle.steps.specs.Steps.{NextOffer}
 use Rattle.search.specs.declared.monitor.Mode.{Mode}
 use Rattle.search.specs.Graph.{Graph, Reach, Chain, Chain.root, Chain.link, Breaks, FoundAt}
 use Rattle.search.specs.State.{Inv, Turn, Clear, Through}
 use Rattle.search.specs.Nodes.{Watch, watchOf, codeAt, placeOf, stateOf, codeOf, StartAt, EdgeAt, EndAt, graph, Bounded}
 use Rattle.search.specs.Arrivals.{LandsOpen, LandsGood, LandsBad}
-use Rattle.search.specs.Blocks.{startOf, Ends, FirstStep}
+use Rattle.search.specs.Blocks.{startOf}
+use Rattle.search.specs.Memory.{typeOf}
 use Rattle.search.specs.Tasks.{Task, graphOf, Stands, Asked, Faced}
 use Rattle.search.proofs.SearchLaws.{pass-to, visited, found, turn-chain, chain-bound}
 use Rattle.search.proofs.NodeLaws.{place-of, state-of}
@@ -130,7 +129,7 @@ module _ {s g : List ℕ} {n : Counts} {l : Legs} (A : Task s g n l) (m : Mode) 
   at-place : {y : ℕ} → y < contextCount n → ContextInRange n (contextAtIndex n y)
   at-place {y} h = at-in-range n y (A .legs .countable .roles) (A .legs .countable .users) h
 
-  same-counts : n ≡ countsOf s
+  pub same-counts : n ≡ countsOf s
   same-counts = A .given .ready .same
 
   pub chain-open : {back : List ℕ} {d u : ℕ} → Chain G back d u → ¬ T (M .σ (M .legs) (codeOf n K u))
@@ -143,17 +142,13 @@ module _ {s g : List ℕ} {n : Counts} {l : Legs} (A : Task s g n l) (m : Mode) 
   C : Countable n
   C = A .legs .countable
 
-  types-few : n .types ≤ 255
+  pub types-few : n .types ≤ 255
   types-few = subst (λ (k : Counts). k .types ≤ 255) (sym same-counts) (A .given .ready .sound .range .types .high)
 
-  -- the type of a node's context
-  abbrev typeOf : ℕ → ℕ
-  typeOf w = contextAtIndex n (placeOf K w) .ty
-
-  type-small : {w : ℕ} → w < G .k → typeOf w < 4096
+  type-small : {w : ℕ} → w < G .k → typeOf g n w < 4096
   type-small {w} lw = let z = at-place (place-lt (pow-pos (M .legs)) lw) .ty .high in omega (arith, types-few)
 
-  few-types : (at : ℕ) → at ≤ 4194304 → (at < 4194304 → at % 4096 ≤ policyOf s .counts .types) → at % 4096 ≤ n .types + 1
+  pub few-types : (at : ℕ) → at ≤ 4194304 → (at < 4194304 → at % 4096 ≤ policyOf s .counts .types) → at % 4096 ≤ n .types + 1
   few-types at h k =
       ⊎-elim (λ (l : 4194304 ≤ at). omega arith)
       (λ (l : at < 4194304). let z : at % 4096 ≤ n .types = subst (λ (c : Counts). at % 4096 ≤ c .types) (sym same-counts) (k l) in omega arith) (split-le 4194304 at)
@@ -247,36 +242,26 @@ module _ {s g : List ℕ} {n : Counts} {l : Legs} (A : Task s g n l) (m : Mode) 
 
       -- the steps from one to below another lead nowhere that is new
       pub step-on : (at to : ℕ) → Turn G back queue head tail stop depth u (at / 4096) (startOf n (at % 4096) * K) → at ≤ to → to % 4096 ≤ n .types + 1
-          → ((i w : ℕ) → w < G .k → at ≤ 4096 * i + typeOf w → 4096 * i + typeOf w < to → Through G back u i w) → Turn G back queue head tail stop depth u (to / 4096) (startOf n (to % 4096) * K)
+          → ((i w : ℕ) → w < G .k → at ≤ 4096 * i + typeOf g n w → 4096 * i + typeOf g n w < to → Through G back u i w) → Turn G back queue head tail stop depth u (to / 4096) (startOf n (to % 4096) * K)
       step-on at to t l few th =
           jump (to / 4096) (startOf n (to % 4096) * K) t (omega arith)
           (λ i w h lw a b. th i w lw (after i w a b) (let z = type-small lw in omega arith))
           (λ w h b.
-          let z : typeOf w < to % 4096 = before w h in
+          let z : typeOf g n w < to % 4096 = before w h in
           th (to / 4096) w (bound w h) (after (to / 4096) w (omega arith) b) (omega arith))
         where
-          after : (i w : ℕ) → at / 4096 ≤ i → (i ≡ at / 4096 → startOf n (at % 4096) * K ≤ w) → at ≤ 4096 * i + typeOf w
+          after : (i w : ℕ) → at / 4096 ≤ i → (i ≡ at / 4096 → startOf n (at % 4096) * K ≤ w) → at ≤ 4096 * i + typeOf g n w
           after i w a b =
               ⊎-elim
-              (λ (q : at / 4096 ≡ i). let z : at % 4096 ≤ typeOf w = type-le C (at % 4096) (placeOf K w) (place-le (pow-pos (M .legs)) (b (sym q))) in omega arith)
+              (λ (q : at / 4096 ≡ i). let z : at % 4096 ≤ typeOf g n w = type-le C (at % 4096) (placeOf K w) (place-le (pow-pos (M .legs)) (b (sym q))) in omega arith)
               (λ (k : at / 4096 < i). omega arith)
               (eq-or-lt-of-le a)
 
-          before : (w : ℕ) → w < startOf n (to % 4096) * K → typeOf w < to % 4096
+          before : (w : ℕ) → w < startOf n (to % 4096) * K → typeOf g n w < to % 4096
           before w h = type-lt C (to % 4096) (placeOf K w) (place-lt (pow-pos (M .legs)) h)
 
           bound : (w : ℕ) → w < startOf n (to % 4096) * K → w < G .k
           bound w h = room (startOf n (to % 4096)) w (start-le C (to % 4096) few) h
-
-      pub first-steps : {plan : List ℕ} {r : Offer} → Turn G back queue head tail stop depth u 0 0 → FirstStep (policyOf s) (goalOf g) plan x r → Turn G back queue head tail stop depth u ((r .at) / 4096) (startOf n ((r .at) % 4096) * K)
-      first-steps {r = r} t F =
-          step-on 0 (r .at) (subst (λ (k : ℕ). Turn G back queue head tail stop depth u 0 k) (sym (ap (λ (i : ℕ). i * n .users * K) (zero-mul (n .roles)) ∙ ap (λ (i : ℕ). i * K) (zero-mul (n .users)) ∙ zero-mul K)) t) (omega arith) (few-types (r .at) (F .high) (λ l. F .ahead l .offering .other .high))
-          (λ i w lw _ h ed. absurd (F .none i _ (range-at lw) h (edge-free ed) (edge-flow lw ed)))
-
-      pub more-steps : {plan : List ℕ} {from : ℕ} {r : Offer} → Turn G back queue head tail stop depth u (from / 4096) (startOf n (from % 4096) * K) → NextOffer (policyOf s) plan x from r → Turn G back queue head tail stop depth u ((r .at) / 4096) (startOf n ((r .at) % 4096) * K)
-      more-steps {from = from} {r = r} t N =
-          step-on from (r .at) t (N .low) (few-types (r .at) (N .high) (λ l. N .offers l .other .high))
-          (λ i w lw a h ed. absurd (N .none i _ (range-at lw) a h (edge-flow lw ed)))
 
       -- the context at place y is no target
       pub not-target : {e y : ℕ} → Turn G back queue head tail stop depth u e (y * K) → y < contextCount n
@@ -286,17 +271,13 @@ module _ {s g : List ℕ} {n : Counts} {l : Legs} (A : Task s g n l) (m : Mode) 
           (λ w lo hi ed. absurd (clash (edge-flow (room (y + 1) w (omega arith) hi) ed) (ap (λ (i : ℕ). flow (policyOf s) (eventOf e) x (contextAtIndex n i)) (place-is e y w lo hi) ∙ f)))
 
       -- the contexts of the step's type are done
-      pub swept : {by end y : ℕ} (at : ℕ) → EventSets (goalOf g) (eventOf (at / 4096)) by → at % 4096 ≤ n .types → Ends n (at % 4096) by end
-          → Turn G back queue head tail stop depth u (at / 4096) (y * K) → y ≡ end → Turn G back queue head tail stop depth u ((at + 1) / 4096) (startOf n ((at + 1) % 4096) * K)
-      swept {by} {end} {y} at E few D t q =
+      pub swept-to : (at : ℕ) → at % 4096 ≤ n .types → Turn G back queue head tail stop depth u (at / 4096) (startOf n (at % 4096 + 1) * K)
+          → Turn G back queue head tail stop depth u ((at + 1) / 4096) (startOf n ((at + 1) % 4096) * K)
+      swept-to at few t =
           let small : n .types ≤ 255 = types-few in
           let e : (at + 1) / 4096 ≡ at / 4096 = omega arith in
           let o : (at + 1) % 4096 ≡ at % 4096 + 1 = omega arith in
-          rw (e, o) (⊎-elim
-          (λ (b : bit by 14 ≡ true).
-          pass-to (startOf n (at % 4096 + 1) * K) t (λ w lo hi ed. absurd (clash (sym (E .at 14) ∙ b) (edge-freeE ed))))
-          (λ (b : bit by 14 ≡ false). subst (λ (k : ℕ). Turn G back queue head tail stop depth u (at / 4096) (k * K)) (q ∙ D .whole b) t)
-          (true-or-false (bit by 14)))
+          rw (e, o) t
 
       -- ---- what an arrival at place y comes to
       module _ {e y : ℕ} (t : Turn G back queue head tail stop depth u e (y * K)) (le : e < 1024) (Q : Asked (goalOf g) x e)

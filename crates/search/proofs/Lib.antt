@@ -4,7 +4,9 @@ pub mod ModelLaws
 pub mod WatchLaws
 pub mod ArrivalLaws
 pub mod TypeLaws
+pub mod KeyLaws
 pub mod LevelLaws
+pub mod MemoryLaws
 pub mod LoopLaws
 pub mod SeedLaws
 pub mod FoundLaws

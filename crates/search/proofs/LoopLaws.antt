@@ -1,15 +1,17 @@
 -- The invariants of the three loops, and how each step of the code keeps them.
 use mathlib.Core.Path.{_≡_, refl, sym, _∙_, ap, subst}
-use mathlib.Core.Bool.{Bool, true, false}
+use mathlib.Core.Bool.{Bool, true, false, not, _||_}
 use mathlib.Core.List.{List}
 use mathlib.Core.Logic.{⊎-elim}
 use Prim.Native.Nat.{ℕ, zero, suc, _+_, _*_, _/_, _%_, _^_, _≤_, _<_}
-use native.Mathlib.Nat.{eq-or-lt-of-le, div-lt-iff-lt-mul, mul-le-mul-right}
+use native.Mathlib.Nat.{eq-or-lt-of-le, div-lt-iff-lt-mul, mul-le-mul-right, zero-mul}
 use native.Mathlib.Omega.{arith}
+use lib.Bits.{bitOr}
 use lib.ListN.{length, getD, set}
 use lib.Pow.{pow-pos}
+use Rattle.base.specs.Bits.{bit}
 use Rattle.policy_image.specs.declared.counts.Counts.{Counts}
-use Rattle.policy_image.specs.Policy.{policyOf}
+use Rattle.policy_image.specs.Policy.{Policy, policyOf}
 use Rattle.context.specs.declared.Context.{Context}
 use Rattle.context.specs.declared.Event.{Event}
 use Rattle.context.specs.Codes.{eventOf}
@@ -18,12 +20,15 @@ use Rattle.context.proofs.PlaceLaws.{at-in-range}
 use Rattle.access.specs.Authorization.{flow}
 use Rattle.goal_image.specs.declared.check.Legs.{Legs}
 use Rattle.goal_image.specs.Layout.{legsOf}
-use Rattle.goal_image.specs.Goal.{Goal, goalOf}
-use Rattle.goal_image.specs.Sets.{EventSets}
+use Rattle.goal_image.specs.Goal.{Goal, goalOf, γe}
+use Rattle.goal_image.specs.Sets.{eventIn, EventSets}
 use Rattle.goal_model.specs.Images.{model}
-use Rattle.plan.specs.Plan.{special, Planned}
+use Rattle.plan.specs.Plan.{eventsAt, special, Planned}
+use Rattle.steps.specs.declared.nearest.Asker.{Asker}
 use Rattle.steps.specs.declared.nearest.Offer.{Offer}
+use Rattle.steps.specs.Nearest.{keyOf, closed}
 use Rattle.steps.specs.Steps.{Offering, NextOffer, Facing}
+use Rattle.steps.proofs.NearestLaws.{key-few}
 use Rattle.search.specs.declared.arrival.Arrival.{Arrival}
 use Rattle.search.specs.declared.arrival.Arrival.the-variants.{Enter, Dropped, Broken}
 use Rattle.search.specs.declared.monitor.Mode.{Mode}
@@ -31,12 +36,14 @@ use Rattle.search.specs.Graph.{Graph, FoundAt, NoneFound}
 use Rattle.search.specs.State.{Inv, Turn}
 use Rattle.search.specs.Nodes.{watchOf, codeAt, placeOf, stateOf}
 use Rattle.search.specs.Arrivals.{States, Lands, LandsOpen, LandsGood, LandsBad, Arriving}
-use Rattle.search.specs.Blocks.{startOf, Ends, Ahead, FirstStep}
+use Rattle.search.specs.Blocks.{startOf, Asks, Ahead, FirstStep}
+use Rattle.search.specs.Memory.{keepsOf, Marks, typeOf, Memory}
 use Rattle.search.specs.Tasks.{Task, graphOf, Stands, Asked, Faced}
 use Rattle.search.proofs.SearchLaws.{enter, take-up, turn-chain, chain-bound, end-turn, nothing}
 use Rattle.search.proofs.ArrivalLaws.{later}
-use Rattle.search.proofs.TypeLaws.{type-is, start-le}
-use Rattle.search.proofs.LevelLaws.{first-steps, more-steps, not-target, swept, dropped, enter-below, entered, seen, broken}
+use Rattle.search.proofs.TypeLaws.{type-is, start-le, start-next}
+use Rattle.search.proofs.LevelLaws.{step-on, few-types, range-at, edge-free, edge-flow, not-target, swept-to, dropped, enter-below, entered, seen, broken}
+use Rattle.search.proofs.MemoryLaws.{AskerOf, memory-keep, passed, memory-swept, memory-spent, state-small}
 
 -- what does not change
 pub record Around (s g : List ℕ) (n : Counts) (l : Legs) (states : ℕ) : Type 0 where
@@ -57,25 +64,29 @@ around {s} {g} {n} {l} {states} A S =
     }
 
 -- in the turn of u, which stands at x: the steps before the offer are done
-pub record Middle (s g : List ℕ) (n : Counts) (plan : List ℕ) (l : Legs) (m : Mode) (states : ℕ) (back queue : List ℕ) (head tail stop depth u : ℕ) (x : Context) (state : ℕ) (o : Offer) : Type 0 where
+pub record Middle (s g : List ℕ) (n : Counts) (plan : List ℕ) (l : Legs) (m : Mode) (states : ℕ) (back queue : List ℕ) (head tail stop depth u : ℕ) (x : Context) (state : ℕ)
+    (swept spent : List ℕ) (a : Asker) (o : Offer) : Type 0 where
   pub fixed : Around s g n l states
   pub planned : Planned s g n plan
+  pub memory : Memory s g n m plan back swept spent
   pub stands : Stands g n u x state
+  pub asker : AskerOf m spent x state a
   pub high : o .at ≤ 4194304
-  pub ahead : o .at < 4194304 → Ahead (policyOf s) (goalOf g) plan x o
+  pub ahead : o .at < 4194304 → Ahead (policyOf s) (goalOf g) plan swept a x o
   pub turn : Turn (graphOf s g n m) back queue head tail stop depth u (o .at / 4096) (startOf n (o .at % 4096) * 2 ^ legsOf g)
 
 -- of the offer, the targets at places below y
-pub record Inner (s g : List ℕ) (n : Counts) (plan : List ℕ) (l : Legs) (m : Mode) (states : ℕ) (back queue : List ℕ) (head tail stop depth u : ℕ) (x : Context) (state : ℕ) (o : Offer)
-    (by : ℕ) (guarded : Bool) (end y : ℕ) : Type 0 where
+pub record Inner (s g : List ℕ) (n : Counts) (plan : List ℕ) (l : Legs) (m : Mode) (states : ℕ) (back queue : List ℕ) (head tail stop depth u : ℕ) (x : Context) (state : ℕ)
+    (swept spent : List ℕ) (a : Asker) (o : Offer) (guarded : Bool) (end y : ℕ) : Type 0 where
   pub fixed : Around s g n l states
   pub planned : Planned s g n plan
+  pub memory : Memory s g n m plan back swept spent
   pub stands : Stands g n u x state
+  pub asker : AskerOf m spent x state a
   pub below : o .at < 4194304
-  pub ahead : Ahead (policyOf s) (goalOf g) plan x o
-  pub sets : EventSets (goalOf g) (eventOf (o .at / 4096)) by
+  pub ahead : Ahead (policyOf s) (goalOf g) plan swept a x o
   pub guards : guarded ≡ special (policyOf s) (eventOf (o .at / 4096))
-  pub ends : Ends n (o .at % 4096) by end
+  pub ends : end ≡ startOf n (o .at % 4096 + 1)
   pub low : startOf n (o .at % 4096) ≤ y
   pub high : y ≤ end
   pub within : end ≤ contextCount n
@@ -105,21 +116,59 @@ stand {s} {g} {n} {l} {states} {x} u R h q =
       at = ap (λ (i : ℕ). u % i) (R .states-are);
     }
 
-pub middle-begin : {s g : List ℕ} {n : Counts} {plan : List ℕ} {l : Legs} {m : Mode} {states : ℕ} {back queue : List ℕ} {head tail stop depth u : ℕ} {x : Context} {state : ℕ} {o : Offer}
-    → Around s g n l states → Planned s g n plan → Inv (graphOf s g n m) back queue head tail stop depth → head < stop → getD queue head 0 ≡ u → Stands g n u x state
-    → FirstStep (policyOf s) (goalOf g) plan x o → Middle s g n plan l m states back queue head tail stop depth u x state o
-middle-begin {s} {g} {n} {plan} {l} {m} {back = back} {queue = queue} {head} {tail} {stop} {depth} R P i h q S F =
+-- ---- the asker
+module _ {s g : List ℕ} {n : Counts} {l : Legs} {states u : ℕ} {x : Context} {state : ℕ} (R : Around s g n l states) (S : Stands g n u x state) where
+  pub own-few : x .ty < 256
+  own-few = omega (arith, S .range .ty .high, subst (λ (c : Counts). c .types ≤ 255) (sym (R .task .given .ready .same)) (R .task .given .ready .sound .range .types .high))
+
+  module _ (m : Mode) {plan : List ℕ} (P : Planned s g n plan) where
+    pub state-few : state < 64
+    state-few = subst (λ (k : ℕ). k < 64) (sym (S .at)) (state-small (R .task) m P u)
+
+    pub asker-of : {spent : List ℕ} {keeps : ℕ} {b : Bool} → keeps ≡ keepsOf m → b ≡ bit (getD spent (x .ty) 0) state
+        → AskerOf m spent x state (record { state = state; keeps = keeps; spent = b })
+    asker-of q e = record { state-is = refl; keeps-are = q; spent-is = e; few = state-few }
+
+pub asks-same : {p : Policy} {g : Goal} {x z : Context} {b : Bool} → x ≡ z → Asks p g z b → Asks p g x b
+asks-same {p} {g} {b = b} q A = subst (λ (v : Context). Asks p g v b) (sym q) A
+
+pub marks-same : {k k′ r : ℕ} {b : Bool} → k ≡ k′ → Marks k b r → Marks k′ b r
+marks-same {r = r} {b} q M = subst (λ (z : ℕ). Marks z b r) q M
+
+pub middle-begin : {s g : List ℕ} {n : Counts} {plan : List ℕ} {l : Legs} {m : Mode} {states : ℕ} {back queue : List ℕ} {head tail stop depth u : ℕ} {x : Context} {state : ℕ}
+    {swept spent : List ℕ} {a : Asker} {o : Offer}
+    → Around s g n l states → Planned s g n plan → Memory s g n m plan back swept spent → Inv (graphOf s g n m) back queue head tail stop depth → head < stop → getD queue head 0 ≡ u
+    → Stands g n u x state → AskerOf m spent x state a → FirstStep (policyOf s) (goalOf g) plan swept a x o
+    → Middle s g n plan l m states back queue head tail stop depth u x state swept spent a o
+middle-begin {s} {g} {n} {plan} {l} {m} {back = back} {queue = queue} {head} {tail} {stop} {depth} {u} {x} {state} {swept} {spent} {a} {o} R P N i h q S Q F =
     record {
       fixed = R;
       planned = P;
+      memory = N;
       stands = S;
+      asker = Q;
       high = F .high;
       ahead = F .ahead;
-      turn = first-steps (R .task) m S (subst (λ (v : ℕ). Turn (graphOf s g n m) back queue head tail stop depth v 0 0) q (take-up i h)) F;
+      turn = step-on A m S 0 (o .at) (subst (λ (k : ℕ). Turn (graphOf s g n m) back queue head tail stop depth u 0 k) (sym zero) start) (omega arith)
+          (few-types A m (o .at) (F .high) (λ k. F .ahead k .offering .other .high))
+          (λ j w lw _ b ed. passed A m P N S lu Q lw ed (F .none j _ (range-at A m S lw) b (edge-free A m S ed) (edge-flow A m S lw ed)));
     }
+  where
+    A : Task s g n l
+    A = R .task
+
+    start : Turn (graphOf s g n m) back queue head tail stop depth u 0 0
+    start = subst (λ (v : ℕ). Turn (graphOf s g n m) back queue head tail stop depth v 0 0) q (take-up i h)
+
+    lu : u < graphOf s g n m .k
+    lu = chain-bound (turn-chain start)
+
+    zero : startOf n 0 * 2 ^ legsOf g ≡ 0
+    zero = ap (λ (i : ℕ). i * n .users * 2 ^ legsOf g) (zero-mul (n .roles)) ∙ ap (λ (i : ℕ). i * 2 ^ legsOf g) (zero-mul (n .users)) ∙ zero-mul (2 ^ legsOf g)
 
 -- ---- numbers of an offer
-module _ {s g : List ℕ} {n : Counts} {plan : List ℕ} {l : Legs} {states : ℕ} {x : Context} {o : Offer} (R : Around s g n l states) (O : Ahead (policyOf s) (goalOf g) plan x o) where
+module _ {s g : List ℕ} {n : Counts} {plan swept : List ℕ} {l : Legs} {states : ℕ} {a : Asker} {x : Context} {o : Offer} (R : Around s g n l states)
+    (O : Ahead (policyOf s) (goalOf g) plan swept a x o) where
   same : n ≡ policyOf s .counts
   same = R .task .given .ready .same
 
@@ -134,56 +183,98 @@ module _ {s g : List ℕ} {n : Counts} {plan : List ℕ} {l : Legs} {states : �
   pub event-few : o .at / 4096 < 1024
   event-few = let h = event-high in omega (arith, subst (λ (c : Counts). c .classes ≤ 31) (sym same) (R .task .given .ready .sound .range .classes .high))
 
+  pub other-few : o .at % 4096 < 256
+  other-few = omega (arith, O .offering .other .high, R .task .given .ready .sound .range .types .high)
+
   pub type-low : 1 ≤ o .at % 4096
   type-low = O .offering .other .low
 
   pub type-high : o .at % 4096 ≤ n .types
   type-high = subst (λ (c : Counts). o .at % 4096 ≤ c .types) (sym same) (O .offering .other .high)
 
-module _ {s g : List ℕ} {n : Counts} {plan : List ℕ} {l : Legs} {m : Mode} {states : ℕ} {back queue : List ℕ} {head tail stop depth u : ℕ} {x : Context} {state : ℕ} {o : Offer} where
-  pub middle-end : Middle s g n plan l m states back queue head tail stop depth u x state o → 4194304 ≤ o .at → Inv (graphOf s g n m) back queue (head + 1) tail stop depth
+module _ {s g : List ℕ} {n : Counts} {plan : List ℕ} {l : Legs} {m : Mode} {states : ℕ} {back queue : List ℕ} {head tail stop depth u : ℕ} {x : Context} {state : ℕ}
+    {swept spent : List ℕ} {a : Asker} {o : Offer} where
+  pub middle-end : Middle s g n plan l m states back queue head tail stop depth u x state swept spent a o → 4194304 ≤ o .at → Inv (graphOf s g n m) back queue (head + 1) tail stop depth
   middle-end I h = end-turn (I .turn) (omega arith)
 
-  pub inner-begin : {by end : ℕ} {guarded : Bool} → Middle s g n plan l m states back queue head tail stop depth u x state o → o .at < 4194304
-      → EventSets (goalOf g) (eventOf (o .at / 4096)) by → guarded ≡ special (policyOf s) (eventOf (o .at / 4096)) → Ends n (o .at % 4096) by end
-      → {y : ℕ} → y ≡ startOf n (o .at % 4096)
-      → Inner s g n plan l m states back queue head tail stop depth u x state o by guarded end y
-  inner-begin I h E G D {y} q =
+  pub middle-spent : {asks : Bool} {mark : ℕ} → Middle s g n plan l m states back queue head tail stop depth u x state swept spent a o → 4194304 ≤ o .at
+      → Asks (policyOf s) (goalOf g) x asks → Marks state asks mark → Memory s g n m plan back swept (set spent (x .ty) (bitOr (getD spent (x .ty) 0) mark))
+  middle-spent I h C R = memory-spent (I .fixed .task) m (I .planned) (I .memory) (I .stands) (chain-bound (turn-chain (I .turn))) (I .asker) (I .turn) h C R
+
+  pub inner-begin : {end : ℕ} {guarded : Bool} → Middle s g n plan l m states back queue head tail stop depth u x state swept spent a o → o .at < 4194304
+      → guarded ≡ special (policyOf s) (eventOf (o .at / 4096)) → end ≡ startOf n (o .at % 4096 + 1) → {y : ℕ} → y ≡ startOf n (o .at % 4096)
+      → Inner s g n plan l m states back queue head tail stop depth u x state swept spent a o guarded end y
+  inner-begin I h G D {y} q =
       record {
         fixed = I .fixed;
         planned = I .planned;
+        memory = I .memory;
         stands = I .stands;
+        asker = I .asker;
         below = h;
         ahead = I .ahead h;
-        sets = E;
         guards = G;
         ends = D;
         low = omega arith;
-        high = omega (arith, D .low);
-        within = omega (arith, D .high, start-le (I .fixed .task .legs .countable) (o .at % 4096 + 1) (let z = type-high (I .fixed) (I .ahead h) in omega arith));
+        high = omega (arith, start-next (I .fixed .task .legs .countable) (o .at % 4096));
+        within = omega (arith, start-le (I .fixed .task .legs .countable) (o .at % 4096 + 1) (let z = type-high (I .fixed) (I .ahead h) in omega arith));
         turn = rw q (I .turn);
       }
 
-  module _ {by end y : ℕ} {guarded : Bool} (I : Inner s g n plan l m states back queue head tail stop depth u x state o by guarded end y) where
-    pub inner-end : {r : Offer} → end ≤ y → NextOffer (policyOf s) plan x (o .at + 1) r → Middle s g n plan l m states back queue head tail stop depth u x state r
-    inner-end {r} h N =
+  module _ {end y : ℕ} {guarded : Bool} (I : Inner s g n plan l m states back queue head tail stop depth u x state swept spent a o guarded end y) where
+    all-done : end ≤ y → Turn (graphOf s g n m) back queue head tail stop depth u (o .at / 4096) (startOf n (o .at % 4096 + 1) * 2 ^ legsOf g)
+    all-done h = subst (λ (k : ℕ). Turn (graphOf s g n m) back queue head tail stop depth u (o .at / 4096) (k * 2 ^ legsOf g)) (let q : y ≡ startOf n (o .at % 4096 + 1) = omega (arith, I .high, I .ends) in q) (I .turn)
+
+    node-in : u < graphOf s g n m .k
+    node-in = chain-bound (turn-chain (I .turn))
+
+    pub inner-key : {k : ℕ} → k ≡ keyOf a (eventsAt plan (o .at / 4096)) → k < 64
+    inner-key q = subst (λ (i : ℕ). i < 64) (sym q) (key-few a (eventsAt plan (o .at / 4096)) (I .asker .few))
+
+    pub inner-swept : {mark : ℕ} → end ≤ y → Marks (keyOf a (eventsAt plan (o .at / 4096))) (not guarded) mark
+        → Memory s g n m plan back (set swept (o .at % 4096) (bitOr (getD swept (o .at % 4096) 0) mark)) spent
+    inner-swept h R = memory-swept (I .fixed .task) m (I .planned) (I .memory) (I .stands) node-in (I .asker) (I .ahead) (all-done h) (I .guards) R
+
+    pub inner-end : {swept′ : List ℕ} {r : Offer} → end ≤ y → Memory s g n m plan back swept′ spent → NextOffer (policyOf s) plan swept′ a x (o .at + 1) r
+        → Middle s g n plan l m states back queue head tail stop depth u x state swept′ spent a r
+    inner-end {r = r} h N O =
         record {
           fixed = I .fixed;
           planned = I .planned;
+          memory = N;
           stands = I .stands;
-          high = N .high;
-          ahead = λ k. record { free = I .ahead .free; meets = I .ahead .meets; offering = N .offers k; cursor = later (N .cursor) (N .low) };
-          turn = more-steps (I .fixed .task) m (I .stands)
-              (swept (I .fixed .task) m (I .stands) (o .at) (I .sets) (type-high (I .fixed) (I .ahead)) (I .ends) (I .turn) (let q : y ≡ end = omega (arith, I .high) in q)) N;
+          asker = I .asker;
+          high = O .high;
+          ahead = λ k. record { free = I .ahead .free; meets = I .ahead .meets; offering = O .offers k; unclosed = O .unclosed k; cursor = later (O .cursor) (O .low) };
+          turn = step-on A m (I .stands) (o .at + 1) (r .at) (swept-to A m (I .stands) (o .at) (type-high (I .fixed) (I .ahead)) (all-done h)) (O .low)
+              (few-types A m (r .at) (O .high) (λ k. O .offers k .other .high))
+              (λ j w lw d b ed. passed A m (I .planned) N (I .stands) node-in (I .asker) lw ed (O .none j _ (range-at A m (I .stands) lw) d b (edge-flow A m (I .stands) lw ed)));
         }
+      where
+        A : Task s g n l
+        A = I .fixed .task
+
+    -- the event's sets
+    pub sets-at : EventSets (goalOf g) (eventOf (o .at / 4096)) (eventsAt plan (o .at / 4096))
+    sets-at = I .planned .goal .events (o .at / 4096) (event-low (I .fixed) (I .ahead)) (event-high (I .fixed) (I .ahead))
+
+    not-excepted : eventIn (goalOf g) γe (eventOf (o .at / 4096)) ≡ false
+    not-excepted = sym (sets-at .at 14) ∙ first-false (bit (eventsAt plan (o .at / 4096)) 14) _ (I .ahead .unclosed)
+      where
+        first-false : (b c : Bool) → (b || c) ≡ false → b ≡ false
+        first-false true c h = h
+        first-false false c h = refl
 
     module _ (h : y < end) where
       pub inner-place : y < contextCount n
       inner-place = omega (arith, I .within)
 
+      pub inner-fits : y + 1 < 2 ^ 32
+      inner-fits = omega (arith, inner-place, I .fixed .fewer)
+
       pub inner-facing : Facing (policyOf s) plan x (o .at / 4096) (contextAtIndex n y .ty) (o .entry) guarded
       inner-facing =
-          let t : contextAtIndex n y .ty ≡ o .at % 4096 = type-is (I .fixed .task .legs .countable) (o .at % 4096) y (I .low) (omega (arith, I .ends .high)) in
+          let t : contextAtIndex n y .ty ≡ o .at % 4096 = type-is (I .fixed .task .legs .countable) (o .at % 4096) y (I .low) (omega (arith, I .ends)) in
           record {
             meets = I .ahead .meets;
             offering = subst (λ (k : ℕ). Offering (policyOf s) plan (x .ty) (o .at / 4096) k (o .entry)) (sym t) (I .ahead .offering);
@@ -198,12 +289,12 @@ module _ {s g : List ℕ} {n : Counts} {plan : List ℕ} {l : Legs} {m : Mode} {
           → Turn (graphOf s g n m) back queue head tail stop depth u (o .at / 4096) ((y + 1) * 2 ^ legsOf g)
       inner-skip p f = not-target (I .fixed .task) m (I .stands) (I .turn) inner-place (sym p ∙ f)
 
-      module _ {r : Arrival} {b : Bool} (p : b ≡ flow (policyOf s) (eventOf (o .at / 4096)) x (contextAtIndex n y)) (t : b ≡ true) (Z : Arriving g n l m state by y r) where
+      module _ {r : Arrival} {b : Bool} (p : b ≡ flow (policyOf s) (eventOf (o .at / 4096)) x (contextAtIndex n y)) (t : b ≡ true) (Z : Arriving g n l m state (eventsAt plan (o .at / 4096)) y r) where
         faced : Faced (policyOf s) (goalOf g) n x (o .at / 4096) y
         faced =
             record {
               high = let k = inner-place in omega arith;
-              free = λ _. sym (I .sets .at 14) ∙ I .ends .free (omega (arith, I .low));
+              free = λ _. not-excepted;
               flows = λ _. sym p ∙ t;
             }
 
@@ -211,7 +302,7 @@ module _ {s g : List ℕ} {n : Counts} {plan : List ℕ} {l : Legs} {m : Mode} {
         goes = watchOf m (model s g) .step state (o .at / 4096) (codeAt n y)
 
         lands : Lands (model s g) n (watchOf m (model s g)) y goes r
-        lands = Z .at s (o .at / 4096) (I .sets)
+        lands = Z .at s (o .at / 4096) sets-at
 
         open-at : {v : ℕ} → r ≡ Enter v → LandsOpen (model s g) n (watchOf m (model s g)) y goes v
         open-at q = subst (Lands (model s g) n (watchOf m (model s g)) y goes) q lands
@@ -241,16 +332,18 @@ module _ {s g : List ℕ} {n : Counts} {plan : List ℕ} {l : Legs} {m : Mode} {
         pub inner-broken : {v : ℕ} → r ≡ Broken v → FoundAt (graphOf s g n m) back u (o .at / 4096) v depth
         inner-broken q = broken (I .fixed .task) m (I .stands) (I .turn) few asked faced inner-place (bad-at q)
 
-      pub inner-next : {back′ queue′ : List ℕ} {tail′ : ℕ} → Turn (graphOf s g n m) back′ queue′ head tail′ stop depth u (o .at / 4096) ((y + 1) * 2 ^ legsOf g)
-          → Inner s g n plan l m states back′ queue′ head tail′ stop depth u x state o by guarded end (y + 1)
-      inner-next t =
+      pub inner-next : {back′ queue′ : List ℕ} {tail′ : ℕ} → Memory s g n m plan back′ swept spent
+          → Turn (graphOf s g n m) back′ queue′ head tail′ stop depth u (o .at / 4096) ((y + 1) * 2 ^ legsOf g)
+          → Inner s g n plan l m states back′ queue′ head tail′ stop depth u x state swept spent a o guarded end (y + 1)
+      inner-next N t =
           record {
             fixed = I .fixed;
             planned = I .planned;
+            memory = N;
             stands = I .stands;
+            asker = I .asker;
             below = I .below;
             ahead = I .ahead;
-            sets = I .sets;
             guards = I .guards;
             ends = I .ends;
             low = omega (arith, I .low);

@@ -1,15 +1,12 @@
 -- The places of the contexts of a type.
 use mathlib.Core.Path.{_≡_, refl, sym, ap, subst, _∙_}
-use mathlib.Core.Bool.{Bool, true, false}
-use mathlib.Core.Logic.{⊎-elim}
 use Prim.Native.Nat.{ℕ, _+_, _-_, _*_, _/_, _%_, _^_, _≤_, _<_}
 use native.Mathlib.Nat.{div-lt-iff-lt-mul, le-div-iff-mul-le, mul-le-mul-left, mul-le-mul-right, mul-one}
 use native.Mathlib.Omega.{arith}
-use Rattle.base.specs.Bits.{bit}
 use Rattle.policy_image.specs.declared.counts.Counts.{Counts}
 use Rattle.context.specs.Places.{Countable, contextCount, contextAtIndex}
 use Rattle.context.proofs.PlaceLaws.{types-part}
-use Rattle.search.specs.Blocks.{startOf, Ends}
+use Rattle.search.specs.Blocks.{startOf}
 
 module _ {n : Counts} (C : Countable n) where
   pub type-lt : (o y : ℕ) → y < startOf n o → contextAtIndex n y .ty < o
@@ -50,13 +47,3 @@ module _ {n : Counts} (C : Countable n) where
 
   pub start-next : (o : ℕ) → startOf n o ≤ startOf n (o + 1)
   start-next o = let a : o - 1 ≤ o + 1 - 1 = omega arith in mul-le-mul-right (n .users) (mul-le-mul-right (n .roles) a)
-
-  pub ends-none : {o by r : ℕ} {b : Bool} → b ≡ bit by 14 → b ≡ true → r ≡ startOf n o → Ends n o by r
-  ends-none {o} {by} {r} {b} p t q =
-      let k = start-next o in
-      record { low = omega arith; high = omega arith; whole = λ f. absurd (let z : _≡_ {A = ℕ} 0 1 = cc in omega arith); free = λ l. absurd (omega arith) }
-
-  pub ends-all : {o by r : ℕ} {b : Bool} → b ≡ bit by 14 → b ≡ false → r ≡ startOf n (o + 1) → Ends n o by r
-  ends-all {o} {by} {r} {b} p t q =
-      let k = start-next o in
-      record { low = omega arith; high = omega arith; whole = λ f. q; free = λ l. sym p ∙ t }

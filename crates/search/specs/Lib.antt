@@ -7,3 +7,4 @@ pub mod Arrivals
 pub mod Tasks
 pub mod Found
 pub mod Seeds
+pub mod Memory

@@ -7,17 +7,18 @@ use context::Context;
 use goal_image::check::Legs;
 use plan::regions::CONTEXTS;
 use policy_image::counts::Counts;
+use steps::nearest::Asker;
 use steps::nearest::NONE;
 use steps::nearest::Offer;
 use steps::offers::first_offer;
-ghost use mathlib.Core.Path.{_≡_};
 ghost use Prim.Native.Nat.{suc, _+_, _*_, _^_, _≤_, _<_};
 ghost use Rattle.policy_image.specs.Policy.{policyOf};
+ghost use Rattle.context.specs.Ranges.{ContextInRange};
 ghost use Rattle.context.specs.Places.{contextCount, contextAtIndex};
 ghost use Rattle.goal_image.specs.Goal.{goalOf};
 ghost use Rattle.plan.specs.Plan.{GoalPlan, Planned};
 ghost use Rattle.search.specs.Arrivals.{Given, GivenGoal, States, Arrived, Arriving};
-ghost use Rattle.search.specs.Blocks.{FirstStep};
+ghost use Rattle.search.specs.Blocks.{Asks, FirstStep};
 
 // A node to enter, by its number; an end that breaks nothing; or an end that breaks what is looked for.
 pub enum Arrival {
@@ -67,33 +68,39 @@ pub fn arrive(
     land(mode, legs, into, y, step_state(mode, legs, state, by, into))
 }
 
-// The first step to ask from x, which stands at place y: none where x is in σe, or does not meet ρ and μ.
+// Whether steps from the context at place y are asked at all: it is not in σe, and meets ρ and μ.
+pub fn is_asked(policy: &[u8], goal: &[u8], counts: Counts, plan: &[u32], y: u32) -> bool
+    requires { ⌜ Planned (now policy) (now goal) counts (now plan) × (y < contextCount counts) ⌝ }
+    ensures { λ r. ⌜ Asks (policyOf (now (policy .entry))) (goalOf (now (goal .entry))) (contextAtIndex counts y) r ⌝ }
+{
+    let at = CONTEXTS + (y as usize);
+    let known = plan[at];
+    if has_bit(known % 32768, 13) {
+        return false;
+    }
+    has_bit(known, 31)
+}
+
+// The first step to ask from x that is not closed.
 pub fn first_step(
     policy: &[u8],
     goal: &[u8],
     counts: Counts,
     plan: &[u32],
+    swept: &[u64; 256],
+    a: Asker,
     x: Context,
-    y: u32,
+    asks: bool,
 ) -> Offer
-    requires { ⌜ Given (now policy) (now goal) counts × Planned (now policy) (now goal) counts (now plan) × (y < contextCount counts) × (x ≡ contextAtIndex counts y) ⌝ }
-    ensures { λ r. ⌜ FirstStep (policyOf (now (policy .entry))) (goalOf (now (goal .entry))) (now (plan .entry)) x r ⌝ }
+    requires { ⌜ (a .state < 64) × Given (now policy) (now goal) counts × Planned (now policy) (now goal) counts (now plan) × ContextInRange counts x × Asks (policyOf (now policy)) (goalOf (now goal)) x asks ⌝ }
+    ensures { λ r. ⌜ FirstStep (policyOf (now (policy .entry))) (goalOf (now (goal .entry))) (now (plan .entry)) (now (swept .entry)) a x r ⌝ }
 {
-    let at = CONTEXTS + (y as usize);
-    let known = plan[at];
-    if has_bit(known % 32768, 13) {
+    if !asks {
         return Offer {
             group: 0,
             entry: 0,
             at: NONE,
         };
     }
-    if !has_bit(known, 31) {
-        return Offer {
-            group: 0,
-            entry: 0,
-            at: NONE,
-        };
-    }
-    first_offer(policy, counts, plan, x)
+    first_offer(policy, counts, plan, swept, a, x)
 }

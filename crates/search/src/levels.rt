@@ -2,15 +2,20 @@
 use crate::arrival::Arrival;
 use crate::arrival::arrive;
 use crate::arrival::first_step;
+use crate::arrival::is_asked;
 use crate::arrival::states_of;
+use crate::memory::keeps_of;
+use crate::memory::mark;
 use crate::monitor::Mode;
-use crate::places::end_place;
 use crate::places::first_place;
 use context::Context;
 use goal_image::check::Legs;
 use plan::regions::EVENTS;
 use policy_image::counts::Counts;
+use steps::bits::has_member;
+use steps::nearest::Asker;
 use steps::nearest::NONE;
+use steps::nearest::key_of;
 use steps::offers::next_offer;
 use steps::targets::is_special;
 use steps::targets::is_target;
@@ -28,7 +33,9 @@ pub enum Found {
 }
 
 // The search from the nodes that are seeded. A node's entry of back is 0 while it is not visited, and then one more than the
-// number of the node before it, or a mark for a start.
+// number of the node before it, or a mark for a start. By type, swept has what an event kept of a state when all contexts of the type
+// were entered, and spent the states from which all steps without conditions were taken: a later sweep would only meet nodes that
+// are entered.
 pub fn search_levels(
     policy: &[u8],
     goal: &[u8],
@@ -44,6 +51,9 @@ pub fn search_levels(
     ensures { λ r. ⌜ Searched (graphOf (now (policy .entry)) (now (goal .entry)) counts mode) (now (back .exit)) r ⌝ }
 {
     let states = states_of(legs);
+    let keeps = keeps_of(mode);
+    let mut swept = [0u64; 256];
+    let mut spent = [0u64; 256];
     let mut tail = seeded;
     let mut head: usize = 0;
     let mut level_end = tail;
@@ -57,15 +67,24 @@ pub fn search_levels(
             level_end = tail;
         }
         let u = queue[head];
-        let x = Context::at(u / states, counts);
+        let place = u / states;
         let state = u % states;
-        let mut offer = first_step(policy, goal, counts, plan, x, u / states);
+        let x = Context::at(place, counts);
+        let own = x.ty as usize;
+        let asks = is_asked(policy, goal, counts, plan, place);
+        let is_spent = has_member(spent[own], state);
+        let a = Asker {
+            state: state,
+            keeps: keeps,
+            spent: is_spent,
+        };
+        let mut offer = first_step(policy, goal, counts, plan, &swept, a, x, asks);
         while offer.at < NONE {
             let e = offer.at / 4096;
             let ty = offer.at % 4096;
             let by = plan[EVENTS + (e as usize)];
             let guarded = is_special(policy, counts, plan, e);
-            let end = end_place(counts, ty, by);
+            let end = first_place(counts, ty + 1);
             let mut y = first_place(counts, ty);
             while y < end {
                 if is_target(policy, counts, plan, x, e, offer.entry, guarded, y) {
@@ -86,8 +105,20 @@ pub fn search_levels(
                 }
                 y += 1;
             }
-            offer = next_offer(policy, counts, plan, x, offer.group, offer.at + 1);
+            let other = ty as usize;
+            swept[other] = swept[other] | mark(key_of(a, by), !guarded);
+            offer = next_offer(
+                policy,
+                counts,
+                plan,
+                &swept,
+                a,
+                x,
+                offer.group,
+                offer.at + 1,
+            );
         }
+        spent[own] = spent[own] | mark(state, asks);
         head += 1;
     }
 }

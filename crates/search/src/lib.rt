@@ -1,6 +1,7 @@
 // The search of a goal's nodes, each a context and a monitor's state, level by level.
 pub mod arrival;
 pub mod levels;
+pub mod memory;
 pub mod monitor;
 pub mod places;
 pub mod seed;

@@ -9,7 +9,7 @@ use borrow.Author.Tests.{eqb-true, not-true, not-false}
 use lib.Dec.{eqb}
 use Rattle.base.specs.Bits.{bit}
 use Rattle.base.specs.Ranges.{Within}
-use Rattle.base.proofs.UptoLaws.{or-cases, or-left, and-first, and-second, true-or-false}
+use Rattle.base.proofs.UptoLaws.{or-cases, or-left, or-true, and-true, and-first, and-second, true-or-false}
 use Rattle.policy_image.specs.Layout.{rootOf}
 use Rattle.policy_image.specs.Policy.{Policy, policyOf}
 use Rattle.policy_image.specs.OfKind.{some}
@@ -132,6 +132,23 @@ module _ (p : Policy) (e : Event) where
   plain-conditions h x y =
       let n = or-both (some p 8 (λ r. constrains r e)) (isTransition e) h in
       ap₂ _&&_ (free x y (n .0)) (ap (λ (b : Bool). not b || roleChange p (x .role) (y .role)) (n .1))
+
+  -- by an event that is not special, what flows from x flows from every context of its type that meets ρ and μ
+  pub plain-same : (x x′ y : Context) → special p e ≡ false → x .ty ≡ x′ .ty → held p x′ ≡ true → flow p e x y ≡ true → flow p e x′ y ≡ true
+  plain-same x x′ y n q h t =
+      flow-by x′ y h (flow-held x y t .1)
+      ∙ ⊎-elim
+      (λ w. or-left (outs && conditions x′ y) (ins && conditions y x′)
+      (and-true outs (conditions x′ y) (and-true (α p (x′ .ty) (y .ty) e) (writeLike p e) (ap (λ (k : ℕ). α p k (y .ty) e) (sym q) ∙ w .0) (w .1)) (plain-conditions n x′ y)))
+      (λ w. or-true (outs && conditions x′ y) (ins && conditions y x′)
+      (and-true ins (conditions y x′) (and-true (α p (y .ty) (x′ .ty) e) (readLike p e) (ap (λ (k : ℕ). α p (y .ty) k e) (sym q) ∙ w .0) (w .1)) (plain-conditions n y x′)))
+      (flow-alpha x y t)
+    where
+      outs : Bool
+      outs = α p (x′ .ty) (y .ty) e && writeLike p e
+
+      ins : Bool
+      ins = α p (y .ty) (x′ .ty) e && readLike p e
 
 -- the class of an event that flows
 pub flow-class : {s : List ℕ} (e : Event) (x y : Context) → Sound s → flow (policyOf s) e x y ≡ true → Within 1 (policyOf s .counts .classes) (e .class)

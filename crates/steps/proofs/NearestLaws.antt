@@ -1,16 +1,22 @@
 -- The nearest step of a block: entry by entry, up to the first of a class whose steps are all farther.
 use mathlib.Core.Path.{_≡_, refl, sym, _∙_, ap, subst}
-use mathlib.Core.Bool.{Bool, true, false}
+use mathlib.Core.Bool.{Bool, true, false, not, _&&_, _||_}
 use mathlib.Core.List.{List}
-use mathlib.Core.Logic.{⊎-elim}
-use Prim.Native.Nat.{ℕ, _+_, _-_, _*_, _/_, _%_, _≤_, _<_}
+use mathlib.Core.Logic.{_⊎_, inl, inr, ⊎-elim}
+use Prim.Native.Nat.{ℕ, _+_, _-_, _*_, _/_, _%_, _^_, _≤_, _<_}
 use native.Mathlib.Nat.{eq-or-lt-of-le}
 use native.Mathlib.Omega.{arith}
+use borrow.Author.Tests.{not-true, not-false}
+use lib.Bits.{bitAnd, bitOr, and-le-l}
+use lib.ListN.{getD}
 use Rattle.base.specs.Bits.{bit}
+use Rattle.base.proofs.BitLaws.{bit-and}
+use Rattle.base.proofs.UptoLaws.{and-true, and-first, or-true, true-or-false}
 use Rattle.base.proofs.Numbers.{split-le, split-eq}
-use Rattle.plan.specs.Plan.{keyAt, outsAt, insAt}
+use Rattle.plan.specs.Plan.{specialAt, keyAt, outsAt, insAt, eventsAt}
+use Rattle.steps.specs.declared.nearest.Asker.{Asker}
 use Rattle.steps.specs.declared.nearest.Offer.{Offer}
-use Rattle.steps.specs.Nearest.{firstStep, maskAt, StepBy, EntryStep, Skipped, Block, Cursor, OfferedAt, Nearest}
+use Rattle.steps.specs.Nearest.{firstStep, maskAt, keyOf, closed, StepBy, EntryStep, OpenStep, AskedMask, Passed, Skipped, Block, Cursor, OfferedAt, Nearest}
 
 pub skip-begin : (plan : List ℕ) (stop a class : ℕ) → a ≤ stop → Skipped plan stop a class a
 skip-begin plan stop a class h = record { low = omega arith; high = h; passed = λ j l k. absurd (omega arith) }
@@ -24,8 +30,69 @@ skip-more {plan} {stop} {a} {class} {j} S h c =
           (λ (d : i ≡ j → ⊥). S .passed i l (omega (arith, d))) (split-eq i j);
     }
 
--- the entries below j are looked at, from start on, and `at` is the nearest step of them, that of `entry`
-pub record Looking (plan : List ℕ) (lo stop from start at entry j : ℕ) : Type 0 where
+-- ---- closed steps
+pub key-few : (a : Asker) (by : ℕ) → a .state < 64 → keyOf a by < 64
+key-few a by h = omega (arith, and-le-l (a .state) (bitOr (a .keeps) (by / 2 ^ 7)))
+
+pub closed-first : (a : Asker) (by done : ℕ) {b : Bool} → b ≡ bit by 14 → b ≡ true → true ≡ closed a by done
+closed-first a by done p t = sym (ap (λ (z : Bool). z || bit done (keyOf a by)) (sym p ∙ t))
+
+pub closed-second : (a : Asker) (by done : ℕ) {b k : Bool} {key : ℕ} → b ≡ bit by 14 → b ≡ false → key ≡ keyOf a by → k ≡ bit done key → k ≡ closed a by done
+closed-second a by done p f e q = q ∙ ap (bit done) e ∙ ap (λ (z : Bool). z || bit done (keyOf a by)) (sym f ∙ p)
+
+-- the steps from `from` on and before `at` are closed
+pub record Opening (plan : List ℕ) (a : Asker) (done k mask from at : ℕ) : Type 0 where
+  pub high : at ≤ 4194304
+  pub by : at < 4194304 → StepBy (firstStep k) mask at
+  pub low : from ≤ at
+  pub least : (q : ℕ) → q < 32 → bit mask q ≡ true → from ≤ firstStep k + 4096 * q
+      → (at ≤ firstStep k + 4096 * q) ⊎ (closed a (eventsAt plan (32 * (k / 4096) + q)) done ≡ true)
+
+-- the event of a step
+event-of : (k q : ℕ) → (firstStep k + 4096 * q) / 4096 ≡ 32 * (k / 4096) + q
+event-of k q = omega arith
+
+module _ {plan : List ℕ} {a : Asker} {done k mask from : ℕ} where
+  pub open-begin : {at : ℕ} → EntryStep k mask from at → Opening plan a done k mask from at
+  open-begin E = record { high = E .high; by = E .by; low = E .low; least = λ q l b f. inl (E .least q l b f) }
+
+  pub open-next : {at to : ℕ} {b : Bool} → Opening plan a done k mask from at → b ≡ closed a (eventsAt plan (at / 4096)) done → not b ≡ false
+      → EntryStep k mask (at + 1) to → Opening plan a done k mask from to
+  open-next {at} {to} {b} O p t E =
+      record {
+        high = E .high;
+        by = E .by;
+        low = omega (arith, O .low, E .low);
+        least = λ q l m f. ⊎-elim
+            (λ (h : at ≤ firstStep k + 4096 * q). ⊎-elim
+            (λ (e : at ≡ firstStep k + 4096 * q). inr (subst (λ (z : ℕ). closed a (eventsAt plan z) done ≡ true) (ap (λ (z : ℕ). z / 4096) e ∙ event-of k q) (sym p ∙ not-false b t)))
+            (λ (g : at < firstStep k + 4096 * q). inl (E .least q l m (omega arith)))
+            (eq-or-lt-of-le h))
+            (λ c. inr c)
+            (O .least q l m f);
+      }
+
+  pub open-stop : {at : ℕ} {b : Bool} → Opening plan a done k mask from at → b ≡ closed a (eventsAt plan (at / 4096)) done → not b ≡ true
+      → OpenStep plan a done k mask from at
+  open-stop {b = b} O p t = record { high = O .high; by = O .by; low = O .low; unclosed = λ _. sym p ∙ not-true b t; least = O .least }
+
+  pub open-end : {at : ℕ} → Opening plan a done k mask from at → 4194304 ≤ at → OpenStep plan a done k mask from at
+  open-end O h = record { high = O .high; by = O .by; low = O .low; unclosed = λ l. absurd (omega arith); least = O .least }
+
+pub asked-all : (plan : List ℕ) (a : Asker) (k mask : ℕ) → AskedMask plan a k mask mask
+asked-all plan a k mask = record { among = λ q b. b; all = λ q b. inl b }
+
+pub asked-special : (plan : List ℕ) (a : Asker) (k mask : ℕ) {m : ℕ} → a .spent ≡ true → m ≡ specialAt plan (k / 4096) → AskedMask plan a k mask (bitAnd mask m)
+asked-special plan a k mask {m} s e =
+    record {
+      among = λ q b. and-first (bit mask q) (bit m q) (sym (bit-and mask m q) ∙ b);
+      all = λ q b. ⊎-elim (λ (t : bit m q ≡ true). inl (bit-and mask m q ∙ and-true (bit mask q) (bit m q) b t))
+          (λ (f : bit m q ≡ false). inr (s, ap (λ (z : ℕ). bit z q) (sym e) ∙ f)) (true-or-false (bit m q));
+    }
+
+-- the entries below j are looked at, from start on, and `at` is the nearest step of them that is not closed, that of `entry`
+pub record Looking (plan swept : List ℕ) (a : Asker) (lo stop from start at entry j : ℕ) : Type 0 where
+  pub few : a .state < 64
   pub block : Block plan lo stop
   pub cursor : Cursor plan lo stop start from
   pub begun : start ≤ j
@@ -34,17 +101,19 @@ pub record Looking (plan : List ℕ) (lo stop from start at entry j : ℕ) : Typ
   pub low : from ≤ at
   pub asked : from ≤ 4194304
   pub offers : at < 4194304 → OfferedAt plan lo stop entry at
+  pub unclosed : at < 4194304 → closed a (eventsAt plan (at / 4096)) (getD swept (at % 4096) 0) ≡ false
   pub least : (i q : ℕ) → lo ≤ i → i < j → q < 32 → bit (maskAt plan i) q ≡ true → from ≤ firstStep (keyAt plan i) + 4096 * q
-      → at ≤ firstStep (keyAt plan i) + 4096 * q
+      → (at ≤ firstStep (keyAt plan i) + 4096 * q) ⊎ Passed plan swept a (32 * (keyAt plan i / 4096) + q) (keyAt plan i % 4096)
 
 -- every step of a class below comes before
 earlier : (k q from : ℕ) → k / 4096 < from / 131072 → q < 32 → firstStep k + 4096 * q < from
 earlier k q from h l = omega arith
 
-pub look-begin : {plan : List ℕ} {lo stop group start from : ℕ} → Block plan lo stop → Cursor plan lo stop group from → from ≤ 4194304
-    → Skipped plan stop group (from / 131072) start → Looking plan lo stop from start 4194304 start start
-look-begin {plan} {lo} {stop} {group} {start} {from} B C h S =
+pub look-begin : {plan : List ℕ} {lo stop group start from : ℕ} (swept : List ℕ) (a : Asker) → a .state < 64 → Block plan lo stop → Cursor plan lo stop group from → from ≤ 4194304
+    → Skipped plan stop group (from / 131072) start → Looking plan swept a lo stop from start 4194304 start start
+look-begin {plan} {lo} {stop} {group} {start} {from} swept a few B C h S =
     record {
+      few = few;
       block = B;
       cursor = record { low = omega (arith, C .low, S .low); high = S .high; passed = passed };
       begun = omega arith;
@@ -53,31 +122,63 @@ look-begin {plan} {lo} {stop} {group} {start} {from} B C h S =
       low = h;
       asked = h;
       offers = λ l. absurd (omega arith);
+      unclosed = λ l. absurd (omega arith);
       least = λ i q l k lq b f. absurd (let z = earlier (keyAt plan i) q from (passed i l k) lq in omega arith);
     }
   where
     passed : (j : ℕ) → lo ≤ j → j < start → keyAt plan j / 4096 < from / 131072
     passed j l k = ⊎-elim (λ (a : group ≤ j). S .passed j a k) (λ (a : j < group). C .passed j l a) (split-le group j)
 
-module _ {plan : List ℕ} {lo stop from start at entry j : ℕ} (L : Looking plan lo stop from start at entry j) where
-  pub look-small : j < stop → keyAt plan j < 131072
-  look-small h = L .block .small j (omega (arith, L .begun, L .cursor .low)) h
+-- the class and the permission of an event
+class-of : (c q : ℕ) → q < 32 → c ≡ (32 * c + q) / 32
+class-of c q h = omega arith
 
-  module _ {s : ℕ} (h : j < stop) (E : EntryStep (keyAt plan j) (maskAt plan j) from s) where
-    both : {at′ : ℕ} → at′ ≤ at → at′ ≤ s → (i q : ℕ) → lo ≤ i → i < j + 1 → q < 32 → bit (maskAt plan i) q ≡ true
-        → from ≤ firstStep (keyAt plan i) + 4096 * q → at′ ≤ firstStep (keyAt plan i) + 4096 * q
-    both {at′} a b i q l k lq x f =
+perm-of : (c q : ℕ) → q < 32 → q ≡ (32 * c + q) % 32
+perm-of c q h = omega arith
+
+module _ {plan swept : List ℕ} {a : Asker} {lo stop from start at entry j : ℕ} (L : Looking plan swept a lo stop from start at entry j) where
+  from-lo : lo ≤ j
+  from-lo = omega (arith, L .begun, L .cursor .low)
+
+  pub look-small : j < stop → keyAt plan j < 131072
+  look-small h = L .block .small j from-lo h
+
+  pub look-other : j < stop → keyAt plan j % 4096 < 256
+  look-other h = L .block .others j from-lo h
+
+  module _ {s m : ℕ} (h : j < stop) (A : AskedMask plan a (keyAt plan j) (maskAt plan j) m) (E : OpenStep plan a (getD swept (keyAt plan j % 4096) 0) (keyAt plan j) m from s) where
+    abbrev k : ℕ
+    k = keyAt plan j
+
+    -- what the entry itself passes over
+    own : (q : ℕ) → q < 32 → bit (maskAt plan j) q ≡ true → from ≤ firstStep k + 4096 * q → (s ≤ firstStep k + 4096 * q) ⊎ Passed plan swept a (32 * (k / 4096) + q) (k % 4096)
+    own q lq x f =
+        ⊎-elim (λ b. ⊎-elim (λ n. inl n) (λ c. inr (inl c)) (E .least q lq b f))
+        (λ w. inr (inr (
+          w .0,
+          subst (λ (z : ℕ). bit (specialAt plan ((32 * (k / 4096) + q) / 32)) z ≡ false) (perm-of (k / 4096) q lq)
+              (subst (λ (z : ℕ). bit (specialAt plan z) q ≡ false) (class-of (k / 4096) q lq) (w .1)),
+        )))
+        (A .all q x)
+
+    both : {to : ℕ} → to ≤ at → to ≤ s → (i q : ℕ) → lo ≤ i → i < j + 1 → q < 32 → bit (maskAt plan i) q ≡ true
+        → from ≤ firstStep (keyAt plan i) + 4096 * q
+        → (to ≤ firstStep (keyAt plan i) + 4096 * q) ⊎ Passed plan swept a (32 * (keyAt plan i / 4096) + q) (keyAt plan i % 4096)
+    both {to} n1 n2 i q l g lq x f =
         ⊎-elim
         (λ (e : i ≡ j).
-        let y : bit (maskAt plan j) q ≡ true = subst (λ (z : ℕ). bit (maskAt plan z) q ≡ true) e x in
-        let g : from ≤ firstStep (keyAt plan j) + 4096 * q = subst (λ (z : ℕ). from ≤ firstStep (keyAt plan z) + 4096 * q) e f in
-        subst (λ (z : ℕ). at′ ≤ firstStep (keyAt plan z) + 4096 * q) (sym e) (let w = E .least q lq y g in omega arith))
-        (λ (d : i ≡ j → ⊥). let w = L .least i q l (omega (arith, d)) lq x f in omega arith)
+        subst (λ (z : ℕ). (to ≤ firstStep (keyAt plan z) + 4096 * q) ⊎ Passed plan swept a (32 * (keyAt plan z / 4096) + q) (keyAt plan z % 4096)) (sym e)
+        (nearer n2 (own q lq (subst (λ (z : ℕ). bit (maskAt plan z) q ≡ true) e x) (subst (λ (z : ℕ). from ≤ firstStep (keyAt plan z) + 4096 * q) e f))))
+        (λ (d : i ≡ j → ⊥). nearer n1 (L .least i q l (omega (arith, d)) lq x f))
         (split-eq i j)
+      where
+        nearer : {t v : ℕ} {X : Type 0} → to ≤ t → (t ≤ v) ⊎ X → (to ≤ v) ⊎ X
+        nearer n w = ⊎-elim (λ r. inl (omega (arith, r))) (λ r. inr r) w
 
-    pub look-nearer : s < at → Looking plan lo stop from start s j (j + 1)
+    pub look-nearer : s < at → Looking plan swept a lo stop from start s j (j + 1)
     look-nearer n =
         record {
+          few = L .few;
           block = L .block;
           cursor = L .cursor;
           begun = omega (arith, L .begun);
@@ -85,13 +186,18 @@ module _ {plan : List ℕ} {lo stop from start at entry j : ℕ} (L : Looking pl
           high = E .high;
           low = E .low;
           asked = L .asked;
-          offers = λ l. record { low = omega (arith, L .begun, L .cursor .low); high = h; by = E .by l };
+          offers = λ l. let b = E .by l in record { low = from-lo; high = h; by = record { perm = b .perm; small = b .small; bears = A .among (b .perm) (b .bears); is = b .is } };
+          unclosed = λ l.
+              let b = E .by l in
+              let i = b .is in
+              subst (λ (z : ℕ). closed a (eventsAt plan (s / 4096)) (getD swept z 0) ≡ false) (let q : keyAt plan j % 4096 ≡ s % 4096 = omega arith in q) (E .unclosed l);
           least = both (omega arith) (omega arith);
         }
 
-    pub look-on : at ≤ s → Looking plan lo stop from start at entry (j + 1)
+    pub look-on : at ≤ s → Looking plan swept a lo stop from start at entry (j + 1)
     look-on n =
         record {
+          few = L .few;
           block = L .block;
           cursor = L .cursor;
           begun = omega (arith, L .begun);
@@ -100,28 +206,30 @@ module _ {plan : List ℕ} {lo stop from start at entry j : ℕ} (L : Looking pl
           low = L .low;
           asked = L .asked;
           offers = L .offers;
+          unclosed = L .unclosed;
           least = both (omega arith) n;
         }
 
   found : ((i q : ℕ) → lo ≤ i → i < stop → q < 32 → bit (maskAt plan i) q ≡ true → from ≤ firstStep (keyAt plan i) + 4096 * q
-      → at ≤ firstStep (keyAt plan i) + 4096 * q) → Nearest plan lo stop from (record { group = start; entry = entry; at = at })
-  found all = record { high = L .high; low = L .low; offers = L .offers; least = all; cursor = L .cursor }
+      → (at ≤ firstStep (keyAt plan i) + 4096 * q) ⊎ Passed plan swept a (32 * (keyAt plan i / 4096) + q) (keyAt plan i % 4096))
+      → Nearest plan swept a lo stop from (record { group = start; entry = entry; at = at })
+  found all = record { high = L .high; low = L .low; offers = L .offers; unclosed = L .unclosed; least = all; cursor = L .cursor }
 
-  pub look-end : stop ≤ j → Nearest plan lo stop from (record { group = start; entry = entry; at = at })
+  pub look-end : stop ≤ j → Nearest plan swept a lo stop from (record { group = start; entry = entry; at = at })
   look-end h = found (λ i q l k. L .least i q l (omega arith))
 
   -- the classes from here on are farther
-  pub look-stop : j < stop → at < 131072 * (keyAt plan j / 4096) → Nearest plan lo stop from (record { group = start; entry = entry; at = at })
+  pub look-stop : j < stop → at < 131072 * (keyAt plan j / 4096) → Nearest plan swept a lo stop from (record { group = start; entry = entry; at = at })
   look-stop h n =
       found (λ i q l k lq x f.
       ⊎-elim
-      (λ (a : j ≤ i). farther i a k q)
-      (λ (a : i < j). L .least i q l a lq x f)
+      (λ (b : j ≤ i). inl (farther i b k q))
+      (λ (b : i < j). L .least i q l b lq x f)
       (split-le j i))
     where
       farther : (i : ℕ) → j ≤ i → i < stop → (q : ℕ) → at ≤ firstStep (keyAt plan i) + 4096 * q
-      farther i a k q =
+      farther i b k q =
           let ordered : keyAt plan j ≤ keyAt plan i =
           ⊎-elim (λ (e : j ≡ i). subst (λ (z : ℕ). keyAt plan j ≤ keyAt plan z) e (omega arith))
-          (λ (m : j < i). let w = L .block .rising j i (omega (arith, L .begun, L .cursor .low)) m k in omega arith) (eq-or-lt-of-le a) in
+          (λ (m : j < i). let w = L .block .rising j i from-lo m k in omega arith) (eq-or-lt-of-le b) in
           omega arith

@@ -26,8 +26,9 @@ use Rattle.access.specs.Authorization.{roleRule, flow}
 use Rattle.index.specs.Index.{Ranged}
 use Rattle.goal_model.specs.Images.{held}
 use Rattle.plan.specs.Plan.{Ready, firstAt, keyAt, outsAt, insAt, special, OfferBlock, EntryOf, PolicyPlan}
+use Rattle.steps.specs.declared.nearest.Asker.{Asker}
 use Rattle.steps.specs.declared.nearest.Offer.{Offer}
-use Rattle.steps.specs.Nearest.{firstStep, maskAt, StepBy, Block, Cursor, OfferedAt, Nearest}
+use Rattle.steps.specs.Nearest.{firstStep, maskAt, StepBy, Passed, Block, Cursor, OfferedAt, Nearest}
 use Rattle.steps.specs.Steps.{Offering, NextOffer, Facing}
 use Rattle.steps.proofs.FlowLaws.{alpha-defined, defined-class, flow-alpha, flow-class, flow-by, plain-conditions, conditions}
 
@@ -57,6 +58,7 @@ module _ {s : List ℕ} {n : Counts} {plan : List ℕ} (R : Ready s n) (P : Poli
         high = block-top h;
         rising = block-of h .rising;
         small = λ j l k. omega (arith, block-of h .ranged j l k .class .high);
+        others = λ j l k. omega (arith, block-of h .ranged j l k .other .high, R .sound .range .types .high);
       }
 
   pub cursor-start : {x : Context} → ContextInRange n x → Cursor plan (firstAt plan (x .ty)) (firstAt plan (x .ty + 1)) (firstAt plan (x .ty)) 0
@@ -130,17 +132,21 @@ module _ {s : List ℕ} {n : Counts} {plan : List ℕ} (R : Ready s n) (P : Poli
         (E .place, E .low, E .high, E .key, bit-or (outsAt plan (E .place)) (insAt plan (E .place)) (i % 32) ∙ or-true (bit (outsAt plan (E .place)) (i % 32)) (bit (insAt plan (E .place)) (i % 32)) b))
         (flow-alpha p (eventOf i) x y t)
 
-    pub next-law : {from : ℕ} {r : Offer} → Nearest plan lo hi from r → NextOffer p plan x from r
-    next-law {from} {r} N =
+    pub next-law : {swept : List ℕ} {a : Asker} {from : ℕ} {r : Offer} → Nearest plan swept a lo hi from r → NextOffer p plan swept a x from r
+    next-law {swept} {a} {from} {r} N =
         record {
           low = N .low;
           high = N .high;
-          none = λ i y w a b t.
+          none = λ i y w b d t.
               let few : y .ty < 4096 = (let z = w .ty .high in omega (arith, R .sound .range .types .high)) in
               let (j, l, k, key, m) = flow-entry i y w t in
               let is : firstStep (keyAt plan j) + 4096 * (i % 32) ≡ 4096 * i + y .ty = omega arith in
-              let z = N .least j (i % 32) l k (omega arith) m (omega arith) in
-              omega arith;
+              let e : 32 * (keyAt plan j / 4096) + i % 32 ≡ i = omega arith in
+              let o : keyAt plan j % 4096 ≡ y .ty = omega arith in
+              ⊎-elim (λ (z : r .at ≤ firstStep (keyAt plan j) + 4096 * (i % 32)). absurd (omega arith))
+              (λ z. subst (λ (v : ℕ). Passed plan swept a i v) o (subst (λ (v : ℕ). Passed plan swept a v (keyAt plan j % 4096)) e z))
+              (N .least j (i % 32) l k (omega arith) m (omega arith));
+          unclosed = N .unclosed;
           offers = λ g.
               let O = N .offers g in
               let q = O .by .small in

@@ -3,6 +3,7 @@ use Prim.Native.Nat.{ℕ, _+_, _*_, _/_, _%_, _≤_, _<_}
 use mathlib.Core.Bool.{Bool, true, false, _&&_}
 use mathlib.Core.List.{List}
 use mathlib.Core.Path.{_≡_}
+use lib.ListN.{getD}
 use Rattle.base.specs.Bits.{bit}
 use Rattle.base.specs.Ranges.{Within}
 use Rattle.policy_image.specs.Policy.{Policy}
@@ -12,9 +13,10 @@ use Rattle.context.specs.Ranges.{ContextInRange}
 use Rattle.relations.specs.Relations.{α, writeLike, readLike}
 use Rattle.access.specs.Authorization.{flow}
 use Rattle.goal_model.specs.Images.{held}
-use Rattle.plan.specs.Plan.{firstAt, outsAt, insAt, special}
+use Rattle.plan.specs.Plan.{firstAt, outsAt, insAt, eventsAt, special}
+use Rattle.steps.specs.declared.nearest.Asker.{Asker}
 use Rattle.steps.specs.declared.nearest.Offer.{Offer}
-use Rattle.steps.specs.Nearest.{maskAt, Cursor}
+use Rattle.steps.specs.Nearest.{maskAt, closed, Passed, Cursor}
 
 -- the entry offers the event from the type t to the type o: what α lets t write and o read
 pub record Offering (p : Policy) (plan : List ℕ) (t e o entry : ℕ) : Type 0 where
@@ -29,13 +31,15 @@ pub record Offering (p : Policy) (plan : List ℕ) (t e o entry : ℕ) : Type 0 
 abbrev pub Resumes : List ℕ → Context → ℕ → ℕ → Type 0
 Resumes plan x group from = (from ≤ 4194304) × Cursor plan (firstAt plan (x .ty)) (firstAt plan (x .ty + 1)) group from
 
--- r is a step from a step on that an entry offers to x's type, or 4194304, and those that it passes over do not flow from x. A step
--- is 4096 * event + the target's type
-pub record NextOffer (p : Policy) (plan : List ℕ) (x : Context) (from : ℕ) (r : Offer) : Type 0 where
+-- r is a step from a step on that an entry offers to x's type and that is not closed, or 4194304, and those that it passes over do not
+-- flow from x, or need not be asked. A step is 4096 * event + the target's type
+pub record NextOffer (p : Policy) (plan swept : List ℕ) (a : Asker) (x : Context) (from : ℕ) (r : Offer) : Type 0 where
   pub low : from ≤ r .at
   pub high : r .at ≤ 4194304
-  pub none : (i : ℕ) (y : Context) → ContextInRange (p .counts) y → from ≤ 4096 * i + y .ty → 4096 * i + y .ty < r .at → flow p (eventOf i) x y ≡ true → ⊥
+  pub none : (i : ℕ) (y : Context) → ContextInRange (p .counts) y → from ≤ 4096 * i + y .ty → 4096 * i + y .ty < r .at → flow p (eventOf i) x y ≡ true
+      → Passed plan swept a i (y .ty)
   pub offers : r .at < 4194304 → Offering p plan (x .ty) (r .at / 4096) (r .at % 4096) (r .entry)
+  pub unclosed : r .at < 4194304 → closed a (eventsAt plan (r .at / 4096)) (getD swept (r .at % 4096) 0) ≡ false
   pub cursor : Cursor plan (firstAt plan (x .ty)) (firstAt plan (x .ty + 1)) (r .group) from
 
 -- x, which meets ρ and μ, faces contexts of the type o by the event: the entry offers it, and c says whether it is special

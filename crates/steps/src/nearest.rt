@@ -1,13 +1,18 @@
 // The nearest step that a block of a plan offers. A step is an event and the type of its target, as one number, 4096 * event + type,
 // so that steps rise by event and then by type.
+use crate::bits::has_member;
 use crate::bits::lowest;
+use base::bits::has_bit;
+use plan::regions::EVENTS;
 use plan::regions::INS;
 use plan::regions::KEYS;
 use plan::regions::OUTS;
+use plan::regions::SPECIAL;
+ghost use mathlib.Core.Path.{_≡_};
 ghost use Prim.Native.Nat.{_/_, _≤_, _<_};
 ghost use lib.Bits.{bitOr};
 ghost use lib.ListN.{length};
-ghost use Rattle.steps.specs.Nearest.{LowestStep, EntryStep, Skipped, Block, Cursor, Nearest};
+ghost use Rattle.steps.specs.Nearest.{keyOf, closed, LowestStep, EntryStep, OpenStep, AskedMask, Skipped, Block, Cursor, Nearest};
 
 // No step: a number above every step's.
 pub const NONE: u32 = 4194304;
@@ -17,6 +22,31 @@ pub struct Offer {
     pub group: usize,
     pub entry: usize,
     pub at: u32,
+}
+
+// Who asks for a step: a state, the bits of it that every event keeps, and whether the steps without conditions are done.
+pub struct Asker {
+    pub state: u32,
+    pub keeps: u32,
+    pub spent: bool,
+}
+
+// What an event in the sets by keeps of the state. Where a step leads depends on that and on the target alone.
+pub fn key_of(a: Asker, by: u32) -> u32
+    ensures { λ r. ⌜ r ≡ keyOf a by ⌝ }
+{
+    a.state & (a.keeps | (by >> 7))
+}
+
+// Whether an event in the sets by needs no asking: it is in γe, or what it keeps of the state is in the set of those that are done.
+fn is_closed(a: Asker, by: u32, done: u64) -> bool
+    requires { ⌜ a .state < 64 ⌝ }
+    ensures { λ r. ⌜ r ≡ closed a by done ⌝ }
+{
+    if has_bit(by, 14) {
+        return true;
+    }
+    has_member(done, key_of(a, by))
 }
 
 // The step by the lowest permission of the mask from perm on; first is the step by permission 0.
@@ -61,10 +91,46 @@ fn skip(plan: &[u32], stop: usize, a: usize, class: u32) -> usize
     j
 }
 
-// The nearest step of a block from a step on. The entries before the group are of earlier classes.
-pub fn nearest(plan: &[u32], lo: usize, stop: usize, group: usize, from: u32) -> Offer
-    requires { ⌜ Block (now plan) lo stop × Cursor (now plan) lo stop group from × (from ≤ 4194304) ⌝ }
-    ensures { λ r. ⌜ Nearest (now (plan .entry)) lo stop from r ⌝ }
+// The nearest step of an entry from a step on that is not closed.
+fn open_step(plan: &[u32], a: Asker, done: u64, key: u32, mask: u32, from: u32) -> u32
+    requires { ⌜ (a .state < 64) × (26112 ≤ length (now plan)) × (key < 131072) × (from ≤ 4194304) ⌝ }
+    ensures { λ r. ⌜ OpenStep (now (plan .entry)) a done key mask from r ⌝ }
+{
+    let mut at = entry_step(key, mask, from);
+    while at < NONE {
+        let e = (at / 4096) as usize;
+        if !is_closed(a, plan[EVENTS + e], done) {
+            return at;
+        }
+        at = entry_step(key, mask, at + 1);
+    }
+    at
+}
+
+// The permissions of an entry that are asked for: only those with conditions where the others are done.
+fn asked_mask(plan: &[u32], a: Asker, key: u32, mask: u32) -> u32
+    requires { ⌜ (26112 ≤ length (now plan)) × (key < 131072) ⌝ }
+    ensures { λ r. ⌜ AskedMask (now (plan .entry)) a key mask r ⌝ }
+{
+    if a.spent {
+        let class = (key / 4096) as usize;
+        return mask & plan[SPECIAL + class];
+    }
+    mask
+}
+
+// The nearest step of a block from a step on that is not closed. The entries before the group are of earlier classes.
+pub fn nearest(
+    plan: &[u32],
+    swept: &[u64; 256],
+    a: Asker,
+    lo: usize,
+    stop: usize,
+    group: usize,
+    from: u32,
+) -> Offer
+    requires { ⌜ (a .state < 64) × Block (now plan) lo stop × Cursor (now plan) lo stop group from × (from ≤ 4194304) ⌝ }
+    ensures { λ r. ⌜ Nearest (now (plan .entry)) (now (swept .entry)) a lo stop from r ⌝ }
 {
     let start = skip(plan, stop, group, from / 131072);
     let mut at = NONE;
@@ -79,7 +145,9 @@ pub fn nearest(plan: &[u32], lo: usize, stop: usize, group: usize, from: u32) ->
                 at: at,
             };
         }
-        let step = entry_step(key, plan[OUTS + j] | plan[INS + j], from);
+        let other = (key % 4096) as usize;
+        let mask = asked_mask(plan, a, key, plan[OUTS + j] | plan[INS + j]);
+        let step = open_step(plan, a, swept[other], key, mask, from);
         if step < at {
             at = step;
             entry = j;

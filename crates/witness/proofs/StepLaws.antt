@@ -1,17 +1,20 @@
 -- Whether an event leads from one node to another, of which some event leads there.
 use mathlib.Core.Path.{_≡_, refl, sym, _∙_, ap, subst, subst₂}
 use mathlib.Core.Bool.{Bool, true, false, not}
-use mathlib.Core.List.{List}
+use mathlib.Core.List.{List, []}
 use mathlib.Core.Logic.{⊎-elim}
 use Prim.Native.Nat.{ℕ, _+_, _*_, _/_, _%_, _^_, _≤_, _<_}
-use native.Mathlib.Nat.{eq-or-lt-of-le}
+use native.Mathlib.Nat.{eq-or-lt-of-le, mod-lt}
 use native.Mathlib.Omega.{arith}
 use native.Mathlib.Decide.{decLt}
 use borrow.Author.Tests.{not-true, not-false, eqb-true, eqb-false}
 use lib.Dec.{T, eqb}
-use lib.Pow.{pow-pos}
+use lib.ListN.{replicate}
+use lib.Pow.{pow-pos, pow-mono}
 use Rattle.base.specs.Bits.{bit}
 use Rattle.base.specs.Decides.{Decides}
+use Rattle.base.proofs.BitLaws.{bit-zero}
+use Rattle.base.proofs.Numbers.{zeros}
 use Rattle.policy_image.specs.declared.counts.Counts.{Counts}
 use Rattle.policy_image.specs.Layout.{countsOf}
 use Rattle.policy_image.specs.Policy.{policyOf}
@@ -27,6 +30,7 @@ use Rattle.goal_image.specs.Goal.{goalOf}
 use Rattle.goal_image.specs.Sets.{EventSets}
 use Rattle.goal_model.specs.Images.{held, model}
 use Rattle.plan.specs.Plan.{firstAt, eventsAt, special, Planned}
+use Rattle.steps.specs.declared.nearest.Asker.{Asker}
 use Rattle.steps.specs.declared.nearest.Offer.{Offer}
 use Rattle.steps.specs.Nearest.{Cursor}
 use Rattle.steps.specs.Steps.{Offering, Facing, NextOffer}
@@ -37,9 +41,12 @@ use Rattle.search.specs.declared.monitor.Mode.{Mode}
 use Rattle.search.specs.Nodes.{watchOf, codeAt, placeOf}
 use Rattle.search.specs.Arrivals.{States, Lands, LandsOpen, LandsGood, LandsBad, Arriving}
 use Rattle.search.specs.Tasks.{Task, Stands, graphOf}
-use Rattle.witness.specs.Links.{Least, Linked, typeOf, OfferedBetween}
+use Rattle.search.specs.Memory.{typeOf, keepsOf}
+use Rattle.witness.specs.Links.{Least, Linked, OfferedBetween}
 use Rattle.search.proofs.ModelLaws.{bounded}
 use Rattle.search.proofs.ArrivalLaws.{clash, later}
+use Rattle.search.proofs.MemoryLaws.{AskerOf, memory-begin}
+use Rattle.search.proofs.MemoryLaws.{passed as remembered}
 use Rattle.search.proofs.LevelLaws.{place-lt, edge-flow, edge-free, edge-freeE, range-at, only-at, edge-at}
 use Rattle.search.proofs.LoopLaws.{Around, around, at-place, stand}
 
@@ -104,10 +111,23 @@ module _ {s g : List ℕ} {n : Counts} {l : Legs} (A : Task s g n l) (m : Mode) 
         place : x ≡ contextAtIndex n (placeOf (2 ^ legsOf g) u)
         place = stand u fixed (L .from) q .place
 
-    -- the steps that are passed over do not lead from u to w
-    pub passed : {plan : List ℕ} {from : ℕ} {r : Offer} → NextOffer (policyOf s) plan x from r → (j : ℕ) → from ≤ 4096 * j + typeOf g n w → 4096 * j + typeOf g n w < r .at
+    -- the steps that are passed over do not lead from u to w: nothing is remembered, so none is passed over for that
+    pub passed : {plan : List ℕ} {a : Asker} {from : ℕ} {r : Offer} → Planned s g n plan → AskerOf m (replicate 256 0) x (u % states) a
+        → NextOffer (policyOf s) plan (replicate 256 0) a x from r → (j : ℕ) → from ≤ 4096 * j + typeOf g n w → 4096 * j + typeOf g n w < r .at
         → graphOf s g n m .Edge u j w → ⊥
-    passed N j lo hi ed = N .none j (contextAtIndex n (placeOf (2 ^ legsOf g) w)) (range-at A m (stand u fixed (L .from) q) (L .to)) lo hi (flows j ed)
+    passed {plan} P Q N j lo hi ed =
+        remembered A m P (memory-begin s g n m plan []) (stand u fixed (L .from) q) (L .from) Q (L .to) ed
+        (N .none j (contextAtIndex n (placeOf (2 ^ legsOf g) w)) (range-at A m (stand u fixed (L .from) q) (L .to)) lo hi (flows j ed)) .seen refl
+
+    -- who asks
+    pub asker : {a : Asker} → a .state ≡ u % states → a .keeps ≡ keepsOf m → a .spent ≡ false → AskerOf m (replicate 256 0) x (u % states) a
+    asker {a} p k f =
+        record {
+          state-is = p;
+          keeps-are = k;
+          spent-is = f ∙ sym (ap (λ (v : ℕ). bit v (u % states)) (zeros 256 (x .ty)) ∙ bit-zero (u % states));
+          few = let h : 2 ^ (l .count) ≤ 2 ^ 6 = pow-mono (A .legs .few-legs) in omega (arith, mod-lt u (St .some), St .same);
+        }
 
   module _ {x : Context} (q : x ≡ contextAtIndex n (u / states)) (e : ℕ) {by : ℕ} (E : EventSets (goalOf g) (eventOf e) by) where
     stands : Stands g n u x (u % states)
@@ -162,10 +182,10 @@ module _ {s g : List ℕ} {n : Counts} {l : Legs} (A : Task s g n l) (m : Mode) 
       let q : n .types ≡ countsOf s .types = ap (λ (k : Counts). k .types) (A .given .ready .same) in
       omega (arith, r .ty .high, A .given .ready .sound .range .types .high)
 
-  module _ {x : Context} (q : x ≡ contextAtIndex n (u / states)) {plan : List ℕ} where
-    pub look-begin : {r : Offer} → NextOffer (policyOf s) plan x 0 r → Looking s g n plan m u w x r
+  module _ {x : Context} (q : x ≡ contextAtIndex n (u / states)) {plan : List ℕ} (P : Planned s g n plan) {a : Asker} (Q : AskerOf m (replicate 256 0) x (u % states) a) where
+    pub look-begin : {r : Offer} → NextOffer (policyOf s) plan (replicate 256 0) a x 0 r → Looking s g n plan m u w x r
     look-begin N =
-        record { high = N .high; none = λ j h. passed q N j (omega arith) h; offers = N .offers; cursor = later (N .cursor) (omega arith) }
+        record { high = N .high; none = λ j h. passed q P Q N j (omega arith) h; offers = N .offers; cursor = later (N .cursor) (omega arith) }
 
     module _ {o : Offer} (K : Looking s g n plan m u w x o) where
       pub offered : {y : Context} → y ≡ contextAtIndex n (w / states) → o .at < 4194304 → o .at % 4096 ≡ y .ty → OfferedBetween s g n plan u (o .at / 4096) (o .entry) w
@@ -177,7 +197,7 @@ module _ {s g : List ℕ} {n : Counts} {l : Legs} (A : Task s g n l) (m : Mode) 
       pub only-here : (j : ℕ) → o .at ≡ 4096 * j + typeOf g n w → (o .at / 4096 ≡ j) × (o .at % 4096 ≡ typeOf g n w)
       only-here j h = let k = type-small in (omega arith, omega arith)
 
-      pub look-more : {r : Offer} → NextOffer (policyOf s) plan x (o .at + 1) r → ((j : ℕ) → o .at ≡ 4096 * j + typeOf g n w → graphOf s g n m .Edge u j w → ⊥)
+      pub look-more : {r : Offer} → NextOffer (policyOf s) plan (replicate 256 0) a x (o .at + 1) r → ((j : ℕ) → o .at ≡ 4096 * j + typeOf g n w → graphOf s g n m .Edge u j w → ⊥)
           → Looking s g n plan m u w x r
       look-more {r} N here =
           record { high = N .high; none = λ j h ed. go j h ed (decLt (4096 * j + typeOf g n w) (o .at)); offers = N .offers; cursor = later (N .cursor) (omega (arith, N .low)) }
@@ -185,7 +205,7 @@ module _ {s g : List ℕ} {n : Counts} {l : Legs} (A : Task s g n l) (m : Mode) 
           go : (j : ℕ) → 4096 * j + typeOf g n w < r .at → graphOf s g n m .Edge u j w → Dec (4096 * j + typeOf g n w < o .at) → ⊥
           go j h ed (yes k) = K .none j k ed
           go j h ed (no k) =
-              ⊎-elim (λ (z : o .at ≡ 4096 * j + typeOf g n w). here j z ed) (λ (z : o .at < 4096 * j + typeOf g n w). passed q N j (omega arith) h ed)
+              ⊎-elim (λ (z : o .at ≡ 4096 * j + typeOf g n w). here j z ed) (λ (z : o .at < 4096 * j + typeOf g n w). passed q P Q N j (omega arith) h ed)
               (eq-or-lt-of-le (omega arith))
 
       pub look-found : o .at < 4194304 → graphOf s g n m .Edge u (o .at / 4096) w → Least (λ e. graphOf s g n m .Edge u e w) 1024 (o .at / 4096)

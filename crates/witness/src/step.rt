@@ -8,7 +8,9 @@ use policy_image::counts::Counts;
 use search::arrival::Arrival;
 use search::arrival::arrive;
 use search::arrival::states_of;
+use search::memory::keeps_of;
 use search::monitor::Mode;
+use steps::nearest::Asker;
 use steps::nearest::NONE;
 use steps::offers::first_offer;
 use steps::offers::next_offer;
@@ -70,7 +72,14 @@ pub fn least_event(
     let states = states_of(legs);
     let x = Context::at(u / states, counts);
     let y = Context::at(w / states, counts);
-    let mut offer = first_offer(policy, counts, plan, x);
+    // nothing is remembered: every step is asked
+    let swept = [0u64; 256];
+    let a = Asker {
+        state: u % states,
+        keeps: keeps_of(mode),
+        spent: false,
+    };
+    let mut offer = first_offer(policy, counts, plan, &swept, a, x);
     while offer.at < NONE {
         let e = offer.at / 4096;
         if offer.at % 4096 == y.ty {
@@ -78,7 +87,16 @@ pub fn least_event(
                 return e;
             }
         }
-        offer = next_offer(policy, counts, plan, x, offer.group, offer.at + 1);
+        offer = next_offer(
+            policy,
+            counts,
+            plan,
+            &swept,
+            a,
+            x,
+            offer.group,
+            offer.at + 1,
+        );
     }
     1024
 }

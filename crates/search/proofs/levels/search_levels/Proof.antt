@@ -1,6 +1,8 @@
+use Rattle.search.proofs.LoopLaws.{Around, Middle, Inner, around, node-below, at-place, stand, own-few, state-few, asker-of, asks-same, marks-same, middle-begin, middle-end, middle-spent, event-few, other-few, type-low, type-high, inner-begin, inner-key, inner-swept, inner-end, inner-place, inner-fits, inner-facing, inner-skip, inner-below, inner-entered, inner-seen, inner-dropped, inner-broken, inner-next}
+use Rattle.search.proofs.MemoryLaws.{memory-begin, memory-keep}
 use Rattle.search.proofs.ArrivalLaws.{later}
-use Rattle.search.proofs.LoopLaws.{Around, Middle, Inner, around, node-below, at-place, stand, middle-begin, middle-end, event-low, event-high, event-few, type-low, type-high, inner-begin, inner-end, inner-place, inner-facing, inner-skip, inner-below, inner-entered, inner-seen, inner-dropped, inner-broken, inner-next}
 use Rattle.search.proofs.SearchLaws.{enter, room, nothing, turn-chain, chain-bound}
+use Rattle.search.specs.Memory.{keepsOf, Memory}
 use Rattle.search.specs.Tasks.{graphOf}
 use Rattle.search.specs.State.{Inv}
 use Rattle.plan.specs.Plan.{Planned}
@@ -14,32 +16,36 @@ use Rattle.search.proofs.levels.search_levels.Statement.{statement}
 use Rattle.search.proofs.levels.search_levels.Tie as tie
 
 abbrev Inv-loop2 : tie.InvT-loop2
-Inv-loop2 policy goal counts plan legs mode seeded queue₀ back₀ states tail₀ head level-end depth u x state offer e ty by guarded end y₀ queue back tail y = (length queue ≡ length queue₀) × (length back ≡ length back₀) × Inner policy goal counts plan legs mode states back queue head tail level-end depth u x state offer by guarded end y
+Inv-loop2 policy goal counts plan legs mode seeded queue₀ back₀ states keeps swept spent tail₀ head level-end depth u place state x own asks is-spent a offer e ty by guarded end y₀ queue back tail y = (length queue ≡ length queue₀) × (length back ≡ length back₀) × Inner policy goal counts plan legs mode states back queue head tail level-end depth u x state swept spent a offer guarded end y
 
 abbrev μ-loop2 : tie.MeasureT-loop2
-μ-loop2 policy goal counts plan legs mode seeded queue₀ back₀ states tail₀ head level-end depth u x state offer e ty by guarded end y₀ queue back tail y = end - y
+μ-loop2 policy goal counts plan legs mode seeded queue₀ back₀ states keeps swept spent tail₀ head level-end depth u place state x own asks is-spent a offer e ty by guarded end y₀ queue back tail y = end - y
 
 abbrev Inv-loop : tie.InvT-loop
-Inv-loop policy goal counts plan legs mode seeded queue₀ back₀ states tail₀ head level-end depth u x state offer₀ queue back tail offer = (length queue ≡ length queue₀) × (length back ≡ length back₀) × Middle policy goal counts plan legs mode states back queue head tail level-end depth u x state offer
+Inv-loop policy goal counts plan legs mode seeded queue₀ back₀ states keeps swept₀ spent tail₀ head level-end depth u place state x own asks is-spent a offer₀ queue back swept tail offer = (length queue ≡ length queue₀) × (length back ≡ length back₀) × Middle policy goal counts plan legs mode states back queue head tail level-end depth u x state swept spent a offer
 
 abbrev μ-loop : tie.MeasureT-loop
-μ-loop policy goal counts plan legs mode seeded queue₀ back₀ states tail₀ head level-end depth u x state offer₀ queue back tail offer = 4194304 - offer .at
+μ-loop policy goal counts plan legs mode seeded queue₀ back₀ states keeps swept₀ spent tail₀ head level-end depth u place state x own asks is-spent a offer₀ queue back swept tail offer = 4194304 - offer .at
 
 abbrev Inv-search : tie.InvT-search
-Inv-search policy goal counts plan legs mode seeded queue₀ back₀ states tail₀ head₀ level-end₀ depth₀ queue back tail head level-end depth = (length queue ≡ length queue₀) × (length back ≡ length back₀) × Around policy goal counts legs states × Planned policy goal counts plan × Inv (graphOf policy goal counts mode) back queue head tail level-end depth
+Inv-search policy goal counts plan legs mode seeded queue₀ back₀ states keeps swept₀ spent₀ tail₀ head₀ level-end₀ depth₀ queue back swept spent tail head level-end depth = (length queue ≡ length queue₀) × (length back ≡ length back₀) × Around policy goal counts legs states × Planned policy goal counts plan × Memory policy goal counts mode plan back swept spent × (keeps ≡ keepsOf mode) × Inv (graphOf policy goal counts mode) back queue head tail level-end depth
 
 abbrev μ-search : tie.MeasureT-search
-μ-search policy goal counts plan legs mode seeded queue₀ back₀ states tail₀ head₀ level-end₀ depth₀ queue back tail head level-end depth = graphOf policy goal counts mode .k - head
+μ-search policy goal counts plan legs mode seeded queue₀ back₀ states keeps swept₀ spent₀ tail₀ head₀ level-end₀ depth₀ queue back swept spent tail head level-end depth = graphOf policy goal counts mode .k - head
 
 states-of-requires :
     tie.Need-states-of-requires Inv-loop2 μ-loop2 Inv-loop μ-loop Inv-search μ-search
 states-of-requires c κs = c .before .before .before .before .before .pre .0 .legs .few-legs
 
+keeps-of-requires :
+    tie.Need-keeps-of-requires Inv-loop2 μ-loop2 Inv-loop μ-loop Inv-search μ-search
+keeps-of-requires c κs = search needs
+
 search-holds : tie.Need-search-holds Inv-loop2 μ-loop2 Inv-loop μ-loop Inv-search μ-search
-search-holds c = (refl, refl, around (c .before .before .before .before .before .before .pre .0) (c .states-of .ensures), c .before .before .before .before .before .before .pre .1, c .before .before .before .before .before .before .pre .2)
+search-holds c = (refl, refl, around (c .before .before .before .before .before .before .before .pre .0) (c .before .states-of .ensures), c .before .before .before .before .before .before .before .pre .1, memory-begin _ _ _ _ _ _, c .keeps-of .ensures, c .before .before .before .before .before .before .before .pre .2)
 
 add-depth : tie.Need-add-depth Inv-loop2 μ-loop2 Inv-loop μ-loop Inv-search μ-search
-add-depth c = omega (arith, c .before .before .search .inv .4 .deep (c .before .if1 .left))
+add-depth c = omega (arith, c .before .before .search .inv .6 .deep (c .before .if1 .left))
 
 mul-u : tie.Need-mul-u Inv-loop2 μ-loop2 Inv-loop μ-loop Inv-search μ-search
 mul-u c = omega arith
@@ -47,63 +53,80 @@ mul-u c = omega arith
 slice-read-u : tie.Need-slice-read-u Inv-loop2 μ-loop2 Inv-loop μ-loop Inv-search μ-search
 slice-read-u c = omega arith
 
-div-at : tie.Need-div-at Inv-loop2 μ-loop2 Inv-loop μ-loop Inv-search μ-search
-div-at c = omega arith
-
-at-requires : tie.Need-at-requires Inv-loop2 μ-loop2 Inv-loop μ-loop Inv-search μ-search
-at-requires c κs = let i = c .before .before .before .search .inv in (i .2 .task .legs .countable, at-place _ (i .2) (node-below (i .4) (c .before .before .if1 .left)))
+div-place : tie.Need-div-place Inv-loop2 μ-loop2 Inv-loop μ-loop Inv-search μ-search
+div-place c = omega arith
 
 rem-state : tie.Need-rem-state Inv-loop2 μ-loop2 Inv-loop μ-loop Inv-search μ-search
 rem-state c = omega arith
 
-div-first-step : tie.Need-div-first-step Inv-loop2 μ-loop2 Inv-loop μ-loop Inv-search μ-search
-div-first-step c = omega arith
+at-requires : tie.Need-at-requires Inv-loop2 μ-loop2 Inv-loop μ-loop Inv-search μ-search
+at-requires c κs = let i = c .before .before .before .search .inv in (i .2 .task .legs .countable, at-place _ (i .2) (node-below (i .6) (c .before .before .if1 .left)))
+
+cast-own : tie.Need-cast-own Inv-loop2 μ-loop2 Inv-loop μ-loop Inv-search μ-search
+cast-own c = omega arith
+
+is-asked-requires :
+    tie.Need-is-asked-requires Inv-loop2 μ-loop2 Inv-loop μ-loop Inv-search μ-search
+is-asked-requires c κs = let i = c .before .before .before .before .before .search .inv in (i .3, at-place _ (i .2) (node-below (i .6) (c .before .before .before .before .if1 .left)))
+
+mul-has-member : tie.Need-mul-has-member Inv-loop2 μ-loop2 Inv-loop μ-loop Inv-search μ-search
+mul-has-member c = let i = c .before .before .before .before .before .before .search .inv in let lu = node-below (i .6) (c .before .before .before .before .before .if1 .left) in let S = stand _ (i .2) lu (c .before .before .at .ensures) in omega (arith, own-few (i .2) S)
+
+array-read-has-member :
+    tie.Need-array-read-has-member Inv-loop2 μ-loop2 Inv-loop μ-loop Inv-search μ-search
+array-read-has-member c = let i = c .before .before .before .before .before .before .search .inv in let lu = node-below (i .6) (c .before .before .before .before .before .if1 .left) in let S = stand _ (i .2) lu (c .before .before .at .ensures) in omega (arith, own-few (i .2) S, i .4 .spent-size)
+
+has-member-requires :
+    tie.Need-has-member-requires Inv-loop2 μ-loop2 Inv-loop μ-loop Inv-search μ-search
+has-member-requires c κs = let i = c .before .before .before .before .before .before .search .inv in let lu = node-below (i .6) (c .before .before .before .before .before .if1 .left) in let S = stand _ (i .2) lu (c .before .before .at .ensures) in state-few (i .2) S (c .before .before .before .before .before .before .before .before .before .before .before .before .before .before .args .mode) (i .3)
 
 first-step-requires :
     tie.Need-first-step-requires Inv-loop2 μ-loop2 Inv-loop μ-loop Inv-search μ-search
-first-step-requires c κs = let i = c .before .before .before .before .search .inv in (i .2 .task .given, i .3, at-place _ (i .2) (node-below (i .4) (c .before .before .before .if1 .left)), c .at .ensures)
+first-step-requires c κs = let i = c .before .before .before .before .before .before .before .before .search .inv in let lu = node-below (i .6) (c .before .before .before .before .before .before .before .if1 .left) in let S = stand _ (i .2) lu (c .before .before .before .before .at .ensures) in (state-few (i .2) S (c .before .before .before .before .before .before .before .before .before .before .before .before .before .before .before .before .args .mode) (i .3), i .2 .task .given, i .3, S .range, asks-same (c .before .before .before .before .at .ensures) (c .before .before .is-asked .ensures))
 
 loop-holds : tie.Need-loop-holds Inv-loop2 μ-loop2 Inv-loop μ-loop Inv-search μ-search
-loop-holds c = let i = c .before .before .before .before .before .search .inv in
-    let more = c .before .before .before .before .if1 .left in
-    let s = stand _ (i .2) (node-below (i .4) more) (c .before .at .ensures) in (
+loop-holds c = let i = c .before .before .before .before .before .before .before .before .before .search .inv in
+    let more = c .before .before .before .before .before .before .before .before .if1 .left in
+    let S = stand _ (i .2) (node-below (i .6) more) (c .before .before .before .before .before .at .ensures) in
+    let Q = asker-of (i .2) S (c .before .before .before .before .before .before .before .before .before .before .before .before .before .before .before .before .before .args .mode) (i .3) (i .5) (c .before .before .has-member .ensures) in (
       refl,
       refl,
       ⊎-elim
-          (λ w. rw (w .1, w .2) (middle-begin (i .2) (i .3) (enter (i .4) (w .0 .taken) more) more refl s (c .first-step .ensures)))
-          (λ w. rw (w .1, w .2) (middle-begin (i .2) (i .3) (i .4) (omega (arith, w .0 .left, i .4 .head-stop)) refl s (c .first-step .ensures)))
-          (c .before .before .before .if2 .came),
+          (λ w. rw (w .1, w .2) (middle-begin (i .2) (i .3) (i .4) (enter (i .6) (w .0 .taken) more) more refl S Q (c .first-step .ensures)))
+          (λ w. rw (w .1, w .2) (middle-begin (i .2) (i .3) (i .4) (i .6) (omega (arith, w .0 .left, i .6 .head-stop)) refl S Q (c .first-step .ensures)))
+          (c .before .before .before .before .before .before .before .if2 .came),
     )
 
 cast-by : tie.Need-cast-by Inv-loop2 μ-loop2 Inv-loop μ-loop Inv-search μ-search
-cast-by c = let I = c .before .before .before .before .loop .inv .2 in omega (arith, event-few (I .fixed) (I .ahead (c .before .before .if3 .taken)))
+cast-by c = let I = c .before .before .before .before .loop .inv .2 in let O = I .ahead (c .before .before .if3 .taken) in omega (arith, event-few (I .fixed) O)
 
 add-by : tie.Need-add-by Inv-loop2 μ-loop2 Inv-loop μ-loop Inv-search μ-search
-add-by c = let I = c .before .before .before .before .loop .inv .2 in omega (arith, event-few (I .fixed) (I .ahead (c .before .before .if3 .taken)))
+add-by c = let I = c .before .before .before .before .loop .inv .2 in let O = I .ahead (c .before .before .if3 .taken) in omega (arith, event-few (I .fixed) O)
 
 mul-by : tie.Need-mul-by Inv-loop2 μ-loop2 Inv-loop μ-loop Inv-search μ-search
-mul-by c = let I = c .before .before .before .before .loop .inv .2 in omega (arith, event-few (I .fixed) (I .ahead (c .before .before .if3 .taken)))
+mul-by c = let I = c .before .before .before .before .loop .inv .2 in let O = I .ahead (c .before .before .if3 .taken) in omega (arith, event-few (I .fixed) O)
 
 shared-slice-read-by :
     tie.Need-shared-slice-read-by Inv-loop2 μ-loop2 Inv-loop μ-loop Inv-search μ-search
-shared-slice-read-by c = let I = c .before .before .before .before .before .loop .inv .2 in omega (arith, event-few (I .fixed) (I .ahead (c .before .before .before .if3 .taken)), I .planned .policy .size)
+shared-slice-read-by c = let I = c .before .before .before .before .before .loop .inv .2 in let O = I .ahead (c .before .before .before .if3 .taken) in omega (arith, event-few (I .fixed) O, I .planned .policy .size)
 
 is-special-requires :
     tie.Need-is-special-requires Inv-loop2 μ-loop2 Inv-loop μ-loop Inv-search μ-search
-is-special-requires c κs = let I = c .before .before .before .before .before .loop .inv .2 in (I .planned .policy, event-few (I .fixed) (I .ahead (c .before .before .before .if3 .taken)))
+is-special-requires c κs = let I = c .before .before .before .before .before .loop .inv .2 in let O = I .ahead (c .before .before .before .if3 .taken) in (I .planned .policy, event-few (I .fixed) O)
 
-end-place-requires :
-    tie.Need-end-place-requires Inv-loop2 μ-loop2 Inv-loop μ-loop Inv-search μ-search
-end-place-requires c κs = let I = c .before .before .before .before .before .before .loop .inv .2 in (I .fixed .task .legs .countable, type-low (I .fixed) (I .ahead (c .before .before .before .before .if3 .taken)), type-high (I .fixed) (I .ahead (c .before .before .before .before .if3 .taken)))
+add-first-place : tie.Need-add-first-place Inv-loop2 μ-loop2 Inv-loop μ-loop Inv-search μ-search
+add-first-place c = let I = c .before .before .before .before .before .before .loop .inv .2 in let O = I .ahead (c .before .before .before .before .if3 .taken) in omega (arith, other-few (I .fixed) O)
 
 first-place-requires :
     tie.Need-first-place-requires Inv-loop2 μ-loop2 Inv-loop μ-loop Inv-search μ-search
-first-place-requires c κs = let I = c .before .before .before .before .before .before .before .loop .inv .2 in (I .fixed .task .legs .countable, type-low (I .fixed) (I .ahead (c .before .before .before .before .before .if3 .taken)), let z = type-high (I .fixed) (I .ahead (c .before .before .before .before .before .if3 .taken)) in omega arith)
+first-place-requires c κs = let I = c .before .before .before .before .before .before .loop .inv .2 in let O = I .ahead (c .before .before .before .before .if3 .taken) in (I .fixed .task .legs .countable, omega arith, let z = type-high (I .fixed) O in omega arith)
+
+first-place-requires-2 :
+    tie.Need-first-place-requires-2 Inv-loop2 μ-loop2 Inv-loop μ-loop Inv-search μ-search
+first-place-requires-2 c κs = let I = c .before .before .before .before .before .before .before .loop .inv .2 in let O = I .ahead (c .before .before .before .before .before .if3 .taken) in (I .fixed .task .legs .countable, type-low (I .fixed) O, let z = type-high (I .fixed) O in omega arith)
 
 loop2-holds : tie.Need-loop2-holds Inv-loop2 μ-loop2 Inv-loop μ-loop Inv-search μ-search
-loop2-holds c = let I = c .before .before .before .before .before .before .before .before .loop .inv .2 in
-    let A = I .ahead (c .before .before .before .before .before .before .if3 .taken) in
-    (refl, refl, inner-begin I (c .before .before .before .before .before .before .if3 .taken) (I .planned .goal .events _ (event-low (I .fixed) A) (event-high (I .fixed) A)) (c .before .before .is-special .ensures) (c .before .end-place .ensures) (c .first-place .ensures))
+loop2-holds c = (refl, refl, inner-begin (c .before .before .before .before .before .before .before .before .loop .inv .2) (c .before .before .before .before .before .before .if3 .taken) (c .before .before .is-special .ensures) (c .before .first-place .ensures) (c .first-place2 .ensures))
 
 is-target-requires :
     tie.Need-is-target-requires Inv-loop2 μ-loop2 Inv-loop μ-loop Inv-search μ-search
@@ -150,7 +173,7 @@ add-tail : tie.Need-add-tail Inv-loop2 μ-loop2 Inv-loop μ-loop Inv-search μ-s
 add-tail c = let I = c .before .before .before .before .before .before .before .before .before .loop2 .inv .2 in omega (arith, I .turn .inv .full, I .fixed .nodes)
 
 add-y : tie.Need-add-y Inv-loop2 μ-loop2 Inv-loop μ-loop Inv-search μ-search
-add-y c = let I = c .before .before .before .loop2 .inv .2 in omega (arith, I .within, I .fixed .fewer)
+add-y c = record { fits = inner-fits (c .before .before .before .loop2 .inv .2) (c .before .before .loop2-test .taken) }
 
 loop2-less : tie.Need-loop2-less Inv-loop2 μ-loop2 Inv-loop μ-loop Inv-search μ-search
 loop2-less c = omega arith
@@ -159,27 +182,66 @@ loop2-again : tie.Need-loop2-again Inv-loop2 μ-loop2 Inv-loop μ-loop Inv-searc
 loop2-again c = let i = c .before .before .before .loop2 .inv in
     let h = c .before .before .loop2-test .taken in
     let f = c .before .is-target .ensures in
+    let N = i .2 .memory in
     ⊎-elim
-    (λ w. rw (w .4, w .5, w .6) (i .0, i .1, inner-next (i .2) h (inner-dropped (i .2) h f (w .0 .taken) (w .1 .ensures) (w .3 .given .1))))
+    (λ w. rw (w .4, w .5, w .6) (i .0, i .1, inner-next (i .2) h N (inner-dropped (i .2) h f (w .0 .taken) (w .1 .ensures) (w .3 .given .1))))
     (⊎-elim
-    (λ w. rw (w .7, w .8, w .9) (simp length-set (i .0), simp length-set (i .1), inner-next (i .2) h (inner-entered (i .2) h f (w .0 .taken) (w .1 .ensures) (w .3 .given .1) (w .6 .taken))))
+    (λ w. rw (w .7, w .8, w .9) (simp length-set (i .0), simp length-set (i .1), inner-next (i .2) h (memory-keep _ _ (w .6 .taken) N) (inner-entered (i .2) h f (w .0 .taken) (w .1 .ensures) (w .3 .given .1) (w .6 .taken))))
     (⊎-elim
-    (λ w. rw (w .7, w .8, w .9) (i .0, i .1, inner-next (i .2) h (inner-seen (i .2) h f (w .0 .taken) (w .1 .ensures) (w .3 .given .1) (w .6 .left))))
-    (λ w. rw (w .1, w .2, w .3) (i .0, i .1, inner-next (i .2) h (inner-skip (i .2) h f (w .0 .left))))))
+    (λ w. rw (w .7, w .8, w .9) (i .0, i .1, inner-next (i .2) h N (inner-seen (i .2) h f (w .0 .taken) (w .1 .ensures) (w .3 .given .1) (w .6 .left))))
+    (λ w. rw (w .1, w .2, w .3) (i .0, i .1, inner-next (i .2) h N (inner-skip (i .2) h f (w .0 .left))))))
     (c .if4 .came)
 
+cast-other : tie.Need-cast-other Inv-loop2 μ-loop2 Inv-loop μ-loop Inv-search μ-search
+cast-other c = omega arith
+
+mul-swept : tie.Need-mul-swept Inv-loop2 μ-loop2 Inv-loop μ-loop Inv-search μ-search
+mul-swept c = let I = c .before .loop2 .inv .2 in omega (arith, other-few (I .fixed) (I .ahead))
+
+array-read-swept : tie.Need-array-read-swept Inv-loop2 μ-loop2 Inv-loop μ-loop Inv-search μ-search
+array-read-swept c = let I = c .before .loop2 .inv .2 in omega (arith, other-few (I .fixed) (I .ahead), I .memory .swept-size)
+
+key-of-requires : tie.Need-key-of-requires Inv-loop2 μ-loop2 Inv-loop μ-loop Inv-search μ-search
+key-of-requires c κs = search needs
+
+mark-requires : tie.Need-mark-requires Inv-loop2 μ-loop2 Inv-loop μ-loop Inv-search μ-search
+mark-requires c κs = inner-key (c .before .before .loop2 .inv .2) (c .key-of .ensures)
+
+mul-swept-2 : tie.Need-mul-swept-2 Inv-loop2 μ-loop2 Inv-loop μ-loop Inv-search μ-search
+mul-swept-2 c = let I = c .before .before .before .loop2 .inv .2 in omega (arith, other-few (I .fixed) (I .ahead))
+
+array-write-swept :
+    tie.Need-array-write-swept Inv-loop2 μ-loop2 Inv-loop μ-loop Inv-search μ-search
+array-write-swept c = let I = c .before .before .before .loop2 .inv .2 in omega (arith, other-few (I .fixed) (I .ahead), I .memory .swept-size)
+
 add-next-offer : tie.Need-add-next-offer Inv-loop2 μ-loop2 Inv-loop μ-loop Inv-search μ-search
-add-next-offer c = omega (arith, c .before .before .loop2 .inv .2 .below)
+add-next-offer c = omega (arith, c .before .before .before .before .before .loop2 .inv .2 .below)
 
 next-offer-requires :
     tie.Need-next-offer-requires Inv-loop2 μ-loop2 Inv-loop μ-loop Inv-search μ-search
-next-offer-requires c κs = let I = c .before .before .loop2 .inv .2 in (I .fixed .task .given .ready, I .planned .policy, I .stands .range, (omega (arith, I .below), later (I .ahead .cursor) (omega arith)))
+next-offer-requires c κs = let I = c .before .before .before .before .before .loop2 .inv .2 in (I .asker .few, I .fixed .task .given .ready, I .planned .policy, I .stands .range, (omega (arith, I .below), later (I .ahead .cursor) (omega arith)))
 
 loop-less : tie.Need-loop-less Inv-loop2 μ-loop2 Inv-loop μ-loop Inv-search μ-search
-loop-less c = omega (arith, c .before .before .before .loop2 .inv .2 .below, c .next-offer .ensures .low)
+loop-less c = omega (arith, c .before .before .before .before .before .before .loop2 .inv .2 .below, c .next-offer .ensures .low)
 
 loop-again : tie.Need-loop-again Inv-loop2 μ-loop2 Inv-loop μ-loop Inv-search μ-search
-loop-again c = let i = c .before .before .before .loop2 .inv in let j = c .before .before .before .before .before .before .before .before .before .before .before .before .loop .inv in (i .0 ∙ j .0, i .1 ∙ j .1, inner-end (i .2) (c .before .before .loop2-test .left) (c .next-offer .ensures))
+loop-again c = let i = c .before .before .before .before .before .before .loop2 .inv in let j = c .before .before .before .before .before .before .before .before .before .before .before .before .before .before .before .loop .inv in let d = c .before .before .before .before .before .loop2-test .left in (i .0 ∙ j .0, i .1 ∙ j .1, inner-end (i .2) d (inner-swept (i .2) d (marks-same (c .before .before .before .before .key-of .ensures) (c .before .before .before .mark .ensures))) (c .next-offer .ensures))
+
+mul-spent : tie.Need-mul-spent Inv-loop2 μ-loop2 Inv-loop μ-loop Inv-search μ-search
+mul-spent c = let I = c .before .before .loop .inv .2 in omega (arith, own-few (I .fixed) (I .stands))
+
+array-read-spent : tie.Need-array-read-spent Inv-loop2 μ-loop2 Inv-loop μ-loop Inv-search μ-search
+array-read-spent c = let I = c .before .before .loop .inv .2 in omega (arith, own-few (I .fixed) (I .stands), I .memory .spent-size)
+
+mark-requires-2 : tie.Need-mark-requires-2 Inv-loop2 μ-loop2 Inv-loop μ-loop Inv-search μ-search
+mark-requires-2 c κs = let I = c .before .before .loop .inv .2 in state-few (I .fixed) (I .stands) (c .before .before .before .before .before .before .before .before .before .before .before .before .before .before .before .before .before .before .before .before .args .mode) (I .planned)
+
+mul-spent-2 : tie.Need-mul-spent-2 Inv-loop2 μ-loop2 Inv-loop μ-loop Inv-search μ-search
+mul-spent-2 c = let I = c .before .before .before .loop .inv .2 in omega (arith, own-few (I .fixed) (I .stands))
+
+array-write-spent :
+    tie.Need-array-write-spent Inv-loop2 μ-loop2 Inv-loop μ-loop Inv-search μ-search
+array-write-spent c = let I = c .before .before .before .loop .inv .2 in omega (arith, own-few (I .fixed) (I .stands), I .memory .spent-size)
 
 add-head : tie.Need-add-head Inv-loop2 μ-loop2 Inv-loop μ-loop Inv-search μ-search
 add-head c = omega arith
@@ -188,7 +250,7 @@ search-less : tie.Need-search-less Inv-loop2 μ-loop2 Inv-loop μ-loop Inv-searc
 search-less c = omega arith
 
 search-again : tie.Need-search-again Inv-loop2 μ-loop2 Inv-loop μ-loop Inv-search μ-search
-search-again c = let i = c .before .before .loop .inv in let j = c .before .before .before .before .before .before .before .before .search .inv in (i .0 ∙ j .0, i .1 ∙ j .1, j .2, j .3, middle-end (i .2) (c .if3 .left))
+search-again c = let i = c .before .before .before .loop .inv in let j = c .before .before .before .before .before .before .before .before .before .before .before .before .before .search .inv in (i .0 ∙ j .0, i .1 ∙ j .1, j .2, j .3, middle-spent (i .2) (c .before .if3 .left) (asks-same (c .before .before .before .before .before .before .before .before .before .at .ensures) (c .before .before .before .before .before .before .before .is-asked .ensures)) (c .mark2 .ensures), j .5, middle-end (i .2) (c .before .if3 .left))
 
 same-length : tie.Need-same-length Inv-loop2 μ-loop2 Inv-loop μ-loop Inv-search μ-search
 same-length c = omega arith
@@ -197,13 +259,13 @@ same-length-2 : tie.Need-same-length-2 Inv-loop2 μ-loop2 Inv-loop μ-loop Inv-s
 same-length-2 c = omega arith
 
 returns : tie.Need-returns Inv-loop2 μ-loop2 Inv-loop μ-loop Inv-search μ-search
-returns c = nothing (c .before .search .inv .4) (c .if1 .taken)
+returns c = nothing (c .before .search .inv .6) (c .if1 .taken)
 
 same-length-3 : tie.Need-same-length-3 Inv-loop2 μ-loop2 Inv-loop μ-loop Inv-search μ-search
-same-length-3 c = omega (arith, c .before .before .before .before .before .before .before .loop2 .inv .0, c .before .before .before .before .before .before .before .before .before .before .before .before .before .before .before .before .loop .inv .0, c .before .before .before .before .before .before .before .before .before .before .before .before .before .before .before .before .before .before .before .before .before .before .search .inv .0)
+same-length-3 c = omega (arith, c .before .before .before .before .before .before .before .loop2 .inv .0, c .before .before .before .before .before .before .before .before .before .before .before .before .before .before .before .before .loop .inv .0, c .before .before .before .before .before .before .before .before .before .before .before .before .before .before .before .before .before .before .before .before .before .before .before .before .before .before .search .inv .0)
 
 same-length-4 : tie.Need-same-length-4 Inv-loop2 μ-loop2 Inv-loop μ-loop Inv-search μ-search
-same-length-4 c = omega (arith, c .before .before .before .before .before .before .before .loop2 .inv .1, c .before .before .before .before .before .before .before .before .before .before .before .before .before .before .before .before .loop .inv .1, c .before .before .before .before .before .before .before .before .before .before .before .before .before .before .before .before .before .before .before .before .before .before .search .inv .1)
+same-length-4 c = omega (arith, c .before .before .before .before .before .before .before .loop2 .inv .1, c .before .before .before .before .before .before .before .before .before .before .before .before .before .before .before .before .loop .inv .1, c .before .before .before .before .before .before .before .before .before .before .before .before .before .before .before .before .before .before .before .before .before .before .before .before .before .before .search .inv .1)
 
 returns-2 : tie.Need-returns-2 Inv-loop2 μ-loop2 Inv-loop μ-loop Inv-search μ-search
 returns-2 c = inner-broken (c .before .before .before .before .before .before .before .loop2 .inv .2) (c .before .before .before .before .before .before .loop2-test .taken) (c .before .before .before .before .before .is-target .ensures) (c .before .before .before .before .if4 .taken) (c .before .before .before .arrive .ensures) (c .before .v .given .1)
@@ -219,14 +281,19 @@ search-levels-spec =
     Inv-search
     μ-search
     states-of-requires
+    keeps-of-requires
     search-holds
     add-depth
     mul-u
     slice-read-u
-    div-at
-    at-requires
+    div-place
     rem-state
-    div-first-step
+    at-requires
+    cast-own
+    is-asked-requires
+    mul-has-member
+    array-read-has-member
+    has-member-requires
     first-step-requires
     loop-holds
     cast-by
@@ -234,8 +301,9 @@ search-levels-spec =
     mul-by
     shared-slice-read-by
     is-special-requires
-    end-place-requires
+    add-first-place
     first-place-requires
+    first-place-requires-2
     loop2-holds
     is-target-requires
     arrive-requires
@@ -254,10 +322,22 @@ search-levels-spec =
     add-y
     loop2-less
     loop2-again
+    cast-other
+    mul-swept
+    array-read-swept
+    key-of-requires
+    mark-requires
+    mul-swept-2
+    array-write-swept
     add-next-offer
     next-offer-requires
     loop-less
     loop-again
+    mul-spent
+    array-read-spent
+    mark-requires-2
+    mul-spent-2
+    array-write-spent
     add-head
     search-less
     search-again

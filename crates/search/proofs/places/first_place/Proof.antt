@@ -1,4 +1,4 @@
-use Rattle.search.proofs.TypeLaws.{roles-few, start-few, ends-none, ends-all}
+use Rattle.search.proofs.TypeLaws.{roles-few, start-few}
 use native.Mathlib.Omega.{arith}
 use borrow.Author.Needs.{needs}
 use borrow.Author.Needs.{needs}

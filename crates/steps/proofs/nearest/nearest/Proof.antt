@@ -1,4 +1,4 @@
-use Rattle.steps.proofs.NearestLaws.{Looking, look-begin, look-small, look-nearer, look-on, look-end, look-stop}
+use Rattle.steps.proofs.NearestLaws.{Looking, look-begin, look-small, look-other, look-nearer, look-on, look-end, look-stop}
 use Prim.Native.Nat.{ℕ, _+_, _-_, _≤_, _<_}
 use mathlib.Core.Logic.{⊎-elim}
 use native.Mathlib.Omega.{arith}
@@ -7,16 +7,16 @@ use Rattle.steps.proofs.nearest.nearest.Statement.{statement}
 use Rattle.steps.proofs.nearest.nearest.Tie as tie
 
 abbrev Inv-loop : tie.InvT-loop
-Inv-loop plan lo stop group from start at₀ entry₀ j₀ at entry j = Looking plan lo stop from start at entry j
+Inv-loop plan swept a lo stop group from start at₀ entry₀ j₀ at entry j = Looking plan swept a lo stop from start at entry j
 
 abbrev μ-loop : tie.MeasureT-loop
-μ-loop plan lo stop group from start at₀ entry₀ j₀ at entry j = stop - j
+μ-loop plan swept a lo stop group from start at₀ entry₀ j₀ at entry j = stop - j
 
 skip-requires : tie.Need-skip-requires Inv-loop μ-loop
-skip-requires c κs = (c .before .pre .1 .high, c .before .pre .0 .high, c .before .pre .0 .size)
+skip-requires c κs = (c .before .pre .2 .high, c .before .pre .1 .high, c .before .pre .1 .size)
 
 loop-holds : tie.Need-loop-holds Inv-loop μ-loop
-loop-holds c = look-begin (c .before .before .pre .0) (c .before .before .pre .1) (c .before .before .pre .2) (c .skip .ensures)
+loop-holds c = look-begin (c .before .before .args .swept .now) (c .before .before .args .a) (c .before .before .pre .0) (c .before .before .pre .1) (c .before .before .pre .2) (c .before .before .pre .3) (c .skip .ensures)
 
 add-key : tie.Need-add-key Inv-loop μ-loop
 add-key c = search needs
@@ -33,26 +33,38 @@ mul-if1 c = omega (arith, look-small (c .before .before .loop .inv) (c .before .
 returns : tie.Need-returns Inv-loop μ-loop
 returns c = look-stop (c .before .before .before .loop .inv) (c .before .before .loop-test .taken) (c .if1 .taken)
 
-add-entry-step : tie.Need-add-entry-step Inv-loop μ-loop
-add-entry-step c = search needs
+cast-other : tie.Need-cast-other Inv-loop μ-loop
+cast-other c = omega arith
 
-mul-entry-step : tie.Need-mul-entry-step Inv-loop μ-loop
-mul-entry-step c = search needs
+add-asked-mask : tie.Need-add-asked-mask Inv-loop μ-loop
+add-asked-mask c = search needs
 
-shared-slice-read-entry-step : tie.Need-shared-slice-read-entry-step Inv-loop μ-loop
-shared-slice-read-entry-step c = omega (arith, c .before .before .before .before .loop .inv .block .high, c .before .before .before .before .loop .inv .block .size)
+mul-asked-mask : tie.Need-mul-asked-mask Inv-loop μ-loop
+mul-asked-mask c = search needs
 
-add-entry-step-2 : tie.Need-add-entry-step-2 Inv-loop μ-loop
-add-entry-step-2 c = search needs
+shared-slice-read-asked-mask : tie.Need-shared-slice-read-asked-mask Inv-loop μ-loop
+shared-slice-read-asked-mask c = omega (arith, c .before .before .before .before .loop .inv .block .high, c .before .before .before .before .loop .inv .block .size)
 
-mul-entry-step-2 : tie.Need-mul-entry-step-2 Inv-loop μ-loop
-mul-entry-step-2 c = search needs
+add-asked-mask-2 : tie.Need-add-asked-mask-2 Inv-loop μ-loop
+add-asked-mask-2 c = search needs
 
-shared-slice-read-entry-step-2 : tie.Need-shared-slice-read-entry-step-2 Inv-loop μ-loop
-shared-slice-read-entry-step-2 c = omega (arith, c .before .before .before .before .before .loop .inv .block .high, c .before .before .before .before .before .loop .inv .block .size)
+mul-asked-mask-2 : tie.Need-mul-asked-mask-2 Inv-loop μ-loop
+mul-asked-mask-2 c = search needs
 
-entry-step-requires : tie.Need-entry-step-requires Inv-loop μ-loop
-entry-step-requires c κs = (look-small (c .before .before .before .before .before .loop .inv) (c .before .before .before .before .loop-test .taken), c .before .before .before .before .before .loop .inv .asked)
+shared-slice-read-asked-mask-2 : tie.Need-shared-slice-read-asked-mask-2 Inv-loop μ-loop
+shared-slice-read-asked-mask-2 c = omega (arith, c .before .before .before .before .before .loop .inv .block .high, c .before .before .before .before .before .loop .inv .block .size)
+
+asked-mask-requires : tie.Need-asked-mask-requires Inv-loop μ-loop
+asked-mask-requires c κs = (c .before .before .before .before .before .loop .inv .block .size, look-small (c .before .before .before .before .before .loop .inv) (c .before .before .before .before .loop-test .taken))
+
+mul-open-step : tie.Need-mul-open-step Inv-loop μ-loop
+mul-open-step c = omega (arith, look-other (c .before .before .before .before .before .before .loop .inv) (c .before .before .before .before .before .loop-test .taken))
+
+element-copy-out-open-step : tie.Need-element-copy-out-open-step Inv-loop μ-loop
+element-copy-out-open-step c = omega (arith, look-other (c .before .before .before .before .before .before .loop .inv) (c .before .before .before .before .before .loop-test .taken))
+
+open-step-requires : tie.Need-open-step-requires Inv-loop μ-loop
+open-step-requires c κs = (c .before .before .before .before .before .before .before .loop .inv .few, c .before .before .before .before .before .before .before .loop .inv .block .size, look-small (c .before .before .before .before .before .before .before .loop .inv) (c .before .before .before .before .before .before .loop-test .taken), c .before .before .before .before .before .before .before .loop .inv .asked)
 
 add-j : tie.Need-add-j Inv-loop μ-loop
 add-j c = search needs
@@ -61,7 +73,7 @@ loop-less : tie.Need-loop-less Inv-loop μ-loop
 loop-less c = search needs
 
 loop-again : tie.Need-loop-again Inv-loop μ-loop
-loop-again c = let L = c .before .before .before .before .before .before .before .loop .inv in let h = c .before .before .before .before .before .before .loop-test .taken in ⊎-elim (λ w. rw (w .1, w .2) (look-nearer L h (c .before .entry-step .ensures) (w .0 .taken))) (λ w. rw (w .1, w .2) (look-on L h (c .before .entry-step .ensures) (w .0 .left))) (c .if2 .came)
+loop-again c = let L = c .before .before .before .before .before .before .before .before .before .loop .inv in let h = c .before .before .before .before .before .before .before .before .loop-test .taken in ⊎-elim (λ w. rw (w .1, w .2) (look-nearer L h (c .before .before .before .asked-mask .ensures) (c .before .open-step .ensures) (w .0 .taken))) (λ w. rw (w .1, w .2) (look-on L h (c .before .before .before .asked-mask .ensures) (c .before .open-step .ensures) (w .0 .left))) (c .if2 .came)
 
 returns-2 : tie.Need-returns-2 Inv-loop μ-loop
 returns-2 c = look-end (c .before .loop .inv) (c .loop-test .left)
@@ -79,13 +91,17 @@ nearest-spec =
     shared-slice-read-key
     mul-if1
     returns
-    add-entry-step
-    mul-entry-step
-    shared-slice-read-entry-step
-    add-entry-step-2
-    mul-entry-step-2
-    shared-slice-read-entry-step-2
-    entry-step-requires
+    cast-other
+    add-asked-mask
+    mul-asked-mask
+    shared-slice-read-asked-mask
+    add-asked-mask-2
+    mul-asked-mask-2
+    shared-slice-read-asked-mask-2
+    asked-mask-requires
+    mul-open-step
+    element-copy-out-open-step
+    open-step-requires
     add-j
     loop-less
     loop-again

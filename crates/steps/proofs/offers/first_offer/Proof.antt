@@ -15,13 +15,13 @@ mul-lo : tie.Need-mul-lo
 mul-lo c = search needs
 
 shared-slice-read-lo : tie.Need-shared-slice-read-lo
-shared-slice-read-lo c = omega (arith, type-few (c .before .before .before .before .pre .0) (c .before .before .before .before .pre .1) (c .before .before .before .before .pre .2), c .before .before .before .before .pre .1 .size)
+shared-slice-read-lo c = omega (arith, type-few (c .before .before .before .before .pre .1) (c .before .before .before .before .pre .2) (c .before .before .before .before .pre .3), c .before .before .before .before .pre .2 .size)
 
 cast-lo : tie.Need-cast-lo
-cast-lo c = omega (arith, block-top (c .before .before .before .before .pre .0) (c .before .before .before .before .pre .1) (c .before .before .before .before .pre .2), block-order (c .before .before .before .before .pre .0) (c .before .before .before .before .pre .1) (c .before .before .before .before .pre .2))
+cast-lo c = omega (arith, block-top (c .before .before .before .before .pre .1) (c .before .before .before .before .pre .2) (c .before .before .before .before .pre .3), block-order (c .before .before .before .before .pre .1) (c .before .before .before .before .pre .2) (c .before .before .before .before .pre .3))
 
 next-offer-requires : tie.Need-next-offer-requires
-next-offer-requires c κs = (c .before .before .before .before .pre .0, c .before .before .before .before .pre .1, c .before .before .before .before .pre .2, (omega arith, cursor-start (c .before .before .before .before .pre .0) (c .before .before .before .before .pre .1) (c .before .before .before .before .pre .2)))
+next-offer-requires c κs = (c .before .before .before .before .pre .0, c .before .before .before .before .pre .1, c .before .before .before .before .pre .2, c .before .before .before .before .pre .3, (omega arith, cursor-start (c .before .before .before .before .pre .1) (c .before .before .before .before .pre .2) (c .before .before .before .before .pre .3)))
 
 returns : tie.Need-returns
 returns c = search needs

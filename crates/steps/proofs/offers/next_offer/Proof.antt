@@ -15,10 +15,10 @@ mul-lo : tie.Need-mul-lo
 mul-lo c = search needs
 
 shared-slice-read-lo : tie.Need-shared-slice-read-lo
-shared-slice-read-lo c = omega (arith, type-few (c .before .before .before .before .pre .0) (c .before .before .before .before .pre .1) (c .before .before .before .before .pre .2), c .before .before .before .before .pre .1 .size)
+shared-slice-read-lo c = omega (arith, type-few (c .before .before .before .before .pre .1) (c .before .before .before .before .pre .2) (c .before .before .before .before .pre .3), c .before .before .before .before .pre .2 .size)
 
 cast-lo : tie.Need-cast-lo
-cast-lo c = omega (arith, block-top (c .before .before .before .before .pre .0) (c .before .before .before .before .pre .1) (c .before .before .before .before .pre .2), block-order (c .before .before .before .before .pre .0) (c .before .before .before .before .pre .1) (c .before .before .before .before .pre .2))
+cast-lo c = omega (arith, block-top (c .before .before .before .before .pre .1) (c .before .before .before .before .pre .2) (c .before .before .before .before .pre .3), block-order (c .before .before .before .before .pre .1) (c .before .before .before .before .pre .2) (c .before .before .before .before .pre .3))
 
 add-stop : tie.Need-add-stop
 add-stop c = search needs
@@ -30,16 +30,16 @@ mul-stop : tie.Need-mul-stop
 mul-stop c = search needs
 
 shared-slice-read-stop : tie.Need-shared-slice-read-stop
-shared-slice-read-stop c = omega (arith, type-few (c .before .before .before .before .before .pre .0) (c .before .before .before .before .before .pre .1) (c .before .before .before .before .before .pre .2), c .before .before .before .before .before .pre .1 .size)
+shared-slice-read-stop c = omega (arith, type-few (c .before .before .before .before .before .pre .1) (c .before .before .before .before .before .pre .2) (c .before .before .before .before .before .pre .3), c .before .before .before .before .before .pre .2 .size)
 
 cast-stop : tie.Need-cast-stop
-cast-stop c = omega (arith, block-top (c .before .before .before .before .before .pre .0) (c .before .before .before .before .before .pre .1) (c .before .before .before .before .before .pre .2))
+cast-stop c = omega (arith, block-top (c .before .before .before .before .before .pre .1) (c .before .before .before .before .before .pre .2) (c .before .before .before .before .before .pre .3))
 
 nearest-requires : tie.Need-nearest-requires
-nearest-requires c κs = (block-law (c .before .before .before .before .before .pre .0) (c .before .before .before .before .before .pre .1) (c .before .before .before .before .before .pre .2), c .before .before .before .before .before .pre .3 .1, c .before .before .before .before .before .pre .3 .0)
+nearest-requires c κs = (c .before .before .before .before .before .pre .0, block-law (c .before .before .before .before .before .pre .1) (c .before .before .before .before .before .pre .2) (c .before .before .before .before .before .pre .3), c .before .before .before .before .before .pre .4 .1, c .before .before .before .before .before .pre .4 .0)
 
 returns : tie.Need-returns
-returns c = next-law (c .before .before .before .before .before .before .pre .0) (c .before .before .before .before .before .before .pre .1) (c .before .before .before .before .before .before .pre .2) (c .nearest .ensures)
+returns c = next-law (c .before .before .before .before .before .before .pre .1) (c .before .before .before .before .before .before .pre .2) (c .before .before .before .before .before .before .pre .3) (c .nearest .ensures)
 
 pub next-offer-spec : {M : Type 1} → statement M
 next-offer-spec =

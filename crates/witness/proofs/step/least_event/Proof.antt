@@ -1,24 +1,29 @@
-use Prim.Native.Nat.{ℕ, _+_, _-_, _/_, _*_, _≤_, _<_}
+use Prim.Native.Nat.{ℕ, _-_, _%_}
 use mathlib.Core.Logic.{⊎-elim}
-use mathlib.Core.Path.{_≡_, refl, sym, ap, subst, _∙_}
+use mathlib.Core.Bool.{false}
+use mathlib.Core.Path.{_≡_, refl, sym, subst, _∙_}
 use native.Mathlib.Omega.{arith}
 use denote.Ref.{now}
+use borrow.Author.Needs.{needs}
+use lib.ListN.{replicate}
 use Rattle.base.proofs.Decide.{yes-of, no-of}
+use Rattle.steps.specs.declared.nearest.Asker.{Asker}
 use Rattle.search.specs.Tasks.{graphOf}
-use Rattle.witness.proofs.StepLaws.{Looking, from-below, to-below, from-range, type-is, offered, only-here, look-begin, look-more, look-found, look-end}
+use Rattle.search.proofs.MemoryLaws.{AskerOf}
+use Rattle.witness.proofs.StepLaws.{Looking, from-below, to-below, from-range, asker, type-is, offered, only-here, look-begin, look-more, look-found, look-end}
 use Rattle.witness.proofs.step.least_event.Statement.{statement}
 use Rattle.witness.proofs.step.least_event.Tie as tie
 
 abbrev Inv-loop : tie.InvT-loop
-Inv-loop policy goal counts plan legs mode u w states x y offer₀ offer = Looking policy goal counts plan mode u w x offer
+Inv-loop policy goal counts plan legs mode u w states x y swept a offer₀ offer = Looking policy goal counts plan mode u w x offer
 
 abbrev μ-loop : tie.MeasureT-loop
-μ-loop policy goal counts plan legs mode u w states x y offer₀ offer = 4194304 - offer .at
+μ-loop policy goal counts plan legs mode u w states x y swept a offer₀ offer = 4194304 - offer .at
 
 -- where the loop stands
 module _ (L : tie.At-loop Inv-loop μ-loop) where
   abbrev to : tie.After-at2 Inv-loop μ-loop
-  to = L .before .before
+  to = L .before .before .before .before
 
   abbrev from : tie.After-at Inv-loop μ-loop
   from = to .before
@@ -26,8 +31,20 @@ module _ (L : tie.At-loop Inv-loop μ-loop) where
   abbrev start : tie.Start Inv-loop μ-loop
   start = from .before .before .before .before .before
 
+  abbrev who : Asker
+  who = record { state = start .args .u % from .before .states-of .result; keeps = L .before .before .before .keeps-of .result; spent = false }
+
+  asks : AskerOf (start .args .mode) (replicate 256 0) (from .at .result) (start .args .u % from .before .states-of .result) who
+  asks = asker (start .pre .0) (start .args .mode) (start .pre .2) (from .before .states-of .ensures) (from .at .ensures) refl (L .before .before .before .keeps-of .ensures) refl
+
 states-of-requires : tie.Need-states-of-requires Inv-loop μ-loop
 states-of-requires c κs = c .before .before .before .pre .0 .legs .few-legs
+
+rem-t16 : tie.Need-rem-t16 Inv-loop μ-loop
+rem-t16 c = omega (arith, c .before .before .states-of .ensures .some)
+
+keeps-of-requires : tie.Need-keeps-of-requires Inv-loop μ-loop
+keeps-of-requires c κs = search needs
 
 div-at : tie.Need-div-at Inv-loop μ-loop
 div-at c = omega (arith, c .states-of .ensures .some)
@@ -47,15 +64,18 @@ at-requires-2 c κs =
 
 first-offer-requires : tie.Need-first-offer-requires Inv-loop μ-loop
 first-offer-requires c κs =
-    let a = c .before in
+    let a = c .before .before .before in
     let s = a .before .before .before .before .before in
-    (s .pre .0 .given .ready, s .pre .1 .policy, from-range (s .pre .0) (s .args .mode) (s .pre .2) (a .before .states-of .ensures) (a .at .ensures))
+    let k = asker (s .pre .0) (s .args .mode) (s .pre .2) (a .before .states-of .ensures) (a .at .ensures) refl (c .before .keeps-of .ensures) refl in
+    (k .few, s .pre .0 .given .ready, s .pre .1 .policy, from-range (s .pre .0) (s .args .mode) (s .pre .2) (a .before .states-of .ensures) (a .at .ensures))
 
 loop-holds : tie.Need-loop-holds Inv-loop μ-loop
 loop-holds c =
-    let a = c .before .before in
+    let b = c .before .before in
+    let a = b .before .before in
     let s = a .before .before .before .before .before in
-    look-begin (s .pre .0) (s .args .mode) (s .pre .2) (a .before .states-of .ensures) (a .at .ensures) (c .first-offer .ensures)
+    let k = asker (s .pre .0) (s .args .mode) (s .pre .2) (a .before .states-of .ensures) (a .at .ensures) refl (b .keeps-of .ensures) refl in
+    look-begin (s .pre .0) (s .args .mode) (s .pre .2) (a .before .states-of .ensures) (a .at .ensures) (s .pre .1) k (c .first-offer .ensures)
 
 is-step-requires : tie.Need-is-step-requires Inv-loop μ-loop
 is-step-requires c κs =
@@ -64,7 +84,7 @@ is-step-requires c κs =
       s .pre .0,
       s .pre .1,
       s .pre .2,
-      offered (s .pre .0) (s .args .mode) (s .pre .2) (from L .before .states-of .ensures) (from L .at .ensures) (L .loop .inv) (to L .at2 .ensures) (c .before .before .before .before .if1 .taken) (c .if2 .taken),
+      offered (s .pre .0) (s .args .mode) (s .pre .2) (from L .before .states-of .ensures) (from L .at .ensures) (s .pre .1) (asks L) (L .loop .inv) (to L .at2 .ensures) (c .before .before .before .before .if1 .taken) (c .if2 .taken),
     )
 
 returns : tie.Need-returns Inv-loop μ-loop
@@ -73,7 +93,7 @@ returns c =
     let d = b .before .before .before .before .before in
     let L = d .before .before in
     let s = start L in
-    look-found (s .pre .0) (s .args .mode) (s .pre .2) (from L .before .states-of .ensures) (from L .at .ensures) (L .loop .inv) (d .if1 .taken)
+    look-found (s .pre .0) (s .args .mode) (s .pre .2) (from L .before .states-of .ensures) (from L .at .ensures) (s .pre .1) (asks L) (L .loop .inv) (d .if1 .taken)
     (yes-of (b .is-step .result) (b .is-step .ensures) (c .if3 .taken))
 
 add-next-offer : tie.Need-add-next-offer Inv-loop μ-loop
@@ -81,21 +101,21 @@ add-next-offer c = omega arith
 
 next-offer-requires : tie.Need-next-offer-requires Inv-loop μ-loop
 next-offer-requires c κs =
-    let d = c .before .before .before .before .before in
+    let d = c .before .before .before .before .before .before in
     let L = d .before .before in
     let s = start L in
-    (s .pre .0 .given .ready, s .pre .1 .policy, from-range (s .pre .0) (s .args .mode) (s .pre .2) (from L .before .states-of .ensures) (from L .at .ensures), (omega (arith, d .if1 .taken), L .loop .inv .cursor))
+    (asks L .few, s .pre .0 .given .ready, s .pre .1 .policy, from-range (s .pre .0) (s .args .mode) (s .pre .2) (from L .before .states-of .ensures) (from L .at .ensures), (omega (arith, d .if1 .taken), L .loop .inv .cursor))
 
 loop-less : tie.Need-loop-less Inv-loop μ-loop
 loop-less c = omega (arith, c .next-offer .ensures .low)
 
 loop-again : tie.Need-loop-again Inv-loop μ-loop
 loop-again c =
-    let j = c .before .before in
+    let j = c .before .before .before in
     let L = j .before .before .before .before .before .before in
     let s = start L in
-    look-more (s .pre .0) (s .args .mode) (s .pre .2) (from L .before .states-of .ensures) (from L .at .ensures) (L .loop .inv) (c .next-offer .ensures)
-    (λ i z ed. let k = only-here (s .pre .0) (s .args .mode) (s .pre .2) (from L .before .states-of .ensures) (from L .at .ensures) (L .loop .inv) i z in
+    look-more (s .pre .0) (s .args .mode) (s .pre .2) (from L .before .states-of .ensures) (from L .at .ensures) (s .pre .1) (asks L) (L .loop .inv) (c .next-offer .ensures)
+    (λ i z ed. let k = only-here (s .pre .0) (s .args .mode) (s .pre .2) (from L .before .states-of .ensures) (from L .at .ensures) (s .pre .1) (asks L) (L .loop .inv) i z in
     ⊎-elim (λ w. no-of (w .1 .result) (w .1 .ensures) (w .2 .left) (subst (λ (e : ℕ). graphOf (now (s .args .policy)) (now (s .args .goal)) (s .args .counts) (s .args .mode) .Edge (s .args .u) e (s .args .w)) (sym (k .0)) ed))
     (λ w. w .left (k .1 ∙ sym (type-is (s .pre .0) (s .args .mode) (s .pre .2) (from L .before .states-of .ensures) (to L .at2 .ensures)))) (j .if2 .came))
 
@@ -103,7 +123,7 @@ returns-2 : tie.Need-returns-2 Inv-loop μ-loop
 returns-2 c =
     let L = c .before .before in
     let s = start L in
-    absurd (look-end (s .pre .0) (s .args .mode) (s .pre .2) (from L .before .states-of .ensures) (from L .at .ensures) (L .loop .inv) (omega (arith, c .if1 .left)))
+    absurd (look-end (s .pre .0) (s .args .mode) (s .pre .2) (from L .before .states-of .ensures) (from L .at .ensures) (s .pre .1) (asks L) (L .loop .inv) (omega (arith, c .if1 .left)))
 
 pub least-event-spec : {M : Type 1} → statement M
 least-event-spec =
@@ -116,6 +136,8 @@ least-event-spec =
     at-requires
     div-at-2
     at-requires-2
+    rem-t16
+    keeps-of-requires
     first-offer-requires
     loop-holds
     is-step-requires

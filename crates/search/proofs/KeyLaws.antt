@@ -1,0 +1,90 @@
+-- The state after a step depends on what the event keeps of the state, and on the target alone.
+use mathlib.Core.Path.{_≡_, refl, sym, _∙_, ap, ap₂, subst}
+use mathlib.Core.Bool.{Bool, true, false, _&&_, _||_}
+use mathlib.Core.List.{List}
+use Prim.Native.Nat.{ℕ, zero, suc, _+_, _*_, _/_, _%_, _^_, _≤_, _<_}
+use native.Mathlib.Decide.{decLt}
+use native.Mathlib.Nat.{one-mul, mod-eq-of-lt}
+use lib.Pow.{pow-lt}
+use native.Mathlib.Omega.{arith}
+use borrow.Author.Tests.{lt-ltb, le-ltb, eqb-true}
+use lib.Bits.{bitAnd, bitOr, and-le-l}
+use lib.Dec.{ltb}
+use Rattle.base.specs.Bits.{bit}
+use Rattle.base.proofs.BitLaws.{bit-and, bit-or, bit-shr, bit-zero, bit-pow, bit-ext}
+use Rattle.paths.specs.Model.{Model}
+use Rattle.paths.proofs.Numbers.{pack, digit}
+use Rattle.paths.proofs.Events.{goes, enters, opens}
+use Rattle.search.specs.declared.monitor.Mode.{Mode}
+use Rattle.search.specs.declared.monitor.Mode.the-variants.{Order, Events}
+use Rattle.search.specs.Nodes.{watchOf}
+use Rattle.search.specs.Watching.{By}
+use Rattle.search.specs.Memory.{keepsOf, Marks}
+
+-- what an event in the sets by keeps of a state
+abbrev pub kept : Mode → ℕ → ℕ → ℕ
+kept m state by = bitAnd state (bitOr (keepsOf m) (by / 2 ^ 7))
+
+-- ---- order keeps the state
+all-ones : (p : ℕ) → p < 6 → bit 63 p ≡ true
+unfolding bit
+all-ones zero h = refl
+all-ones (suc zero) h = refl
+all-ones (suc (suc zero)) h = refl
+all-ones (suc (suc (suc zero))) h = refl
+all-ones (suc (suc (suc (suc zero)))) h = refl
+all-ones (suc (suc (suc (suc (suc zero))))) h = refl
+all-ones (suc (suc (suc (suc (suc (suc p)))))) h = absurd (omega arith)
+
+and-all : (a b : Bool) → (a && (true || b)) ≡ a
+and-all true b = refl
+and-all false b = refl
+
+keeps-all : (state by : ℕ) → state < 64 → kept Order state by ≡ state
+keeps-all state by h =
+    bit-ext 6 (kept Order state by) state (omega (arith, and-le-l state (bitOr 63 (by / 2 ^ 7)))) h
+    (λ p l. bit-and state (bitOr 63 (by / 2 ^ 7)) p ∙ ap (λ (b : Bool). bit state p && b) (bit-or 63 (by / 2 ^ 7) p ∙ ap (λ (b : Bool). b || bit (by / 2 ^ 7) p) (all-ones p l))
+    ∙ and-all (bit state p) (bit (by / 2 ^ 7) p))
+
+-- ---- events keep the stages of their legs
+pack-same : (k : ℕ) (f g : ℕ → Bool) → ((i : ℕ) → f i ≡ g i) → pack k f ≡ pack k g
+pack-same zero f g h = refl
+pack-same (suc k) f g h = ap₂ (λ (b : Bool) (r : ℕ). digit b + 2 * r) (h 0) (pack-same k (λ i. f (suc i)) (λ i. g (suc i)) (λ i. h (suc i)))
+
+module _ {M : Model} where
+  live : {e by : ℕ} (state i : ℕ) → By M e by → i < M .legs → bit (kept Events state by) i ≡ (bit state i && M .γ i e)
+  live {e} {by} state i B l =
+      bit-and state (bitOr 0 (by / 2 ^ 7)) i
+      ∙ ap (λ (b : Bool). bit state i && b) (bit-or 0 (by / 2 ^ 7) i ∙ ap₂ _||_ (bit-zero i) (bit-shr by 7 i ∙ B .at i l))
+
+  module _ {e f by bf : ℕ} (s t : ℕ) (B : By M e by) (C : By M f bf) (q : kept Events s by ≡ kept Events t bf) where
+    goes-same : (i : ℕ) → Dec (i < M .legs) → goes M (bit s) e i ≡ goes M (bit t) f i
+    goes-same i (yes l) = ap (λ (b : Bool). ltb i (M .legs) && b) (sym (live s i B l) ∙ ap (λ (k : ℕ). bit k i) q ∙ live t i C l)
+    goes-same i (no n) =
+        let h : M .legs ≤ i = omega arith in
+        ap (λ (b : Bool). b && (bit s i && M .γ i e)) (le-ltb i (M .legs) h) ∙ sym (ap (λ (b : Bool). b && (bit t i && M .γ i f)) (le-ltb i (M .legs) h))
+
+    enters-same : (y i : ℕ) → enters M (bit s) e y i ≡ enters M (bit t) f y i
+    enters-same y zero = refl
+    enters-same y (suc i) = ap (λ (b : Bool). b && M .σ (suc i) y) (goes-same i (decLt i (M .legs)))
+
+    opens-same : (y i : ℕ) → opens M (bit s) e y i ≡ opens M (bit t) f y i
+    opens-same y i = ap₂ (λ (a b : Bool). (a && M .repeated i) || b) (goes-same i (decLt i (M .legs))) (enters-same y i)
+
+-- where two events keep the same of two states, they lead to the same state at the same target
+pub step-by-key : (m : Mode) {M : Model} {e f by bf : ℕ} (s t y : ℕ) → s < 64 → t < 64 → By M e by → By M f bf → kept m s by ≡ kept m t bf
+    → watchOf m M .step s e y ≡ watchOf m M .step t f y
+step-by-key Order {M} {e} {f} {by} {bf} s t y ls lt B C q =
+    ap (λ (k : ℕ). watchOf Order M .step k e y) (sym (keeps-all s by ls) ∙ q ∙ keeps-all t bf lt)
+step-by-key Events {M} s t y ls lt B C q = pack-same (suc (M .legs)) _ _ (opens-same s t B C q y)
+
+-- ---- a set of one number
+pub mark-one : (k r : ℕ) → r ≡ 2 ^ k → (b : Bool) → b ≡ true → Marks k b r
+mark-one k r q b t = record { only = λ i h. (t, eqb-true k i (sym (bit-pow k i) ∙ ap (λ (z : ℕ). bit z i) (sym q) ∙ h)) }
+
+pub mark-none : (k : ℕ) (b : Bool) → Marks k b 0
+mark-none k b = record { only = λ i h. absurd (let z : false ≡ true = sym (bit-zero i) ∙ h in let w : _≡_ {A = ℕ} 0 1 = cc in omega arith) }
+
+-- `1 << k` in 64 bits
+pub shl-64 : (k : ℕ) → k < 64 → (1 * 2 ^ k) % 2 ^ 64 ≡ 2 ^ k
+shl-64 k h = ap (λ (z : ℕ). z % 2 ^ 64) (one-mul (2 ^ k)) ∙ mod-eq-of-lt (pow-lt h)

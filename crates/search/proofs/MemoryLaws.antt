@@ -1,0 +1,252 @@
+-- What a search remembers stays true, and what it passes over by it leads to nodes that are entered.
+use mathlib.Core.Path.{_≡_, refl, sym, _∙_, ap, ap₂, subst}
+use mathlib.Core.Bool.{Bool, true, false, not, _&&_, _||_}
+use mathlib.Core.List.{List}
+use mathlib.Core.Logic.{_⊎_, inl, inr, ⊎-elim}
+use Prim.Native.Nat.{ℕ, _+_, _-_, _*_, _/_, _%_, _^_, _≤_, _<_}
+use native.Mathlib.Nat.{mod-lt, lt-of-lt-of-le}
+use native.Mathlib.Omega.{arith}
+use borrow.Author.Tests.{not-true}
+use lib.Bits.{bitAnd, bitOr}
+use lib.Dec.{T}
+use lib.ListN.{length, getD, set, length-set, replicate, length-replicate}
+use lib.Pow.{pow-pos, pow-mono}
+use lib.Seq.{getD-set-same, getD-set-other}
+use Rattle.base.specs.Bits.{bit}
+use Rattle.base.proofs.BitLaws.{bit-or, bit-zero}
+use Rattle.base.proofs.Numbers.{split-eq, split-le, zeros}
+use Rattle.base.proofs.UptoLaws.{or-cases}
+use Rattle.policy_image.specs.declared.counts.Counts.{Counts}
+use Rattle.policy_image.specs.Policy.{policyOf}
+use Rattle.context.specs.declared.Context.{Context}
+use Rattle.context.specs.Codes.{eventOf}
+use Rattle.context.specs.Places.{contextCount, contextAtIndex}
+use Rattle.context.proofs.PlaceLaws.{at-in-range}
+use Rattle.access.specs.Authorization.{flow}
+use Rattle.goal_image.specs.declared.check.Legs.{Legs}
+use Rattle.goal_image.specs.Layout.{legsOf}
+use Rattle.goal_image.specs.Goal.{goalOf, σe, γe}
+use Rattle.goal_image.specs.Sets.{contextIn, eventIn}
+use Rattle.paths.specs.Model.{Model}
+use Rattle.goal_model.specs.Images.{held, model}
+use Rattle.plan.specs.Plan.{specialAt, eventsAt, special, Planned}
+use Rattle.steps.specs.declared.nearest.Asker.{Asker}
+use Rattle.steps.specs.declared.nearest.Offer.{Offer}
+use Rattle.steps.specs.Nearest.{keyOf, closed, Passed}
+use Rattle.steps.specs.Steps.{Offering}
+use Rattle.steps.proofs.FlowLaws.{flow-class, flow-held, plain-same}
+use Rattle.steps.proofs.OfferLaws.{plain-flow}
+use Rattle.search.specs.declared.monitor.Mode.{Mode}
+use Rattle.search.specs.Graph.{Graph}
+use Rattle.search.specs.State.{Turn, Clear}
+use Rattle.search.specs.Nodes.{Watch, watchOf, codeAt, placeOf, stateOf, codeOf}
+use Rattle.search.specs.Watching.{By}
+use Rattle.search.specs.Tasks.{Task, graphOf, Stands}
+use Rattle.search.specs.Blocks.{startOf, Asks, Ahead}
+use Rattle.search.specs.Memory.{keepsOf, stateKey, Marks, typeOf, Memory}
+use Rattle.search.proofs.SearchLaws.{clear-keep, turn-chain, chain-bound}
+use Rattle.search.proofs.ArrivalLaws.{clash, by-of}
+use Rattle.search.proofs.TypeLaws.{type-lt, type-le}
+use Rattle.search.proofs.KeyLaws.{kept, step-by-key}
+use Rattle.search.proofs.LevelLaws.{place-lt, place-le, whole, chain-open, edge-flow, edge-freeE, edge-at, types-few, same-counts}
+
+-- nothing is remembered at first
+pub memory-begin : (s g : List ℕ) (n : Counts) (m : Mode) (plan back : List ℕ) → Memory s g n m plan back (replicate 256 0) (replicate 256 0)
+memory-begin s g n m plan back =
+    record {
+      swept-size = length-replicate {A = ℕ} 256 0;
+      spent-size = length-replicate {A = ℕ} 256 0;
+      done = λ u e w lu lw ed b. absurd (clash b (empty (typeOf g n w) _));
+      over = λ u e w lu lw ed _ b. absurd (clash b (empty (typeOf g n u) _));
+    }
+  where
+    empty : (t k : ℕ) → bit (getD (replicate 256 0) t 0) k ≡ false
+    empty t k = ap (λ (v : ℕ). bit v k) (zeros 256 t) ∙ bit-zero k
+
+-- a node is entered
+pub memory-keep : {s g : List ℕ} {n : Counts} {m : Mode} {plan back swept spent : List ℕ} (v x : ℕ) → getD back v 0 ≡ 0
+    → Memory s g n m plan back swept spent → Memory s g n m plan (set back v x) swept spent
+memory-keep v x z M =
+    record {
+      swept-size = M .swept-size;
+      spent-size = M .spent-size;
+      done = λ u e w lu lw ed b. clear-keep v x z (M .done u e w lu lw ed b);
+      over = λ u e w lu lw ed p b. clear-keep v x z (M .over u e w lu lw ed p b);
+    }
+
+-- the asker stands for the state, in a search of the mode
+pub record AskerOf (m : Mode) (spent : List ℕ) (x : Context) (state : ℕ) (a : Asker) : Type 0 where
+  pub state-is : a .state ≡ state
+  pub keeps-are : a .keeps ≡ keepsOf m
+  pub spent-is : a .spent ≡ bit (getD spent (x .ty) 0) state
+  pub few : a .state < 64
+
+-- a bit of a set after one is added
+added-bit : (l : List ℕ) (t mark i k : ℕ) → t < length l → bit (getD (set l t (bitOr (getD l t 0) mark)) i 0) k ≡ true
+    → (bit (getD l i 0) k ≡ true) ⊎ ((i ≡ t) × (bit mark k ≡ true))
+added-bit l t mark i k h b =
+    ⊎-elim
+    (λ (q : i ≡ t).
+    let c : bit (bitOr (getD l t 0) mark) k ≡ true = ap (λ (v : ℕ). bit v k) (sym (ap (λ (j : ℕ). getD (set l t (bitOr (getD l t 0) mark)) j 0) q ∙ getD-set-same l t (bitOr (getD l t 0) mark) 0 h)) ∙ b in
+    ⊎-elim (λ d. inl (ap (λ (j : ℕ). bit (getD l j 0) k) q ∙ d)) (λ d. inr (q, d)) (or-cases (bit (getD l t 0) k) (bit mark k) (sym (bit-or (getD l t 0) mark k) ∙ c)))
+    (λ (d : i ≡ t → ⊥). inl (ap (λ (v : ℕ). bit v k) (sym (getD-set-other l t i (bitOr (getD l t 0) mark) 0 d)) ∙ b))
+    (split-eq i t)
+
+module _ {s g : List ℕ} {n : Counts} {l : Legs} (A : Task s g n l) (m : Mode) {plan : List ℕ} (P : Planned s g n plan) where
+  abbrev M : Model
+  M = model s g
+
+  abbrev W : Watch
+  W = watchOf m M
+
+  abbrev K : ℕ
+  K = 2 ^ M .legs
+
+  abbrev G : Graph
+  G = graphOf s g n m
+
+  pub state-small : (v : ℕ) → stateOf K v < 64
+  unfolding stateOf
+  state-small v = lt-of-lt-of-le (mod-lt v (pow-pos (M .legs))) (pow-mono (let h : legsOf g ≤ 6 = omega (arith, A .legs .count, A .legs .few-legs) in h))
+
+  state-lt : (v : ℕ) → stateOf K v < K
+  unfolding stateOf
+  state-lt v = mod-lt v (pow-pos (M .legs))
+
+  place-in : {v : ℕ} → v < G .k → placeOf K v < contextCount n
+  place-in h = place-lt (pow-pos (M .legs)) h
+
+  stands-any : (u : ℕ) → u < G .k → Stands g n u (contextAtIndex n (placeOf K u)) (stateOf K u)
+  stands-any u h =
+      record { below = place-in h; place = refl; range = at-in-range n (placeOf K u) (A .legs .countable .roles) (A .legs .countable .users) (place-in h); at = refl }
+
+  classes-same : n .classes ≡ policyOf s .counts .classes
+  classes-same = ap (λ (c : Counts). c .classes) (same-counts A m)
+
+  -- the sets of an event that flows
+  sets-of : (e : ℕ) (x y : Context) → flow (policyOf s) (eventOf e) x y ≡ true → (32 ≤ e) × (e < 32 * (n .classes + 1))
+  sets-of e x y f =
+      let w = flow-class {s = s} (eventOf e) x y (A .given .ready .sound) f in
+      let a = w .low in
+      let b = w .high in
+      let c = classes-same in
+      (omega arith, omega arith)
+
+  by-at : (e : ℕ) → 32 ≤ e → e < 32 * (n .classes + 1) → By M e (eventsAt plan e)
+  by-at e a b = by-of (A .legs) s (P .goal .events e a b)
+
+  -- an edge from another node to w, as one from u by another event
+  module _ {u state : ℕ} {x : Context} (S : Stands g n u x state) (first : ¬ T (M .σ (M .legs) (codeOf n K u))) (free : contextIn (goalOf g) σe x ≡ false) where
+    pub edge-from : (u′ e e₀ w : ℕ) → w < G .k → G .Edge u′ e w → eventIn (goalOf g) γe (eventOf e₀) ≡ false
+        → flow (policyOf s) (eventOf e₀) x (contextAtIndex n (placeOf K w)) ≡ true
+        → W .step (stateOf K u′) e (codeOf n K w) ≡ W .step state e₀ (codeOf n K w) → G .Edge u e₀ w
+    edge-from u′ e e₀ w lw ed freeE f q =
+        let st : stateOf K w ≡ W .step state e₀ (codeOf n K w) = ed .state ∙ q in
+        edge-at A m S e₀ (placeOf K w) (place-in lw) (whole K w ∙ ap (λ (i : ℕ). placeOf K w * K + i) st) (subst (λ (i : ℕ). i < K) st (state-lt w)) first free freeE f
+        (λ z. subst (λ (i : ℕ). T (W .bad i)) st (ed .kept z))
+
+  -- ---- what is passed over
+  module _ {back swept spent : List ℕ} (N : Memory s g n m plan back swept spent) {u state : ℕ} {x : Context} (S : Stands g n u x state) (lu : u < G .k) {a : Asker} (Q : AskerOf m spent x state a) where
+    key-is : (by : ℕ) → keyOf a by ≡ kept m (stateOf K u) by
+    key-is by = ap₂ (λ (i j : ℕ). bitAnd i (bitOr j (by / 2 ^ 7))) (Q .state-is ∙ S .at) (Q .keeps-are)
+
+    own-type : x .ty ≡ typeOf g n u
+    own-type = ap (λ (z : Context). z .ty) (S .place)
+
+    pub passed : {i w : ℕ} → w < G .k → G .Edge u i w → Passed plan swept a i (typeOf g n w) → Clear G back w
+    passed {i} {w} lw ed (inl c) =
+        let r = sets-of i x (contextAtIndex n (placeOf K w)) (edge-flow A m S lw ed) in
+        ⊎-elim
+        (λ (b : bit (eventsAt plan i) 14 ≡ true). absurd (clash (sym (P .goal .events i (r .0) (r .1) .at 14) ∙ b) (edge-freeE A m S ed)))
+        (λ b. N .done u i w lu lw ed (ap (bit (getD swept (typeOf g n w) 0)) (sym (key-is (eventsAt plan i))) ∙ b))
+        (or-cases (bit (eventsAt plan i) 14) (bit (getD swept (typeOf g n w) 0) (keyOf a (eventsAt plan i))) c)
+    passed {i} {w} lw ed (inr c) =
+        let r = sets-of i x (contextAtIndex n (placeOf K w)) (edge-flow A m S lw ed) in
+        let few : i / 32 < 32 = (let h = r .1 in let k = A .given .ready .sound .range .classes .high in let q = classes-same in omega arith) in
+        N .over u i w lu lw ed (sym (P .policy .tables .special-at (i / 32) (i % 32) few) ∙ c .1)
+        (ap₂ (λ (t k : ℕ). bit (getD spent t 0) k) (sym own-type) (sym (S .at)) ∙ sym (Q .spent-is) ∙ c .0)
+
+    -- ---- the contexts of a type are swept
+    module _ {queue : List ℕ} {head tail stop depth : ℕ} {o : Offer} (O : Ahead (policyOf s) (goalOf g) plan swept a x o)
+        (t : Turn G back queue head tail stop depth u (o .at / 4096) (startOf n (o .at % 4096 + 1) * K)) where
+      abbrev e₀ : ℕ
+      e₀ = o .at / 4096
+
+      other-few : o .at % 4096 < 256
+      other-few = omega (arith, O .offering .other .high, A .given .ready .sound .range .types .high)
+
+      e₀-low : 32 ≤ e₀
+      e₀-low = O .offering .event .low
+
+      e₀-high : e₀ < 32 * (n .classes + 1)
+      e₀-high = let c = classes-same in omega (arith, O .offering .event .high)
+
+      not-excepted : eventIn (goalOf g) γe (eventOf e₀) ≡ false
+      not-excepted = sym (P .goal .events e₀ e₀-low e₀-high .at 14) ∙ first-false (bit (eventsAt plan e₀) 14) (bit (getD swept (o .at % 4096) 0) (keyOf a (eventsAt plan e₀))) (O .unclosed)
+        where
+          first-false : (b c : Bool) → (b || c) ≡ false → b ≡ false
+          first-false true c h = h
+          first-false false c h = refl
+
+      -- another edge with the same key to the type is one from u
+      swept-edge : special (policyOf s) (eventOf e₀) ≡ false → (u′ e w : ℕ) → u′ < G .k → w < G .k → G .Edge u′ e w → typeOf g n w ≡ o .at % 4096
+          → keyOf a (eventsAt plan e₀) ≡ stateKey m plan (stateOf K u′) e → Clear G back w
+      swept-edge plain u′ e w lu′ lw ed ty key =
+          let f = edge-flow A m (stands-any u′ lu′) lw ed in
+          let r = sets-of e (contextAtIndex n (placeOf K u′)) (contextAtIndex n (placeOf K w)) f in
+          let y : Context = contextAtIndex n (placeOf K w) in
+          let O′ : Offering (policyOf s) plan (x .ty) e₀ (y .ty) (o .entry) = subst (λ (i : ℕ). Offering (policyOf s) plan (x .ty) e₀ i (o .entry)) (sym ty) (O .offering) in
+          let f₀ : flow (policyOf s) (eventOf e₀) x y ≡ true = plain-flow x y (O .meets) (flow-held (policyOf s) (eventOf e) (contextAtIndex n (placeOf K u′)) y f .1) O′ plain in
+          let q : W .step (stateOf K u′) e (codeOf n K w) ≡ W .step state e₀ (codeOf n K w)
+          = step-by-key m (stateOf K u′) state (codeOf n K w) (state-small u′) (subst (λ (i : ℕ). i < 64) (Q .state-is) (Q .few)) (by-at e (r .0) (r .1)) (by-at e₀ e₀-low e₀-high)
+          (sym key ∙ ap₂ (λ (i j : ℕ). bitAnd i (bitOr j (eventsAt plan e₀ / 2 ^ 7))) (Q .state-is) (Q .keeps-are)) in
+          t .targets w (below w ty) (edge-from S (chain-open A m (turn-chain t)) (O .free) u′ e e₀ w lw ed not-excepted f₀ q)
+        where
+          below : (w : ℕ) → typeOf g n w ≡ o .at % 4096 → w < startOf n (o .at % 4096 + 1) * K
+          below w ty =
+              ⊎-elim
+              (λ (h : startOf n (o .at % 4096 + 1) * K ≤ w). absurd (let z = type-le (A .legs .countable) (o .at % 4096 + 1) (placeOf K w) (place-le (pow-pos (M .legs)) h) in omega arith))
+              (λ h. h)
+              (split-le (startOf n (o .at % 4096 + 1) * K) w)
+
+      pub memory-swept : {guarded : Bool} {mark : ℕ} → guarded ≡ special (policyOf s) (eventOf e₀) → Marks (keyOf a (eventsAt plan e₀)) (not guarded) mark
+          → Memory s g n m plan back (set swept (o .at % 4096) (bitOr (getD swept (o .at % 4096) 0) mark)) spent
+      memory-swept {guarded} {mark} c R =
+          record {
+            swept-size = simp length-set (N .swept-size);
+            spent-size = N .spent-size;
+            over = N .over;
+            done = λ u′ e w lu′ lw ed b.
+                ⊎-elim (λ d. N .done u′ e w lu′ lw ed d)
+                (λ d. let k = R .only _ (d .1) in swept-edge (sym c ∙ not-true guarded (k .0)) u′ e w lu′ lw ed (d .0) (k .1))
+                (added-bit swept (o .at % 4096) mark (typeOf g n w) (stateKey m plan (stateOf K u′) e) (omega (arith, other-few, N .swept-size)) b);
+          }
+
+    -- ---- the steps of a state are taken
+    module _ {queue : List ℕ} {head tail stop depth at v : ℕ} (t : Turn G back queue head tail stop depth u (at / 4096) v) (end : 4194304 ≤ at) where
+      spent-edge : contextIn (goalOf g) σe x ≡ false → held (policyOf s) x ≡ true → (u′ e w : ℕ) → u′ < G .k → w < G .k → G .Edge u′ e w → special (policyOf s) (eventOf e) ≡ false
+          → typeOf g n u′ ≡ x .ty → state ≡ stateOf K u′ → Clear G back w
+      spent-edge free meets u′ e w lu′ lw ed plain ty st =
+          let f = edge-flow A m (stands-any u′ lu′) lw ed in
+          let r = sets-of e (contextAtIndex n (placeOf K u′)) (contextAtIndex n (placeOf K w)) f in
+          let y : Context = contextAtIndex n (placeOf K w) in
+          let f₀ : flow (policyOf s) (eventOf e) x y ≡ true = plain-same (policyOf s) (eventOf e) (contextAtIndex n (placeOf K u′)) x y plain ty meets f in
+          let few : e < at / 4096 = (let h = r .1 in let k = A .given .ready .sound .range .classes .high in let q = classes-same in omega arith) in
+          t .events e w few lw
+          (edge-from S (chain-open A m (turn-chain t)) free u′ e e w lw ed (edge-freeE A m (stands-any u′ lu′) ed) f₀ (ap (λ (i : ℕ). W .step i e (codeOf n K w)) (sym st)))
+
+      pub memory-spent : {asks : Bool} {mark : ℕ} → Asks (policyOf s) (goalOf g) x asks → Marks state asks mark
+          → Memory s g n m plan back swept (set spent (x .ty) (bitOr (getD spent (x .ty) 0) mark))
+      memory-spent {asks} {mark} C R =
+          record {
+            swept-size = N .swept-size;
+            spent-size = simp length-set (N .spent-size);
+            done = N .done;
+            over = λ u′ e w lu′ lw ed plain b.
+                ⊎-elim (λ d. N .over u′ e w lu′ lw ed plain d)
+                (λ d. let k = R .only _ (d .1) in spent-edge (C .free (k .0)) (C .meets (k .0)) u′ e w lu′ lw ed plain (d .0) (k .1))
+                (added-bit spent (x .ty) mark (typeOf g n u′) (stateOf K u′) (own-few) b);
+          }
+        where
+          own-few : x .ty < length spent
+          own-few = let h = types-few A m in omega (arith, S .range .ty .high, N .spent-size)

@@ -1,0 +1,48 @@
+-- What a search remembers.
+use mathlib.Core.Path.{_≡_}
+use mathlib.Core.Bool.{Bool, true, false}
+use mathlib.Core.List.{List}
+use Prim.Native.Nat.{ℕ, _/_, _^_, _<_}
+use lib.Bits.{bitAnd, bitOr}
+use lib.ListN.{length, getD}
+use Rattle.base.specs.Bits.{bit}
+use Rattle.policy_image.specs.declared.counts.Counts.{Counts}
+use Rattle.policy_image.specs.Policy.{policyOf}
+use Rattle.context.specs.Codes.{eventOf}
+use Rattle.context.specs.Places.{contextAtIndex}
+use Rattle.goal_image.specs.Layout.{legsOf}
+use Rattle.plan.specs.Plan.{eventsAt, special}
+use Rattle.search.specs.declared.monitor.Mode.{Mode}
+use Rattle.search.specs.declared.monitor.Mode.the-variants.{Order, Events}
+use Rattle.search.specs.Graph.{Graph}
+use Rattle.search.specs.State.{Clear}
+use Rattle.search.specs.Nodes.{placeOf, stateOf}
+use Rattle.search.specs.Tasks.{graphOf}
+
+-- the bits of a state that every event keeps
+abbrev pub keepsOf : Mode → ℕ
+keepsOf Order = 63
+keepsOf Events = 0
+
+-- what the event e keeps of a state: for order all of it, for events the stages whose γ the event is in. The state after a step depends
+-- on that and on the target alone (proofs/KeyLaws.antt)
+abbrev pub stateKey : Mode → List ℕ → ℕ → ℕ → ℕ
+stateKey m plan state e = bitAnd state (bitOr (keepsOf m) (eventsAt plan e / 2 ^ 7))
+
+-- r is the set of k alone, where yes, or empty
+pub record Marks (k : ℕ) (yes : Bool) (r : ℕ) : Type 0 where
+  pub only : (i : ℕ) → bit r i ≡ true → (yes ≡ true) × (k ≡ i)
+
+-- the type of the context at which a node stands
+abbrev pub typeOf : List ℕ → Counts → ℕ → ℕ
+typeOf g n v = contextAtIndex n (placeOf (2 ^ legsOf g) v) .ty
+
+-- swept, by type of the target: an edge whose event keeps a key that is in the set arrives at no end, and at a node that is visited.
+-- spent, by type of the source: so does an edge from a state in the set, by an event that is not special
+pub record Memory (s g : List ℕ) (n : Counts) (m : Mode) (plan back swept spent : List ℕ) : Type 0 where
+  pub swept-size : length swept ≡ 256
+  pub spent-size : length spent ≡ 256
+  pub done : (u e w : ℕ) → u < graphOf s g n m .k → w < graphOf s g n m .k → graphOf s g n m .Edge u e w
+      → bit (getD swept (typeOf g n w) 0) (stateKey m plan (stateOf (2 ^ legsOf g) u) e) ≡ true → Clear (graphOf s g n m) back w
+  pub over : (u e w : ℕ) → u < graphOf s g n m .k → w < graphOf s g n m .k → graphOf s g n m .Edge u e w → special (policyOf s) (eventOf e) ≡ false
+      → bit (getD spent (typeOf g n u) 0) (stateOf (2 ^ legsOf g) u) ≡ true → Clear (graphOf s g n m) back w

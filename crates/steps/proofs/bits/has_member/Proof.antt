@@ -1,0 +1,17 @@
+use lib.Bits.{and-mask}
+use Rattle.base.specs.Bits.{bit}
+use native.Mathlib.Omega.{arith}
+use borrow.Author.Needs.{needs}
+use borrow.Author.Needs.{needs}
+use Rattle.steps.proofs.bits.has_member.Statement.{statement}
+use Rattle.steps.proofs.bits.has_member.Tie as tie
+
+shr-result : tie.Need-shr-result
+shr-result c = search needs
+
+returns : tie.Need-returns
+unfolding bit
+returns c = rw (and-mask _ 1)
+
+pub has-member-spec : {M : Type 1} → statement M
+has-member-spec = tie.close (tie.spec shr-result returns)
