@@ -15,8 +15,9 @@
  * overlap, nor a slice and an image. A null pointer with length 0 is an empty image or slice; a null pointer with any other
  * length is not allowed.
  *
- * Stack. A call needs FLOWGOAL_STACK bytes of stack at the most: constraints are evaluated by recursion, and the deepest
- * constraint of an accepted policy has 4,093 nested nodes below a permission that can be asked about.
+ * Stack. A call needs FLOWGOAL_STACK bytes of stack at the most: what the goal question makes of the images stands there, and
+ * constraints are evaluated by recursion, where the deepest constraint of an accepted policy has 4,093 nested nodes below a
+ * permission that can be asked about.
  */
 #ifndef FLOWGOAL_H
 #define FLOWGOAL_H
@@ -29,7 +30,7 @@ extern "C" {
 #endif
 
 /* The stack that a call needs at the most, in bytes. */
-#define FLOWGOAL_STACK (384 * 1024)
+#define FLOWGOAL_STACK (1024 * 1024)
 
 /* A result is 256 * steps + 4 * number + answer. The number is that of the refusal, and 0 for every other answer. Steps are
  * those of a shortest path that breaks a goal, and 0 where there is none to tell of. */

@@ -224,7 +224,7 @@ transition-flows = refl
 
 -- ---- who acts where flow is read-like: the flow's target. Types 1 and 2 are domains; permission 0 of class 1 is process transition
 -- and permission 1 a read, both read-like; 1 may do both to 2; the read is constrained to t1 = 1, and role 2 may change to role 3
-abbrev readers : List ℕ
+abbrev pub readers : List ℕ
 readers =
     image 2 3 1 1 (1 ∷ 3 ∷ 4 ∷ 5 ∷ 6 ∷ 8 ∷ 10 ∷ 11 ∷ 12 ∷ [])
     (domain-record 2 1

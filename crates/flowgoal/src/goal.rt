@@ -3,6 +3,8 @@ use context::Context;
 use goal_image::check::CheckedGoal;
 use goal_image::check::Legs;
 use goal_image::check::check as check_goal;
+use plan::make::make_plan;
+use plan::regions::ENTRIES;
 use policy_check::check;
 use policy_image::counts::Checked;
 use policy_image::counts::Counts;
@@ -17,6 +19,7 @@ ghost use Prim.Native.Nat.{_*_, _^_, _≤_, _<_};
 ghost use lib.ListN.{length};
 ghost use Rattle.base.specs.Decides.{Decides};
 ghost use Rattle.context.specs.Places.{Countable, contextCount};
+ghost use Rattle.plan.specs.Plan.{Planned};
 ghost use Rattle.flowgoal.specs.GoalQuestion.{Passed, refusalOf, goalRefusalOf, GoalPromise, outcomeNumber, OutcomeNumber};
 
 // The answer to the goal question: m is a number of steps.
@@ -62,7 +65,65 @@ fn work_fits(counts: Counts, legs: Legs, entries: usize) -> bool
     nodes as usize <= entries
 }
 
-// The answer where questions 1 to 11 are passed. Nothing is written to the path slice before it is certain.
+// The answer where questions 1 to 11 are passed, by the plan. Nothing is written to the path slice before it is certain.
+fn answer_by(
+    policy: &[u8],
+    goal: &[u8],
+    counts: Counts,
+    plan: &[u32],
+    legs: Legs,
+    work1: &mut [u32],
+    work2: &mut [u32],
+    path: &mut [u32],
+) -> Outcome
+    requires { ⌜ Passed (now policy) (now goal) counts legs (length (now work1)) (length (now work2)) × Planned (now policy) (now goal) counts (now plan) ⌝ }
+    ensures { λ r. ⌜ GoalPromise (now (policy .entry)) (now (goal .entry)) (length (now (work1 .entry))) (length (now (work2 .entry))) (now (path .entry)) (now (path .exit)) r ⌝ }
+{
+    let order = search(policy, goal, counts, plan, legs, Mode::Order, work1, work2);
+    let events = search(policy, goal, counts, plan, legs, Mode::Events, work1, work2);
+    let verdict = judge(order, events);
+    match verdict {
+        Verdict::Holds => Outcome::Holds,
+        Verdict::Order(m) => {
+            if path.len() < 2 * (m as usize) + 1 {
+                return Outcome::NoRoom(m);
+            }
+            // the links that this search left were overwritten by the one for events
+            let again = search(policy, goal, counts, plan, legs, Mode::Order, work1, work2);
+            show(
+                policy,
+                goal,
+                counts,
+                plan,
+                legs,
+                Mode::Order,
+                again,
+                work2,
+                path,
+            );
+            Outcome::Order(m)
+        }
+        Verdict::Events(m) => {
+            if path.len() < 2 * (m as usize) + 1 {
+                return Outcome::NoRoom(m);
+            }
+            show(
+                policy,
+                goal,
+                counts,
+                plan,
+                legs,
+                Mode::Events,
+                events,
+                work2,
+                path,
+            );
+            Outcome::Events(m)
+        }
+    }
+}
+
+// The answer where questions 1 to 11 are passed: the plan is made once for all searches.
 fn answer(
     policy: &[u8],
     goal: &[u8],
@@ -75,37 +136,9 @@ fn answer(
     requires { ⌜ Passed (now policy) (now goal) counts legs (length (now work1)) (length (now work2)) ⌝ }
     ensures { λ r. ⌜ GoalPromise (now (policy .entry)) (now (goal .entry)) (length (now (work1 .entry))) (length (now (work2 .entry))) (now (path .entry)) (now (path .exit)) r ⌝ }
 {
-    let order = search(policy, goal, counts, legs, Mode::Order, work1, work2);
-    let events = search(policy, goal, counts, legs, Mode::Events, work1, work2);
-    let verdict = judge(order, events);
-    match verdict {
-        Verdict::Holds => Outcome::Holds,
-        Verdict::Order(m) => {
-            if path.len() < 2 * (m as usize) + 1 {
-                return Outcome::NoRoom(m);
-            }
-            // the links that this search left were overwritten by the one for events
-            let again = search(policy, goal, counts, legs, Mode::Order, work1, work2);
-            show(policy, goal, counts, legs, Mode::Order, again, work2, path);
-            Outcome::Order(m)
-        }
-        Verdict::Events(m) => {
-            if path.len() < 2 * (m as usize) + 1 {
-                return Outcome::NoRoom(m);
-            }
-            show(
-                policy,
-                goal,
-                counts,
-                legs,
-                Mode::Events,
-                events,
-                work2,
-                path,
-            );
-            Outcome::Events(m)
-        }
-    }
+    let mut plan = [0u32; ENTRIES];
+    make_plan(policy, goal, counts, &mut plan);
+    answer_by(policy, goal, counts, &plan, legs, work1, work2, path)
 }
 
 // Does the goal hold of the policy? The work slices are overwritten; of the path slice, just the entries of the path that is shown.

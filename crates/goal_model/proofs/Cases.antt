@@ -40,7 +40,7 @@ unfolding inRange held flow authorized χ roleRule constraintsHold domain Γ wri
 goal-g = holds-by (model weir goalG) (finite (policyOf weir) steps covers (goalOf goalG)) 4 tt
 
 -- G with leg 1 by write alone
-abbrev writeOnly : List ℕ
+abbrev pub writeOnly : List ℕ
 writeOnly =
     goal 2 2 (chains (1 ∷ 2 ∷ 3 ∷ []) (4 ∷ 5 ∷ []) 0 0)
     (context 0 1 0 0 ∷ context 0 2 0 0 ∷ context 0 4 0 0 ∷ event 0 2 1 ∷ event 0 2 2 ∷ [])
@@ -51,7 +51,7 @@ unfolding inRange held flow authorized χ roleRule constraintsHold domain Γ wri
 zero-is-any = events-by (model weir writeOnly) (finite (policyOf weir) steps covers (goalOf writeOnly)) 3 tt
 
 -- γ0 by class 0, any class; σ0 by role 1 alone; σ1 by role 2 and user 1
-abbrev anyClass : List ℕ
+abbrev pub anyClass : List ℕ
 anyClass =
     goal 2 2 (chains (1 ∷ 2 ∷ 3 ∷ []) (4 ∷ 5 ∷ []) 0 0)
     (context 0 1 1 0 ∷ context 0 2 2 1 ∷ context 0 4 0 0 ∷ event 0 0 1 ∷ event 0 0 3 ∷ [])
@@ -62,7 +62,7 @@ unfolding inRange held flow authorized χ roleRule constraintsHold domain Γ wri
 any-class = holds-by (model weir anyClass) (finite (policyOf weir) steps covers (goalOf anyClass)) 4 tt
 
 -- one leg from the contexts of type 1 and role 2 to themselves
-abbrev roleTwo : List ℕ
+abbrev pub roleTwo : List ℕ
 roleTwo = goal 1 0 (chains (1 ∷ 2 ∷ []) [] 0 0) (context 0 1 2 0 ∷ context 0 1 2 0 ∷ [])
 
 -- "x0 .. meets ρ": role 2 does not hold type 1, so no path starts there. With ρ not asked: events 0
@@ -70,7 +70,7 @@ pub start-fails-rho : Holds (model weir roleTwo)
 unfolding inRange held flow authorized χ roleRule constraintsHold domain Γ writeLike readLike allowed α ρ μ roleChange some every bit countsOf recordCount recordOf payloadOf decoded legsOf flagsOf goalCount headOf nextOf contextRecordOf eventRecordOf contextIn eventIn
 start-fails-rho = holds-by (model weir roleTwo) (finite (policyOf weir) steps covers (goalOf roleTwo)) 0 tt
 
-abbrev roleOne : List ℕ
+abbrev pub roleOne : List ℕ
 roleOne = goal 1 0 (chains (1 ∷ 2 ∷ []) [] 0 0) (context 0 1 1 0 ∷ context 0 1 1 0 ∷ [])
 
 -- .. and role 1 does
@@ -79,14 +79,14 @@ unfolding inRange held flow authorized χ roleRule constraintsHold domain Γ wri
 start-meets-rho = events-by (model weir roleOne) (finite (policyOf weir) steps covers (goalOf roleOne)) 0 tt
 
 -- a policy of two users, of whom user 1 holds role 2, which holds type 1; nothing flows
-abbrev users : List ℕ
+abbrev pub users : List ℕ
 users = image 1 2 2 1 (0 ∷ 0 ∷ 0 ∷ 0 ∷ 1 ∷ 2 ∷ 0 ∷ 0 ∷ 0 ∷ []) (roleType 0 2 1 ∷ userRole 0 1 2 ∷ [])
 
 covers-users : T (not (uncovered (policyOf users) []))
 unfolding uncovered inRange flow authorized χ roleRule constraintsHold domain Γ writeLike readLike allowed α ρ μ roleChange some every bit countsOf recordCount recordOf payloadOf decoded
 covers-users = tt
 
-abbrev userTwo : List ℕ
+abbrev pub userTwo : List ℕ
 userTwo = goal 1 0 (chains (1 ∷ 2 ∷ []) [] 0 0) (context 0 1 2 2 ∷ context 0 1 2 2 ∷ [])
 
 -- "x0 .. meets .. μ": user 2 does not hold role 2. With μ not asked: events 0
@@ -94,7 +94,7 @@ pub start-fails-mu : Holds (model users userTwo)
 unfolding inRange held flow authorized χ roleRule constraintsHold domain Γ writeLike readLike allowed α ρ μ roleChange some every bit countsOf recordCount recordOf payloadOf decoded legsOf flagsOf goalCount headOf nextOf contextRecordOf eventRecordOf contextIn eventIn
 start-fails-mu = holds-by (model users userTwo) (finite (policyOf users) [] covers-users (goalOf userTwo)) 0 tt
 
-abbrev userOne : List ℕ
+abbrev pub userOne : List ℕ
 userOne = goal 1 0 (chains (1 ∷ 2 ∷ []) [] 0 0) (context 0 1 2 1 ∷ context 0 1 2 1 ∷ [])
 
 -- .. and user 1 does

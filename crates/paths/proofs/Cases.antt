@@ -21,7 +21,7 @@ three = (0 by 7 to 1) ∷ (1 by 7 to 2) ∷ (2 by 7 to 3) ∷ []
 -- ---- order
 -- "has no xl in σi with l < j". Context 1 is in σ1 and in σ2, and nothing before it is in σ1: it does not release itself.
 -- Misread as l ≤ j: the goal holds.
-abbrev selfRelease : Drawn
+abbrev pub selfRelease : Drawn
 selfRelease =
     drawn 4
     three
@@ -33,7 +33,7 @@ unfolding bit
 self-release = answer-by selfRelease (order 3) tt
 
 -- "0 < i < n". The start is in σ1 with nothing in σ0 before it, which is not asked. Misread as 0 ≤ i: order 2.
-abbrev startInFirst : Drawn
+abbrev pub startInFirst : Drawn
 startInFirst =
     drawn 3
     two
@@ -45,7 +45,7 @@ unfolding bit
 start-in-first = answer-by startInFirst holds tt
 
 -- .. so a goal of one leg never breaks order. Misread as 0 ≤ i: order 0.
-abbrev oneLeg : Drawn
+abbrev pub oneLeg : Drawn
 oneLeg =
     drawn 1
     []
@@ -57,7 +57,7 @@ unfolding bit
 one-leg = answer-by oneLeg (events 0) tt
 
 -- "some xj": the start is one. It is in σ2, and nothing is before it. Misread as j > 0: the goal holds.
-abbrev startTooEarly : Drawn
+abbrev pub startTooEarly : Drawn
 startTooEarly =
     drawn 4
     three
@@ -70,7 +70,7 @@ start-too-early = answer-by startTooEarly (order 3) tt
 
 -- "for some i": every one of σ2 to σn is asked, not σn alone. Context 1 is in σ2 before any is in σ1. Misread as i = n − 1: the
 -- goal holds.
-abbrev midTooEarly : Drawn
+abbrev pub midTooEarly : Drawn
 midTooEarly =
     drawn 5
     ((0 by 7 to 1) ∷ (1 by 7 to 2) ∷ (2 by 7 to 3) ∷ (3 by 7 to 4) ∷ [])
@@ -84,7 +84,7 @@ mid-too-early = answer-by midTooEarly (order 4) tt
 -- ---- events
 -- "Several choices of the pi may be open together". At context 1 stages 0 and 1 are open, and only stage 0 leads on: p1 = 2.
 -- With the highest stage alone: events 3.
-abbrev highestAlone : Drawn
+abbrev pub highestAlone : Drawn
 highestAlone =
     drawn 4
     ((0 by 7 to 1) ∷ (1 by 7 to 2) ∷ (2 by 8 to 3) ∷ [])
@@ -96,7 +96,7 @@ unfolding bit
 highest-alone = answer-by highestAlone holds tt
 
 -- At context 1 stages 0 and 1 are open again, and only stage 1 leads on: p1 = 1. With the lowest stage alone: events 2.
-abbrev lowestAlone : Drawn
+abbrev pub lowestAlone : Drawn
 lowestAlone =
     drawn 3
     ((0 by 7 to 1) ∷ (1 by 8 to 2) ∷ [])
@@ -108,7 +108,7 @@ unfolding bit
 lowest-alone = answer-by lowestAlone holds tt
 
 -- "p(i+1) = pi + 1 for a one-step leg". The only way to σ1 takes two steps. Misread as a leg that stays: the goal holds.
-abbrev oneStepStays : Drawn
+abbrev pub oneStepStays : Drawn
 oneStepStays =
     drawn 3
     two
@@ -120,7 +120,7 @@ unfolding bit
 one-step-stays = answer-by oneStepStays (events 2) tt
 
 -- .. and by a repeated leg it is fine
-abbrev repeatedStays : Drawn
+abbrev pub repeatedStays : Drawn
 repeatedStays =
     drawn 3
     two
@@ -133,7 +133,7 @@ repeated-stays = answer-by repeatedStays holds tt
 
 -- "p0 < p1": a repeated leg takes at least one step. The start is in σ0 and in σ1, and one step on is σ2. Misread as pi ≤ p(i+1):
 -- the goal holds.
-abbrev noStep : Drawn
+abbrev pub noStep : Drawn
 noStep =
     drawn 2
     one
@@ -145,7 +145,7 @@ unfolding bit
 no-step = answer-by noStep (events 1) tt
 
 -- "all events from pi up to before p(i+1)": the second event is in no γ. Misread as the first and the last of a leg: the goal holds.
-abbrev middleEvent : Drawn
+abbrev pub middleEvent : Drawn
 middleEvent =
     drawn 4
     ((0 by 7 to 1) ∷ (1 by 8 to 2) ∷ (2 by 7 to 3) ∷ [])
@@ -157,7 +157,7 @@ unfolding bit
 middle-event = answer-by middleEvent (events 3) tt
 
 -- "with x(pi) in σi": leg 0 ends at context 1, and σ1 holds the start alone. Misread as events alone: the goal holds.
-abbrev wrongPlace : Drawn
+abbrev pub wrongPlace : Drawn
 wrongPlace =
     drawn 3
     ((0 by 7 to 1) ∷ (1 by 8 to 2) ∷ [])
@@ -169,7 +169,7 @@ unfolding bit
 wrong-place = answer-by wrongPlace (events 2) tt
 
 -- ---- paths: every way from 0 to 1 breaks events here, by event 7 where γ0 has 8 alone
-abbrev bad : Drawn
+abbrev pub bad : Drawn
 bad =
     drawn 2
     one
@@ -201,7 +201,7 @@ unfolding bit
 last-event = answer-by (except [] (only 7) bad) holds tt
 
 -- "xm is the first context in σn": a path does not go on from σn. Misread as xm in σn: events 2, by 0, 1, 2.
-abbrev endGoesOn : Drawn
+abbrev pub endGoesOn : Drawn
 endGoesOn =
     drawn 3
     ((0 by 7 to 1) ∷ (1 by 8 to 2) ∷ [])
@@ -223,7 +223,7 @@ unfolding bit
 later-unheld = answer-by (failing (only 1) bad) (events 1) tt
 
 -- "their types, roles and users each from 1 to the policy's count": 1 is no context here. Misread with no ranges: events 1.
-abbrev outOfRange : Drawn
+abbrev pub outOfRange : Drawn
 outOfRange =
     drawn 1
     one
@@ -236,7 +236,7 @@ out-of-range = answer-by outOfRange holds tt
 
 -- "with flow from xj to x(j+1)": a path may meet a context twice (decision D21). 0, 0, 1 takes two steps, and leg 0 is a one-step
 -- leg. Misread as each context at most once: the goal holds.
-abbrev metTwice : Drawn
+abbrev pub metTwice : Drawn
 metTwice =
     drawn 2
     ((0 by 7 to 0) ∷ (0 by 7 to 1) ∷ [])
@@ -249,7 +249,7 @@ met-twice = answer-by metTwice (events 2) tt
 
 -- ---- the answer
 -- "so order on a tie": the path breaks both. Misread with events first: events 1.
-abbrev tie : Drawn
+abbrev pub tie : Drawn
 tie =
     drawn 2
     one
@@ -262,7 +262,7 @@ order-on-a-tie = answer-by tie (order 1) tt
 
 -- "every other path that breaks it has at least as many" steps, whatever it breaks: 0, 1 breaks events, 2, 3, 4 order. Misread with
 -- order first: order 2.
-abbrev fewest : Drawn
+abbrev pub fewest : Drawn
 fewest =
     drawn 5
     ((0 by 7 to 1) ∷ (2 by 7 to 3) ∷ (3 by 7 to 4) ∷ [])

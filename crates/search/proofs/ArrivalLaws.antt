@@ -1,11 +1,11 @@
 -- The leaves of a search: what their bits say of the model of the two images.
 use mathlib.Core.Path.{_≡_, refl, sym, _∙_, ap, subst}
-use mathlib.Core.Bool.{Bool, true, false, _&&_, _||_}
+use mathlib.Core.Bool.{Bool, true, false, not, _&&_, _||_}
 use mathlib.Core.List.{List}
 use Prim.Native.Nat.{ℕ, zero, suc, _+_, _*_, _/_, _%_, _^_, _≤_, _<_}
 use native.Mathlib.Nat.{mul-le-mul-right}
 use native.Mathlib.Omega.{arith}
-use borrow.Author.Tests.{lt-ltb, le-leb}
+use borrow.Author.Tests.{lt-ltb, le-leb, not-true, not-false}
 use lib.Dec.{T}
 use lib.Pow.{pow-pos, pow-lt}
 use Rattle.base.specs.Bits.{bit}
@@ -18,21 +18,31 @@ use Rattle.context.specs.Ranges.{ContextInRange}
 use Rattle.context.specs.Places.{contextCount, contextAtIndex}
 use Rattle.context.proofs.CodeLaws.{context-of-code}
 use Rattle.context.proofs.PlaceLaws.{at-in-range}
+use Rattle.access.specs.Authorization.{flow}
 use Rattle.goal_image.specs.declared.check.Legs.{Legs}
-use Rattle.goal_image.specs.Goal.{Goal, goalOf}
+use Rattle.goal_image.specs.Goal.{Goal, goalOf, σe}
 use Rattle.goal_image.specs.Questions.{legsIn}
 use Rattle.goal_image.specs.Sets.{contextIn, eventIn, ContextSets, EventSets}
 use Rattle.paths.specs.Model.{Model}
 use Rattle.paths.proofs.StageLaws.{one-shl}
-use Rattle.goal_model.specs.Images.{model}
-use Rattle.steps.specs.Steps.{NextEvent, NextTarget}
+use Rattle.goal_model.specs.Images.{held, model}
+use Rattle.plan.specs.Plan.{contextsAt, Planned}
+use Rattle.steps.specs.declared.nearest.Offer.{Offer}
+use Rattle.steps.specs.Nearest.{Cursor}
+use Rattle.steps.specs.Steps.{NextOffer}
+use Rattle.steps.proofs.FlowLaws.{flow-held}
 use Rattle.search.specs.declared.arrival.Arrival.{Arrival}
 use Rattle.search.specs.declared.arrival.Arrival.the-variants.{Enter, Dropped, Broken}
 use Rattle.search.specs.declared.monitor.Mode.{Mode}
 use Rattle.search.specs.Nodes.{watchOf, codeAt}
 use Rattle.search.specs.Watching.{LegsOf, Into, By, Stepped, Judged}
-use Rattle.search.specs.Arrivals.{GivenGoal, States, Entered, Ended, Broke, Arrived, Lands, Arriving, FirstEvent, FirstTarget}
+use Rattle.search.specs.Arrivals.{GivenGoal, States, Entered, Ended, Broke, Arrived, Lands, Arriving}
+use Rattle.search.specs.Blocks.{FirstStep}
 use Rattle.search.proofs.ModelLaws.{to-true, of-true}
+
+-- a cursor is one for later steps too
+pub later : {plan : List ℕ} {lo stop a from to : ℕ} → Cursor plan lo stop a from → from ≤ to → Cursor plan lo stop a to
+later C l = record { low = C .low; high = C .high; passed = λ j a b. omega (arith, C .passed j a b) }
 
 pub clash : {b : Bool} → b ≡ true → b ≡ false → ⊥
 clash p q = let z : _≡_ {A = ℕ} 0 1 = cc in omega arith
@@ -125,29 +135,41 @@ module _ {g : List ℕ} {n : Counts} {l : Legs} (G : GivenGoal g n l) (s : List 
 pub sets-at : {g : Goal} {x x′ : Context} {into : ℕ} → x ≡ x′ → ContextSets g x into → ContextSets g x′ into
 sets-at {g} {into = into} q S = subst (λ (z : Context). ContextSets g z into) q S
 
-pub arriving : {g : List ℕ} {n : Counts} {l : Legs} {m : Mode} {state by into y t : ℕ} {x : Context} (r : Arrival) → GivenGoal g n l → y < contextCount n
-    → x ≡ contextAtIndex n y → ContextSets (goalOf g) x into → Stepped m l state by into t → Arrived m l into y t r → Arriving g n l m state by y r
-arriving {g} {n} {l} {m} {state} {by} {into} {y} r G h q S₀ st a =
+pub arriving : {g : List ℕ} {n : Counts} {l : Legs} {m : Mode} {state by into y t : ℕ} (r : Arrival) → GivenGoal g n l → y < contextCount n
+    → ContextSets (goalOf g) (contextAtIndex n y) into → Stepped m l state by into t → Arrived m l into y t r → Arriving g n l m state by y r
+arriving {g} {n} {l} {m} {state} {by} {into} {y} r G h S st a =
     record {
       at = λ s e E. lands G s h S m r
           (st .is (model s g) e (codeAt n y) (legs-of G s) (by-of G s E) (record { at = λ i _ k. into-of G s h S i (omega (arith, G .count, G .few-legs)) })) a;
     }
-  where
-    S : ContextSets (goalOf g) (contextAtIndex n y) into
-    S = sets-at q S₀
 
--- ---- exceptions
-pub no-event : {p : Policy} {g : Goal} {x : Context} {into : ℕ} → ContextSets g x into → bit into 13 ≡ true → FirstEvent p g x 1024
-no-event S b = record { high = omega arith; free = λ h. absurd (omega arith); none = λ i y _ _ q. absurd (clash (sym (S .at 13) ∙ b) q) }
+-- ---- the first step
+module _ {s g : List ℕ} {n : Counts} {plan : List ℕ} {x : Context} (P : Planned s g n plan) {y : ℕ} (h : y < contextCount n) (q : x ≡ contextAtIndex n y) where
+  none-ahead : {group entry : ℕ} → ((i : ℕ) (z : Context) → contextIn (goalOf g) σe x ≡ false → flow (policyOf s) (eventOf i) x z ≡ true → ⊥)
+      → FirstStep (policyOf s) (goalOf g) plan x (record { group = group; entry = entry; at = 4194304 })
+  none-ahead k = record { high = omega arith; ahead = λ l. absurd (omega arith); none = λ i z _ _ f t. k i z f t }
 
-pub some-event : {p : Policy} {g : Goal} {x : Context} {into r : ℕ} → ContextSets g x into → bit into 13 ≡ false → NextEvent p x 0 r → FirstEvent p g x r
-some-event S b N = record { high = N .high; free = λ h. sym (S .at 13) ∙ b; none = λ i y h k _ t. N .none i y (omega arith) h k t }
+  pub no-step : {group entry : ℕ} {b : Bool} → b ≡ bit (contextsAt plan y % 32768) 13 → b ≡ true
+      → FirstStep (policyOf s) (goalOf g) plan x (record { group = group; entry = entry; at = 4194304 })
+  no-step p t = none-ahead (λ i z f _. clash (sym (sets-at (sym q) (P .goal .contexts y h) .at 13) ∙ sym p ∙ t) f)
 
-pub no-target : {p : Policy} {g : Goal} {n : Counts} {x : Context} {event by : ℕ} → EventSets g (eventOf event) by → bit by 14 ≡ true
-    → FirstTarget p g n x event (contextCount n)
-no-target S b =
-    record { high = omega arith; free = λ h. absurd (omega arith); flows = λ h. absurd (omega arith); none = λ i _ q. absurd (clash (sym (S .at 14) ∙ b) q) }
+  is-held : held (policyOf s) x ≡ bit (contextsAt plan y) 31
+  is-held = ap (held (policyOf s)) q ∙ sym (P .policy .meets y h)
 
-pub some-target : {p : Policy} {g : Goal} {n : Counts} {x : Context} {event by r : ℕ} → EventSets g (eventOf event) by → bit by 14 ≡ false
-    → NextTarget p n x event 0 r → FirstTarget p g n x event r
-some-target S b N = record { high = N .high; free = λ h. sym (S .at 14) ∙ b; flows = N .flows; none = λ i h _ t. N .none i (omega arith) h t }
+  pub not-held : {group entry : ℕ} {b : Bool} → b ≡ bit (contextsAt plan y) 31 → not b ≡ true
+      → FirstStep (policyOf s) (goalOf g) plan x (record { group = group; entry = entry; at = 4194304 })
+  not-held {b = b} p t = none-ahead (λ i z _ f. clash (flow-held (policyOf s) (eventOf i) x z f .0) (is-held ∙ sym p ∙ not-true b t))
+
+  pub some-step : {a b : Bool} {r : Offer} → a ≡ bit (contextsAt plan y % 32768) 13 → a ≡ false → b ≡ bit (contextsAt plan y) 31 → not b ≡ false
+      → NextOffer (policyOf s) plan x 0 r → FirstStep (policyOf s) (goalOf g) plan x r
+  some-step {b = b} p t p′ t′ N =
+      record {
+        high = N .high;
+        ahead = λ l. record {
+          free = sym (sets-at (sym q) (P .goal .contexts y h) .at 13) ∙ sym p ∙ t;
+          meets = is-held ∙ sym p′ ∙ not-false b t′;
+          offering = N .offers l;
+          cursor = later (N .cursor) (omega arith);
+        };
+        none = λ i z w l _ f. N .none i z w (omega arith) l f;
+      }

@@ -20,7 +20,7 @@ use Rattle.goal_image.specs.Questions.{legsIn}
 use Rattle.goal_image.specs.Sound.{SoundGoal}
 use Rattle.paths.proofs.Verdict.{Least, at, nowhere}
 use Rattle.goal_model.specs.Images.{model}
-use Rattle.steps.specs.Steps.{Ready}
+use Rattle.plan.specs.Plan.{Ready}
 use Rattle.search.specs.declared.levels.Found.{Found}
 use Rattle.search.specs.declared.levels.Found.the-variants.{Nothing, Start, At}
 use Rattle.search.specs.declared.monitor.Mode.{Mode}

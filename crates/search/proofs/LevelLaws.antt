@@ -2,40 +2,47 @@
 use mathlib.Core.Path.{_≡_, refl, sym, _∙_, ap, ap₂, subst}
 use mathlib.Core.Bool.{Bool, true, false, _&&_}
 use mathlib.Core.List.{List}
+use mathlib.Core.Logic.{_⊎_, ⊎-elim}
 use Prim.Native.Nat.{ℕ, zero, suc, _+_, _*_, _/_, _%_, _^_, _≤_, _<_}
-use native.Mathlib.Nat.{div-lt-iff-lt-mul, le-div-iff-mul-le, mul-le-mul-right, div-add-mod', mod-lt, add-mul, one-mul}
+use native.Mathlib.Nat.{div-lt-iff-lt-mul, le-div-iff-mul-le, mul-le-mul-right, div-add-mod', mod-lt, add-mul, one-mul, zero-mul, eq-or-lt-of-le}
 use native.Mathlib.Omega.{arith}
 use lib.Arith.{digits-lt}
 use lib.Dec.{T, le→leb}
 use lib.ListN.{length, getD, set}
 use lib.Pow.{pow-pos}
+use Rattle.base.specs.Bits.{bit}
+use Rattle.base.proofs.Numbers.{split-le}
+use Rattle.base.proofs.UptoLaws.{true-or-false}
 use Rattle.policy_image.specs.declared.counts.Counts.{Counts}
 use Rattle.policy_image.specs.Layout.{countsOf}
 use Rattle.policy_image.specs.Policy.{policyOf}
 use Rattle.context.specs.declared.Context.{Context}
 use Rattle.context.specs.Codes.{contextOf, eventOf}
 use Rattle.context.specs.Ranges.{ContextInRange}
-use Rattle.context.specs.Places.{contextCount, contextAtIndex}
+use Rattle.context.specs.Places.{Countable, contextCount, contextAtIndex}
 use Rattle.context.proofs.PlaceLaws.{at-in-range}
 use Rattle.access.specs.Authorization.{flow}
 use Rattle.goal_image.specs.declared.check.Legs.{Legs}
 use Rattle.goal_image.specs.Goal.{goalOf, σe, γe}
-use Rattle.goal_image.specs.Sets.{contextIn, eventIn}
+use Rattle.goal_image.specs.Sets.{contextIn, eventIn, EventSets}
 use Rattle.paths.specs.Model.{Model}
 use Rattle.paths.proofs.Any.{and-T, not-true}
 use Rattle.paths.proofs.Monitor.{Start, Edge}
 use Rattle.goal_model.specs.Images.{inRange, model}
-use Rattle.steps.specs.Steps.{NextEvent, NextTarget}
+use Rattle.steps.specs.declared.nearest.Offer.{Offer}
+use Rattle.steps.specs.Steps.{NextOffer}
 use Rattle.search.specs.declared.monitor.Mode.{Mode}
 use Rattle.search.specs.Graph.{Graph, Reach, Chain, Chain.root, Chain.link, Breaks, FoundAt}
 use Rattle.search.specs.State.{Inv, Turn, Clear, Through}
 use Rattle.search.specs.Nodes.{Watch, watchOf, codeAt, placeOf, stateOf, codeOf, StartAt, EdgeAt, EndAt, graph, Bounded}
-use Rattle.search.specs.Arrivals.{LandsOpen, LandsGood, LandsBad, FirstEvent, FirstTarget}
+use Rattle.search.specs.Arrivals.{LandsOpen, LandsGood, LandsBad}
+use Rattle.search.specs.Blocks.{startOf, Ends, FirstStep}
 use Rattle.search.specs.Tasks.{Task, graphOf, Stands, Asked, Faced}
-use Rattle.search.proofs.SearchLaws.{pass-to, skip-events, visited, found, turn-chain, chain-bound, next-event}
+use Rattle.search.proofs.SearchLaws.{pass-to, visited, found, turn-chain, chain-bound}
 use Rattle.search.proofs.NodeLaws.{place-of, state-of}
 use Rattle.search.proofs.ModelLaws.{to-true, of-true, bounded}
 use Rattle.search.proofs.ArrivalLaws.{clash, code-of-place}
+use Rattle.search.proofs.TypeLaws.{type-lt, type-le, start-le}
 
 -- ---- over any graph: the targets from a to below b, of which v alone may have an edge
 pub block-visit : {g : Graph} {back queue : List ℕ} {head tail stop depth u ev a v : ℕ} (b : ℕ) → Turn g back queue head tail stop depth u ev a → v < b
@@ -53,6 +60,29 @@ block-visit {g} {u = u} {ev = ev} {a = a} {v = v} b t hv only lo le lv z ed ne =
 pub block-pass : {g : Graph} {back queue : List ℕ} {head tail stop depth u ev a v : ℕ} (b : ℕ) → Turn g back queue head tail stop depth u ev a
     → ((w : ℕ) → a ≤ w → w < b → g .Edge u ev w → w ≡ v) → Clear g back v → Turn g back queue head tail stop depth u ev b
 block-pass {g} {back} b t only c = pass-to b t (λ w h k d. subst (Clear g back) (sym (only w h k d)) c)
+
+-- the turn goes on to an event and a target; what lies between leads nowhere that is new
+pub jump : {g : Graph} {back queue : List ℕ} {head tail stop depth u ev v : ℕ} (ev′ v′ : ℕ) → Turn g back queue head tail stop depth u ev v → ev ≤ ev′
+    → ((i w : ℕ) → i < ev′ → w < g .k → ev ≤ i → (i ≡ ev → v ≤ w) → Through g back u i w)
+    → ((w : ℕ) → w < v′ → (ev′ ≡ ev → v ≤ w) → Through g back u ev′ w) → Turn g back queue head tail stop depth u ev′ v′
+jump {g} {back} {u = u} {ev} {v} ev′ v′ t le th th′ =
+    record {
+      inv = t .inv;
+      here = t .here;
+      node = t .node;
+      events = λ i w h lw. ⊎-elim (λ (a : ev ≤ i). at-event i w h lw a (split-le v w)) (λ (a : i < ev). t .events i w a lw) (split-le ev i);
+      targets = λ w h. at-target w h (split-le v w);
+    }
+  where
+    at-event : (i w : ℕ) → i < ev′ → w < g .k → ev ≤ i → (v ≤ w) ⊎ (w < v) → Through g back u i w
+    at-event i w h lw a d =
+        ⊎-elim (λ (b : v ≤ w). th i w h lw a (λ _. b))
+        (λ (b : w < v). ⊎-elim (λ (q : ev ≡ i). subst (λ (k : ℕ). Through g back u k w) q (t .targets w b)) (λ (k : ev < i). th i w h lw a (λ q. absurd (omega arith))) (eq-or-lt-of-le a)) d
+
+    at-target : (w : ℕ) → w < v′ → (v ≤ w) ⊎ (w < v) → Through g back u ev′ w
+    at-target w h d =
+        ⊎-elim (λ (b : v ≤ w). th′ w h (λ _. b))
+        (λ (b : w < v). ⊎-elim (λ (q : ev ≡ ev′). subst (λ (k : ℕ). Through g back u k w) q (t .targets w b)) (λ (k : ev < ev′). th′ w h (λ q. absurd (omega arith))) (eq-or-lt-of-le le)) d
 
 -- ---- numbers of nodes
 pub place-lt : {k v y : ℕ} → 0 < k → v < y * k → placeOf k v < y
@@ -109,6 +139,24 @@ module _ {s g : List ℕ} {n : Counts} {l : Legs} (A : Task s g n l) (m : Mode) 
 
   room : (r w : ℕ) → r ≤ contextCount n → w < r * K → w < G .k
   room r w h k = let p : r * K ≤ contextCount n * K = mul-le-mul-right K h in omega arith
+
+  C : Countable n
+  C = A .legs .countable
+
+  types-few : n .types ≤ 255
+  types-few = subst (λ (k : Counts). k .types ≤ 255) (sym same-counts) (A .given .ready .sound .range .types .high)
+
+  -- the type of a node's context
+  abbrev typeOf : ℕ → ℕ
+  typeOf w = contextAtIndex n (placeOf K w) .ty
+
+  type-small : {w : ℕ} → w < G .k → typeOf w < 4096
+  type-small {w} lw = let z = at-place (place-lt (pow-pos (M .legs)) lw) .ty .high in omega (arith, types-few)
+
+  few-types : (at : ℕ) → at ≤ 4194304 → (at < 4194304 → at % 4096 ≤ policyOf s .counts .types) → at % 4096 ≤ n .types + 1
+  few-types at h k =
+      ⊎-elim (λ (l : 4194304 ≤ at). omega arith)
+      (λ (l : at < 4194304). let z : at % 4096 ≤ n .types = subst (λ (c : Counts). at % 4096 ≤ c .types) (sym same-counts) (k l) in omega arith) (split-le 4194304 at)
 
   -- ---- an edge from u, which stands at x
   module _ {u state : ℕ} {x : Context} (S : Stands g n u x state) where
@@ -195,24 +243,60 @@ module _ {s g : List ℕ} {n : Counts} {l : Legs} (A : Task s g n l) (m : Mode) 
 
     -- ---- what the leaves pass over
     module _ {back queue : List ℕ} {head tail stop depth : ℕ} where
-      pub first-events : {r : ℕ} → Turn G back queue head tail stop depth u 0 0 → FirstEvent (policyOf s) (goalOf g) x r
-          → Turn G back queue head tail stop depth u r 0
-      first-events {r} t F = skip-events r t (λ i w h k lw ed. F .none i _ k (range-at lw) (edge-free ed) (edge-flow lw ed))
+      -- The search stands at a step: events below its own are done, and of that the contexts of types below its own.
 
-      pub more-events : {e r : ℕ} → Turn G back queue head tail stop depth u e 0 → NextEvent (policyOf s) x e r
-          → Turn G back queue head tail stop depth u r 0
-      more-events {e} {r} t N = skip-events r t (λ i w h k lw ed. N .none i _ h k (range-at lw) (edge-flow lw ed))
+      -- the steps from one to below another lead nowhere that is new
+      pub step-on : (at to : ℕ) → Turn G back queue head tail stop depth u (at / 4096) (startOf n (at % 4096) * K) → at ≤ to → to % 4096 ≤ n .types + 1
+          → ((i w : ℕ) → w < G .k → at ≤ 4096 * i + typeOf w → 4096 * i + typeOf w < to → Through G back u i w) → Turn G back queue head tail stop depth u (to / 4096) (startOf n (to % 4096) * K)
+      step-on at to t l few th =
+          jump (to / 4096) (startOf n (to % 4096) * K) t (omega arith)
+          (λ i w h lw a b. th i w lw (after i w a b) (let z = type-small lw in omega arith))
+          (λ w h b.
+          let z : typeOf w < to % 4096 = before w h in
+          th (to / 4096) w (bound w h) (after (to / 4096) w (omega arith) b) (omega arith))
+        where
+          after : (i w : ℕ) → at / 4096 ≤ i → (i ≡ at / 4096 → startOf n (at % 4096) * K ≤ w) → at ≤ 4096 * i + typeOf w
+          after i w a b =
+              ⊎-elim
+              (λ (q : at / 4096 ≡ i). let z : at % 4096 ≤ typeOf w = type-le C (at % 4096) (placeOf K w) (place-le (pow-pos (M .legs)) (b (sym q))) in omega arith)
+              (λ (k : at / 4096 < i). omega arith)
+              (eq-or-lt-of-le a)
 
-      pub first-targets : {e r : ℕ} → Turn G back queue head tail stop depth u e 0 → FirstTarget (policyOf s) (goalOf g) n x e r
-          → Turn G back queue head tail stop depth u e (r * K)
-      first-targets {e} {r} t F =
-          pass-to (r * K) t (λ w h k ed. absurd (F .none (placeOf K w) (place-lt (pow-pos (M .legs)) k) (edge-freeE ed) (edge-flow (room r w (F .high) k) ed)))
+          before : (w : ℕ) → w < startOf n (to % 4096) * K → typeOf w < to % 4096
+          before w h = type-lt C (to % 4096) (placeOf K w) (place-lt (pow-pos (M .legs)) h)
 
-      pub more-targets : {e y r : ℕ} → Turn G back queue head tail stop depth u e (y * K) → NextTarget (policyOf s) n x e y r
-          → Turn G back queue head tail stop depth u e (r * K)
-      more-targets {e} {y} {r} t N =
-          pass-to (r * K) t
-          (λ w h k ed. absurd (N .none (placeOf K w) (place-le (pow-pos (M .legs)) h) (place-lt (pow-pos (M .legs)) k) (edge-flow (room r w (N .high) k) ed)))
+          bound : (w : ℕ) → w < startOf n (to % 4096) * K → w < G .k
+          bound w h = room (startOf n (to % 4096)) w (start-le C (to % 4096) few) h
+
+      pub first-steps : {plan : List ℕ} {r : Offer} → Turn G back queue head tail stop depth u 0 0 → FirstStep (policyOf s) (goalOf g) plan x r → Turn G back queue head tail stop depth u ((r .at) / 4096) (startOf n ((r .at) % 4096) * K)
+      first-steps {r = r} t F =
+          step-on 0 (r .at) (subst (λ (k : ℕ). Turn G back queue head tail stop depth u 0 k) (sym (ap (λ (i : ℕ). i * n .users * K) (zero-mul (n .roles)) ∙ ap (λ (i : ℕ). i * K) (zero-mul (n .users)) ∙ zero-mul K)) t) (omega arith) (few-types (r .at) (F .high) (λ l. F .ahead l .offering .other .high))
+          (λ i w lw _ h ed. absurd (F .none i _ (range-at lw) h (edge-free ed) (edge-flow lw ed)))
+
+      pub more-steps : {plan : List ℕ} {from : ℕ} {r : Offer} → Turn G back queue head tail stop depth u (from / 4096) (startOf n (from % 4096) * K) → NextOffer (policyOf s) plan x from r → Turn G back queue head tail stop depth u ((r .at) / 4096) (startOf n ((r .at) % 4096) * K)
+      more-steps {from = from} {r = r} t N =
+          step-on from (r .at) t (N .low) (few-types (r .at) (N .high) (λ l. N .offers l .other .high))
+          (λ i w lw a h ed. absurd (N .none i _ (range-at lw) a h (edge-flow lw ed)))
+
+      -- the context at place y is no target
+      pub not-target : {e y : ℕ} → Turn G back queue head tail stop depth u e (y * K) → y < contextCount n
+          → flow (policyOf s) (eventOf e) x (contextAtIndex n y) ≡ false → Turn G back queue head tail stop depth u e ((y + 1) * K)
+      not-target {e} {y} t h f =
+          pass-to ((y + 1) * K) t
+          (λ w lo hi ed. absurd (clash (edge-flow (room (y + 1) w (omega arith) hi) ed) (ap (λ (i : ℕ). flow (policyOf s) (eventOf e) x (contextAtIndex n i)) (place-is e y w lo hi) ∙ f)))
+
+      -- the contexts of the step's type are done
+      pub swept : {by end y : ℕ} (at : ℕ) → EventSets (goalOf g) (eventOf (at / 4096)) by → at % 4096 ≤ n .types → Ends n (at % 4096) by end
+          → Turn G back queue head tail stop depth u (at / 4096) (y * K) → y ≡ end → Turn G back queue head tail stop depth u ((at + 1) / 4096) (startOf n ((at + 1) % 4096) * K)
+      swept {by} {end} {y} at E few D t q =
+          let small : n .types ≤ 255 = types-few in
+          let e : (at + 1) / 4096 ≡ at / 4096 = omega arith in
+          let o : (at + 1) % 4096 ≡ at % 4096 + 1 = omega arith in
+          rw (e, o) (⊎-elim
+          (λ (b : bit by 14 ≡ true).
+          pass-to (startOf n (at % 4096 + 1) * K) t (λ w lo hi ed. absurd (clash (sym (E .at 14) ∙ b) (edge-freeE ed))))
+          (λ (b : bit by 14 ≡ false). subst (λ (k : ℕ). Turn G back queue head tail stop depth u (at / 4096) (k * K)) (q ∙ D .whole b) t)
+          (true-or-false (bit by 14)))
 
       -- ---- what an arrival at place y comes to
       module _ {e y : ℕ} (t : Turn G back queue head tail stop depth u e (y * K)) (le : e < 1024) (Q : Asked (goalOf g) x e)

@@ -3,6 +3,7 @@ pub mod NodeLaws
 pub mod ModelLaws
 pub mod WatchLaws
 pub mod ArrivalLaws
+pub mod TypeLaws
 pub mod LevelLaws
 pub mod LoopLaws
 pub mod SeedLaws

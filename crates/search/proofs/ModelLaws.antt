@@ -24,7 +24,7 @@ use Rattle.paths.proofs.Numbers.{pack, pack-lt, pack-top, bit-pack}
 use Rattle.paths.proofs.Events.{opens}
 use Rattle.paths.proofs.Bounds.{top, one-lt}
 use Rattle.goal_model.specs.Images.{inRange, model}
-use Rattle.steps.specs.Steps.{Ready}
+use Rattle.plan.specs.Plan.{Ready}
 use Rattle.steps.proofs.FlowLaws.{flow-code}
 use Rattle.search.specs.declared.monitor.Mode.{Mode}
 use Rattle.search.specs.declared.monitor.Mode.the-variants.{Order, Events}

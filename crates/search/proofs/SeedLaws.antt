@@ -21,13 +21,11 @@ use Rattle.context.specs.Codes.{contextOf}
 use Rattle.context.specs.Ranges.{ContextInRange}
 use Rattle.context.specs.Places.{contextCount, contextAtIndex}
 use Rattle.context.proofs.PlaceLaws.{at-in-range}
-use Rattle.relations.specs.Relations.{ρ, μ}
 use Rattle.goal_image.specs.declared.check.Legs.{Legs}
 use Rattle.goal_image.specs.Layout.{legsOf}
 use Rattle.goal_image.specs.Goal.{goalOf}
 use Rattle.goal_image.specs.Sets.{contextIn, ContextSets}
 use Rattle.paths.specs.Model.{Model}
-use Rattle.paths.proofs.Any.{and-T}
 use Rattle.paths.proofs.Monitor.{Start}
 use Rattle.goal_model.specs.Images.{inRange, held, model}
 use Rattle.search.specs.declared.arrival.Arrival.{Arrival}
@@ -69,35 +67,21 @@ module _ {s g : List ℕ} {n : Counts} {l : Legs} (A : Task s g n l) (m : Mode) 
     here : contextOf (codeAt n y) ≡ x
     here = code-of-place (A .legs) h ∙ sym q
 
-    held-of : T (M .held (codeAt n y)) → (ρ (policyOf s) (x .role) (x .ty) ≡ true) × (μ (policyOf s) (x .user) (x .role) ≡ true)
-    unfolding held
-    held-of t =
-        let (a, b) = and-T (ρ (policyOf s) (x .role) (x .ty)) (μ (policyOf s) (x .user) (x .role)) .0 (subst (λ (z : Context). T (held (policyOf s) z)) here t) in
-        (to-true _ a, to-true _ b)
-
-    of-held : ρ (policyOf s) (x .role) (x .ty) ≡ true → μ (policyOf s) (x .user) (x .role) ≡ true → T (M .held (codeAt n y))
-    unfolding held
-    of-held a b =
-        subst (λ (z : Context). T (held (policyOf s) z)) (sym here)
-        (and-T (ρ (policyOf s) (x .role) (x .ty)) (μ (policyOf s) (x .user) (x .role)) .1 (of-true _ a, of-true _ b))
-
     pub no-set : {into : ℕ} {b : Bool} → ContextSets (goalOf g) x into → b ≡ bit into 0 → not b ≡ true → BeginsNot M n W y
     no-set {into} {b} S p k =
         begins-not (λ z. clash (to-true (M .σ 0 (codeAt n y)) (z .starts)) (ap (contextIn (goalOf g) 0) here ∙ sym (in-set S 0 (omega arith)) ∙ sym p ∙ not-true b k))
 
-    pub no-role : {b : Bool} → b ≡ ρ (policyOf s) (x .role) (x .ty) → not b ≡ true → BeginsNot M n W y
-    no-role {b} p k = begins-not (λ z. clash (held-of (z .meets) .0) (sym p ∙ not-true b k))
+    pub no-held : {b : Bool} (v : ℕ) → bit v 31 ≡ held (policyOf s) x → b ≡ bit v 31 → not b ≡ true → BeginsNot M n W y
+    no-held {b} v e p k =
+        begins-not (λ z. clash (to-true (M .held (codeAt n y)) (z .meets)) (ap (held (policyOf s)) here ∙ sym e ∙ sym p ∙ not-true b k))
 
-    pub no-user : {b : Bool} → b ≡ μ (policyOf s) (x .user) (x .role) → not b ≡ true → BeginsNot M n W y
-    no-user {b} p k = begins-not (λ z. clash (held-of (z .meets) .1) (sym p ∙ not-true b k))
-
-    pub start-of : {into : ℕ} {a b c : Bool} → ContextSets (goalOf g) x into → a ≡ bit into 0 → not a ≡ false → b ≡ ρ (policyOf s) (x .role) (x .ty) → not b ≡ false
-        → c ≡ μ (policyOf s) (x .user) (x .role) → not c ≡ false → Start M (codeAt n y)
-    start-of {into} {a} {b} {c} S p p′ r r′ u u′ =
+    pub start-of : {into : ℕ} {a b : Bool} (v : ℕ) → ContextSets (goalOf g) x into → a ≡ bit into 0 → not a ≡ false → bit v 31 ≡ held (policyOf s) x → b ≡ bit v 31 → not b ≡ false
+        → Start M (codeAt n y)
+    start-of {into} {a} {b} v S p p′ e r r′ =
         record {
           context-at = subst (λ (z : Context). T (inRange (countsOf s) z)) (sym (code-of-place (A .legs) h)) (in-range-T (subst (λ (k : Counts). ContextInRange k (contextAtIndex n y)) (A .given .ready .same) (at-in-range n y (A .legs .countable .roles) (A .legs .countable .users) h)));
           starts = of-true _ (ap (contextIn (goalOf g) 0) here ∙ sym (in-set S 0 (omega arith)) ∙ sym p ∙ not-false a p′);
-          meets = of-held (sym r ∙ not-false b r′) (sym u ∙ not-false c u′);
+          meets = of-true _ (ap (held (policyOf s)) here ∙ sym e ∙ sym r ∙ not-false b r′);
         }
 
     pub beginning : {into t : ℕ} (r : Arrival) → Start M (codeAt n y) → ContextSets (goalOf g) x into → Started m l into t → Arrived m l into y t r → Begins M n W y r

@@ -6,21 +6,17 @@ use Prim.Native.Nat.{ℕ, _+_, _*_, _^_, _≤_, _<_}
 use lib.Dec.{T}
 use Rattle.base.specs.Bits.{bit}
 use Rattle.policy_image.specs.declared.counts.Counts.{Counts}
-use Rattle.policy_image.specs.Policy.{Policy}
-use Rattle.context.specs.declared.Context.{Context}
 use Rattle.context.specs.Codes.{eventOf}
-use Rattle.context.specs.Ranges.{ContextInRange}
-use Rattle.context.specs.Places.{Countable, contextCount, contextAtIndex}
-use Rattle.access.specs.Authorization.{flow}
+use Rattle.context.specs.Places.{Countable, contextCount}
 use Rattle.goal_image.specs.declared.check.Legs.{Legs}
 use Rattle.goal_image.specs.Layout.{legsOf}
-use Rattle.goal_image.specs.Goal.{Goal, goalOf, σe, γe}
+use Rattle.goal_image.specs.Goal.{goalOf}
 use Rattle.goal_image.specs.Questions.{legsIn}
-use Rattle.goal_image.specs.Sets.{contextIn, eventIn, EventSets}
+use Rattle.goal_image.specs.Sets.{EventSets}
 use Rattle.goal_image.specs.Sound.{SoundGoal}
 use Rattle.paths.specs.Model.{Model}
 use Rattle.goal_model.specs.Images.{model}
-use Rattle.steps.specs.Steps.{Ready}
+use Rattle.plan.specs.Plan.{Ready}
 use Rattle.search.specs.declared.arrival.Arrival.{Arrival}
 use Rattle.search.specs.declared.arrival.Arrival.the-variants.{Enter, Dropped, Broken}
 use Rattle.search.specs.declared.monitor.Mode.{Mode}
@@ -91,16 +87,3 @@ module _ (M : Model) (n : Counts) (W : Watch) (y t : ℕ) where
 pub record Arriving (g : List ℕ) (n : Counts) (l : Legs) (m : Mode) (state by y : ℕ) (r : Arrival) : Type 0 where
   pub at : (s : List ℕ) (e : ℕ) → EventSets (goalOf g) (eventOf e) by
       → Lands (model s g) n (watchOf m (model s g)) y (watchOf m (model s g) .step state e (codeAt n y)) r
-
--- the events below r have no step from x, and where r is one, x is not in σe
-pub record FirstEvent (p : Policy) (g : Goal) (x : Context) (r : ℕ) : Type 0 where
-  pub high : r ≤ 1024
-  pub free : r < 1024 → contextIn g σe x ≡ false
-  pub none : (i : ℕ) (y : Context) → i < r → ContextInRange (p .counts) y → contextIn g σe x ≡ false → flow p (eventOf i) x y ≡ true → ⊥
-
--- the contexts at places below r are no targets, and the one at place r is
-pub record FirstTarget (p : Policy) (g : Goal) (n : Counts) (x : Context) (event r : ℕ) : Type 0 where
-  pub high : r ≤ contextCount n
-  pub free : r < contextCount n → eventIn g γe (eventOf event) ≡ false
-  pub flows : r < contextCount n → flow p (eventOf event) x (contextAtIndex n r) ≡ true
-  pub none : (i : ℕ) → i < r → eventIn g γe (eventOf event) ≡ false → flow p (eventOf event) x (contextAtIndex n i) ≡ true → ⊥

@@ -2,6 +2,7 @@ pub mod Graph
 pub mod State
 pub mod Nodes
 pub mod Watching
+pub mod Blocks
 pub mod Arrivals
 pub mod Tasks
 pub mod Found

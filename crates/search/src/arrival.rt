@@ -1,23 +1,23 @@
-// What arriving at a context comes to, and which events and targets a search asks from a node.
+// What arriving at a context comes to, and the first step that a search asks from a node.
 use crate::monitor::Mode;
 use crate::monitor::is_bad;
 use crate::monitor::step_state;
 use base::bits::has_bit;
 use context::Context;
-use context::Event;
 use goal_image::check::Legs;
-use goal_image::sets::context_sets;
+use plan::regions::CONTEXTS;
 use policy_image::counts::Counts;
-use steps::next_event;
-use steps::next_target;
+use steps::nearest::NONE;
+use steps::nearest::Offer;
+use steps::offers::first_offer;
+ghost use mathlib.Core.Path.{_≡_};
 ghost use Prim.Native.Nat.{suc, _+_, _*_, _^_, _≤_, _<_};
 ghost use Rattle.policy_image.specs.Policy.{policyOf};
-ghost use Rattle.context.specs.Codes.{eventOf};
-ghost use Rattle.context.specs.Ranges.{ContextInRange};
-ghost use Rattle.context.specs.Places.{contextCount};
+ghost use Rattle.context.specs.Places.{contextCount, contextAtIndex};
 ghost use Rattle.goal_image.specs.Goal.{goalOf};
-ghost use Rattle.goal_image.specs.Sets.{EventSets};
-ghost use Rattle.search.specs.Arrivals.{Given, GivenGoal, States, Arrived, Arriving, FirstEvent, FirstTarget};
+ghost use Rattle.plan.specs.Plan.{GoalPlan, Planned};
+ghost use Rattle.search.specs.Arrivals.{Given, GivenGoal, States, Arrived, Arriving};
+ghost use Rattle.search.specs.Blocks.{FirstStep};
 
 // A node to enter, by its number; an end that breaks nothing; or an end that breaks what is looked for.
 pub enum Arrival {
@@ -48,48 +48,52 @@ pub fn land(mode: Mode, legs: Legs, into: u32, y: u32, state: u32) -> Arrival
     Arrival::Enter(y * states_of(legs) + state)
 }
 
-// What a step to the context at place y comes to, from the state, by an event in the sets by.
+// What a step to the context at place y comes to, from the state, by an event in the sets by. The plan has the goal's sets.
 pub fn arrive(
     goal: &[u8],
     counts: Counts,
+    plan: &[u32],
     legs: Legs,
     mode: Mode,
     state: u32,
     by: u32,
     y: u32,
 ) -> Arrival
-    requires { ⌜ GivenGoal (now goal) counts legs × (y < contextCount counts) ⌝ }
+    requires { ⌜ GivenGoal (now goal) counts legs × GoalPlan (now goal) counts (now plan) × (y < contextCount counts) ⌝ }
     ensures { λ r. ⌜ Arriving (now (goal .entry)) counts legs mode state by y r ⌝ }
 {
-    let into = context_sets(goal, Context::at(y, counts));
+    let at = CONTEXTS + (y as usize);
+    let into = plan[at] % 32768;
     land(mode, legs, into, y, step_state(mode, legs, state, by, into))
 }
 
-// The first event to ask from x, or 1024: none where x is in σe.
-pub fn first_event(policy: &[u8], goal: &[u8], counts: Counts, x: Context) -> u32
-    requires { ⌜ Given (now policy) (now goal) counts × ContextInRange counts x ⌝ }
-    ensures { λ r. ⌜ FirstEvent (policyOf (now (policy .entry))) (goalOf (now (goal .entry))) x r ⌝ }
-{
-    if has_bit(context_sets(goal, x), 13) {
-        return 1024;
-    }
-    next_event(policy, counts, x, 0)
-}
-
-// The place of the first target of an event in the sets by, or the number of contexts: none where the event is in γe.
-pub fn first_target(
+// The first step to ask from x, which stands at place y: none where x is in σe, or does not meet ρ and μ.
+pub fn first_step(
     policy: &[u8],
     goal: &[u8],
     counts: Counts,
+    plan: &[u32],
     x: Context,
-    event: u32,
-    by: u32,
-) -> u32
-    requires { ⌜ Given (now policy) (now goal) counts × ContextInRange counts x × (event < 1024) × EventSets (goalOf (now goal)) (eventOf event) by ⌝ }
-    ensures { λ r. ⌜ FirstTarget (policyOf (now (policy .entry))) (goalOf (now (goal .entry))) counts x event r ⌝ }
+    y: u32,
+) -> Offer
+    requires { ⌜ Given (now policy) (now goal) counts × Planned (now policy) (now goal) counts (now plan) × (y < contextCount counts) × (x ≡ contextAtIndex counts y) ⌝ }
+    ensures { λ r. ⌜ FirstStep (policyOf (now (policy .entry))) (goalOf (now (goal .entry))) (now (plan .entry)) x r ⌝ }
 {
-    if has_bit(by, 14) {
-        return Context::count(counts);
+    let at = CONTEXTS + (y as usize);
+    let known = plan[at];
+    if has_bit(known % 32768, 13) {
+        return Offer {
+            group: 0,
+            entry: 0,
+            at: NONE,
+        };
     }
-    next_target(policy, counts, x, event, 0)
+    if !has_bit(known, 31) {
+        return Offer {
+            group: 0,
+            entry: 0,
+            at: NONE,
+        };
+    }
+    first_offer(policy, counts, plan, x)
 }

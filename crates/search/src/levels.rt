@@ -1,17 +1,20 @@
-// The search level by level: of the nodes in the queue, the events rising, the targets rising.
+// The search level by level: of the nodes in the queue, the events rising, and of each the types and their contexts rising.
 use crate::arrival::Arrival;
 use crate::arrival::arrive;
-use crate::arrival::first_event;
-use crate::arrival::first_target;
+use crate::arrival::first_step;
 use crate::arrival::states_of;
 use crate::monitor::Mode;
+use crate::places::end_place;
+use crate::places::first_place;
 use context::Context;
-use context::Event;
 use goal_image::check::Legs;
-use goal_image::sets::event_sets;
+use plan::regions::EVENTS;
 use policy_image::counts::Counts;
-use steps::next_event;
-use steps::next_target;
+use steps::nearest::NONE;
+use steps::offers::next_offer;
+use steps::targets::is_special;
+use steps::targets::is_target;
+ghost use Rattle.plan.specs.Plan.{Planned};
 ghost use Rattle.search.specs.State.{Inv};
 ghost use Rattle.search.specs.Tasks.{Task, graphOf};
 ghost use Rattle.search.specs.Found.{Searched};
@@ -30,16 +33,16 @@ pub fn search_levels(
     policy: &[u8],
     goal: &[u8],
     counts: Counts,
+    plan: &[u32],
     legs: Legs,
     mode: Mode,
     seeded: usize,
     queue: &mut [u32],
     back: &mut [u32],
 ) -> Found
-    requires { ⌜ Task (now policy) (now goal) counts legs × Inv (graphOf (now policy) (now goal) counts mode) (now back) (now queue) 0 seeded seeded 0 ⌝ }
+    requires { ⌜ Task (now policy) (now goal) counts legs × Planned (now policy) (now goal) counts (now plan) × Inv (graphOf (now policy) (now goal) counts mode) (now back) (now queue) 0 seeded seeded 0 ⌝ }
     ensures { λ r. ⌜ Searched (graphOf (now (policy .entry)) (now (goal .entry)) counts mode) (now (back .exit)) r ⌝ }
 {
-    let count = Context::count(counts);
     let states = states_of(legs);
     let mut tail = seeded;
     let mut head: usize = 0;
@@ -56,28 +59,34 @@ pub fn search_levels(
         let u = queue[head];
         let x = Context::at(u / states, counts);
         let state = u % states;
-        let mut e = first_event(policy, goal, counts, x);
-        while e < 1024 {
-            let by = event_sets(goal, Event::decode(e));
-            let mut y = first_target(policy, goal, counts, x, e, by);
-            while y < count {
-                match arrive(goal, counts, legs, mode, state, by, y) {
-                    Arrival::Broken(v) => {
-                        break 'search Found::At(u, e, v, depth);
-                    }
-                    Arrival::Dropped => {}
-                    Arrival::Enter(v) => {
-                        let at = v as usize;
-                        if back[at] == 0 {
-                            back[at] = u + 1;
-                            queue[tail] = v;
-                            tail += 1;
+        let mut offer = first_step(policy, goal, counts, plan, x, u / states);
+        while offer.at < NONE {
+            let e = offer.at / 4096;
+            let ty = offer.at % 4096;
+            let by = plan[EVENTS + (e as usize)];
+            let guarded = is_special(policy, counts, plan, e);
+            let end = end_place(counts, ty, by);
+            let mut y = first_place(counts, ty);
+            while y < end {
+                if is_target(policy, counts, plan, x, e, offer.entry, guarded, y) {
+                    match arrive(goal, counts, plan, legs, mode, state, by, y) {
+                        Arrival::Broken(v) => {
+                            break 'search Found::At(u, e, v, depth);
+                        }
+                        Arrival::Dropped => {}
+                        Arrival::Enter(v) => {
+                            let at = v as usize;
+                            if back[at] == 0 {
+                                back[at] = u + 1;
+                                queue[tail] = v;
+                                tail += 1;
+                            }
                         }
                     }
                 }
-                y = next_target(policy, counts, x, e, y + 1);
+                y += 1;
             }
-            e = next_event(policy, counts, x, e + 1);
+            offer = next_offer(policy, counts, plan, x, offer.group, offer.at + 1);
         }
         head += 1;
     }

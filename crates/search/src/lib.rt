@@ -2,6 +2,7 @@
 pub mod arrival;
 pub mod levels;
 pub mod monitor;
+pub mod places;
 pub mod seed;
 
 use crate::levels::Found;
@@ -12,27 +13,39 @@ use crate::seed::seed;
 use context::Context;
 use goal_image::check::Legs;
 use policy_image::counts::Counts;
+ghost use Rattle.plan.specs.Plan.{Planned};
 ghost use Rattle.search.specs.Found.{FoundLeast};
 ghost use Rattle.search.specs.Seeds.{Roomy};
 ghost use Rattle.search.specs.Tasks.{Task};
 
-// The least number of steps to a bad end, for a mode. The slices hold an entry for each node; back then leads from the node that
+// The least number of steps to a bad end, for a mode. The plan is made once of the policy and the goal. The slices hold an entry for each node; back then leads from the node that
 // is found to a start.
 pub fn search(
     policy: &[u8],
     goal: &[u8],
     counts: Counts,
+    plan: &[u32],
     legs: Legs,
     mode: Mode,
     queue: &mut [u32],
     back: &mut [u32],
 ) -> Found
-    requires { ⌜ Task (now policy) (now goal) counts legs × Roomy counts legs (now queue) (now back) ⌝ }
+    requires { ⌜ Task (now policy) (now goal) counts legs × Planned (now policy) (now goal) counts (now plan) × Roomy counts legs (now queue) (now back) ⌝ }
     ensures { λ r. ⌜ FoundLeast (now (policy .entry)) (now (goal .entry)) counts mode (now (back .exit)) r ⌝ }
 {
-    let seeded = seed(policy, goal, counts, legs, mode, queue, back);
+    let seeded = seed(policy, goal, counts, plan, legs, mode, queue, back);
     match seeded {
         Seeded::Start(y) => Found::Start(Context::at(y, counts).code()),
-        Seeded::Nodes(tail) => search_levels(policy, goal, counts, legs, mode, tail, queue, back),
+        Seeded::Nodes(tail) => search_levels(
+            policy,
+            goal,
+            counts,
+            plan,
+            legs,
+            mode,
+            tail,
+            queue,
+            back,
+        ),
     }
 }

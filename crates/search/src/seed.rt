@@ -7,13 +7,12 @@ use crate::monitor::start_state;
 use base::bits::has_bit;
 use context::Context;
 use goal_image::check::Legs;
-use goal_image::sets::context_sets;
+use plan::regions::CONTEXTS;
 use policy_image::counts::Counts;
-use relations::relations::mu;
-use relations::relations::rho;
 ghost use Prim.Native.Nat.{_≤_, _<_};
 ghost use lib.ListN.{length};
 ghost use Rattle.context.specs.Places.{contextCount};
+ghost use Rattle.plan.specs.Plan.{Planned};
 ghost use Rattle.search.specs.Seeds.{Cleared, Roomy, Beginning, Sown};
 ghost use Rattle.search.specs.Tasks.{Task};
 
@@ -28,22 +27,21 @@ pub fn start_at(
     policy: &[u8],
     goal: &[u8],
     counts: Counts,
+    plan: &[u32],
     legs: Legs,
     mode: Mode,
     y: u32,
 ) -> Arrival
-    requires { ⌜ Task (now policy) (now goal) counts legs × (y < contextCount counts) ⌝ }
+    requires { ⌜ Task (now policy) (now goal) counts legs × Planned (now policy) (now goal) counts (now plan) × (y < contextCount counts) ⌝ }
     ensures { λ r. ⌜ Beginning (now (policy .entry)) (now (goal .entry)) counts mode y r ⌝ }
 {
-    let x = Context::at(y, counts);
-    let into = context_sets(goal, x);
+    let at = CONTEXTS + (y as usize);
+    let known = plan[at];
+    let into = known % 32768;
     if !has_bit(into, 0) {
         return Arrival::Dropped;
     }
-    if !rho(policy, x.role, x.ty) {
-        return Arrival::Dropped;
-    }
-    if !mu(policy, x.user, x.role) {
+    if !has_bit(known, 31) {
         return Arrival::Dropped;
     }
     land(mode, legs, into, y, start_state(mode, legs, into))
@@ -67,12 +65,13 @@ pub fn seed(
     policy: &[u8],
     goal: &[u8],
     counts: Counts,
+    plan: &[u32],
     legs: Legs,
     mode: Mode,
     queue: &mut [u32],
     back: &mut [u32],
 ) -> Seeded
-    requires { ⌜ Task (now policy) (now goal) counts legs × Roomy counts legs (now queue) (now back) ⌝ }
+    requires { ⌜ Task (now policy) (now goal) counts legs × Planned (now policy) (now goal) counts (now plan) × Roomy counts legs (now queue) (now back) ⌝ }
     ensures { λ r. ⌜ Sown (now (policy .entry)) (now (goal .entry)) counts mode (now (queue .exit)) (now (back .exit)) r ⌝ }
 {
     let count = Context::count(counts);
@@ -81,7 +80,7 @@ pub fn seed(
     let mut tail: usize = 0;
     let mut y: u32 = 0;
     while y < count {
-        match start_at(policy, goal, counts, legs, mode, y) {
+        match start_at(policy, goal, counts, plan, legs, mode, y) {
             Arrival::Broken(_) => {
                 return Seeded::Start(y);
             }

@@ -1,1 +1,4 @@
 pub mod FlowLaws
+pub mod LowestLaws
+pub mod NearestLaws
+pub mod OfferLaws

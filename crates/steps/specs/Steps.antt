@@ -1,33 +1,45 @@
--- What the two leaves of a search promise, in terms of flow alone: how they find it is theirs.
-use Prim.Native.Nat.{ℕ, _≤_, _<_}
-use mathlib.Core.Bool.{true, false}
+-- What the leaves of a search promise: how they find it is theirs.
+use Prim.Native.Nat.{ℕ, _+_, _*_, _/_, _%_, _≤_, _<_}
+use mathlib.Core.Bool.{Bool, true, false, _&&_}
 use mathlib.Core.List.{List}
 use mathlib.Core.Path.{_≡_}
-use Rattle.policy_image.specs.declared.counts.Counts.{Counts}
-use Rattle.policy_image.specs.Layout.{countsOf}
-use Rattle.policy_image.specs.Policy.{Policy, policyOf}
-use Rattle.policy_check.specs.Sound.{Sound}
+use Rattle.base.specs.Bits.{bit}
+use Rattle.base.specs.Ranges.{Within}
+use Rattle.policy_image.specs.Policy.{Policy}
 use Rattle.context.specs.declared.Context.{Context}
 use Rattle.context.specs.Codes.{eventOf}
 use Rattle.context.specs.Ranges.{ContextInRange}
-use Rattle.context.specs.Places.{Countable, contextCount, contextAtIndex}
+use Rattle.relations.specs.Relations.{α, writeLike, readLike}
 use Rattle.access.specs.Authorization.{flow}
+use Rattle.goal_model.specs.Images.{held}
+use Rattle.plan.specs.Plan.{firstAt, outsAt, insAt, special}
+use Rattle.steps.specs.declared.nearest.Offer.{Offer}
+use Rattle.steps.specs.Nearest.{maskAt, Cursor}
 
--- s is an accepted policy, n are its counts, and its contexts can be numbered
-pub record Ready (s : List ℕ) (n : Counts) : Type 0 where
-  pub sound : Sound s
-  pub same : n ≡ countsOf s
-  pub countable : Countable n
+-- the entry offers the event from the type t to the type o: what α lets t write and o read
+pub record Offering (p : Policy) (plan : List ℕ) (t e o entry : ℕ) : Type 0 where
+  pub within : entry < 8192
+  pub event : Within 32 (32 * p .counts .classes + 31) e
+  pub other : Within 1 (p .counts .types) o
+  pub outs : bit (outsAt plan entry) (e % 32) ≡ (α p t o (eventOf e) && writeLike p (eventOf e))
+  pub ins : bit (insAt plan entry) (e % 32) ≡ (α p o t (eventOf e) && readLike p (eventOf e))
+  pub some : bit (maskAt plan entry) (e % 32) ≡ true
 
--- r is an event from e on, or 1024, and the events that it passes over do not flow from x
-pub record NextEvent (p : Policy) (x : Context) (e r : ℕ) : Type 0 where
-  pub low : e ≤ r
-  pub high : r ≤ 1024
-  pub none : (i : ℕ) (y : Context) → e ≤ i → i < r → ContextInRange (p .counts) y → flow p (eventOf i) x y ≡ true → ⊥
+-- the entries of x's type before the group are of classes before the step's
+abbrev pub Resumes : List ℕ → Context → ℕ → ℕ → Type 0
+Resumes plan x group from = (from ≤ 4194304) × Cursor plan (firstAt plan (x .ty)) (firstAt plan (x .ty + 1)) group from
 
--- r is the place of the first context from place y on to which the event flows from x, or the number of contexts
-pub record NextTarget (p : Policy) (n : Counts) (x : Context) (event y r : ℕ) : Type 0 where
-  pub low : y ≤ r
-  pub high : r ≤ contextCount n
-  pub flows : r < contextCount n → flow p (eventOf event) x (contextAtIndex n r) ≡ true
-  pub none : (i : ℕ) → y ≤ i → i < r → flow p (eventOf event) x (contextAtIndex n i) ≡ true → ⊥
+-- r is a step from a step on that an entry offers to x's type, or 4194304, and those that it passes over do not flow from x. A step
+-- is 4096 * event + the target's type
+pub record NextOffer (p : Policy) (plan : List ℕ) (x : Context) (from : ℕ) (r : Offer) : Type 0 where
+  pub low : from ≤ r .at
+  pub high : r .at ≤ 4194304
+  pub none : (i : ℕ) (y : Context) → ContextInRange (p .counts) y → from ≤ 4096 * i + y .ty → 4096 * i + y .ty < r .at → flow p (eventOf i) x y ≡ true → ⊥
+  pub offers : r .at < 4194304 → Offering p plan (x .ty) (r .at / 4096) (r .at % 4096) (r .entry)
+  pub cursor : Cursor plan (firstAt plan (x .ty)) (firstAt plan (x .ty + 1)) (r .group) from
+
+-- x, which meets ρ and μ, faces contexts of the type o by the event: the entry offers it, and c says whether it is special
+pub record Facing (p : Policy) (plan : List ℕ) (x : Context) (e o entry : ℕ) (c : Bool) : Type 0 where
+  pub meets : held p x ≡ true
+  pub offering : Offering p plan (x .ty) e o entry
+  pub conditions : c ≡ special p (eventOf e)

@@ -1,21 +1,26 @@
 -- Checkers that the promise of the goal question keeps out, each on a named input ("Four tests of a promise", 3, and ours).
 use Prim.Native.Nat.{ℕ, _+_, _*_, _≤_, _<_}
-use mathlib.Core.List.{List, [], _∷_}
+use mathlib.Core.List.{List, [], _∷_, _++_}
 use mathlib.Core.Logic.{inl, inr}
-use mathlib.Core.Path.{_≡_, ap}
+use mathlib.Core.Path.{_≡_, refl, ap}
 use native.Mathlib.Omega.{arith}
 use lib.ListN.{length, getD}
-use Rattle.base.proofs.QuestionLaws.{passed-not-refused}
+use Rattle.base.specs.Questions.{ask}
+use Rattle.base.proofs.QuestionLaws.{passed-not-refused, passed-then, one-number}
+use Rattle.policy_image.specs.Layout.{countsOf}
 use Rattle.policy_image.specs.Weir.{weir}
+use Rattle.policy_check.specs.Answer.{policyQuestions}
 use Rattle.goal_image.specs.WeirGoal.{goalG}
+use Rattle.goal_image.specs.Questions.{goalQuestions}
+use Rattle.paths.specs.Slice.{contextsIn, eventsIn}
 use Rattle.goal_model.specs.Images.{model}
 use Rattle.flowgoal.specs.declared.goal.Outcome.{Outcome}
 use Rattle.flowgoal.specs.declared.goal.Outcome.the-variants as outcome
-use Rattle.flowgoal.specs.GoalQuestion.{allQuestions, GoalPromise}
+use Rattle.flowgoal.specs.GoalQuestion.{WorkFits, allQuestions, GoalPromise, outcomeNumber}
 use Rattle.flowgoal.proofs.GoalLaws.{order-one, events-one, not-both, not-holds-order, not-holds-events, not-holds, least-one}
 use Rattle.weir.specs.Goals.{weirAllow41, writeOnly}
 use Rattle.weir.specs.Weir.{W5Slice}
-use Rattle.weir.proofs.Answers.{w1, w2, w5}
+use Rattle.weir.proofs.Answers.{w1, w2, w5, w2-path}
 use Rattle.weir.proofs.Theorem.{w2-enough, w12-enough, w12-second, refused-11, w5-slice, work-length}
 
 -- what may be said of W5's input
@@ -87,3 +92,58 @@ pub not-half-the-work : (before after : List ℕ) → GoalPromise weir goalG 16 
 not-half-the-work before after p =
     let b = work-length in
     passed-not-refused (allQuestions weir goalG 16 16) 11 (p .0) (refused-11 16 16 (λ h. let a = h .first in omega arith))
+
+-- a path one step too long, or too short: the count is the path's
+pub not-longer : (before after : List ℕ) → W5 before after (outcome.Order 2) → ⊥
+not-longer before after p = let e = not-invented before after 2 p in omega arith
+
+pub not-shorter : (before after : List ℕ) → W5 before after (outcome.Order 0) → ⊥
+not-shorter before after p = let e = not-invented before after 0 p in omega arith
+
+-- W2 has one path, and it is not W5's: 1 1 1, 2 0, 2 2 1, 2 1, 3 1 1, 2 0, 4 2 1 by their codes
+pub w2-slice : (before after : List ℕ) → GoalPromise weir writeOnly 32 32 before after (outcome.Events 3)
+    → (getD after 0 0 ≡ 273) × (getD after 1 0 ≡ 64) × (getD after 2 0 ≡ 545) × (getD after 3 0 ≡ 65) × (getD after 4 0 ≡ 785) × (getD after 5 0 ≡ 64) × (getD after 6 0 ≡ 1057)
+w2-slice before after p = w2-path (contextsIn after) (eventsIn after) (p .2 .path)
+
+-- W5's path shown for W2, with the count that W2 has
+pub not-w5-path : (before : List ℕ) → GoalPromise weir writeOnly 32 32 before (273 ∷ 64 ∷ 1057 ∷ 64 ∷ 1057 ∷ 64 ∷ 1057 ∷ []) (outcome.Events 3) → ⊥
+not-w5-path before p =
+    let q = w2-slice before (273 ∷ 64 ∷ 1057 ∷ 64 ∷ 1057 ∷ 64 ∷ 1057 ∷ []) p in
+    let z : _≡_ {A = ℕ} 1057 545 = q .2 in
+    omega arith
+
+-- the path slice written where the goal holds, or on a refusal before 12
+pub not-written-on-holds : GoalPromise weir goalG 32 32 (0 ∷ []) (273 ∷ []) outcome.Holds → ⊥
+not-written-on-holds p = let z : _≡_ {A = ℕ} 273 0 = ap (λ (l : List ℕ). getD l 0 0) (p .2) in omega arith
+
+pub not-written-on-11 : GoalPromise weir goalG 31 32 (0 ∷ []) (273 ∷ []) (outcome.Refused 11) → ⊥
+not-written-on-11 p = let z : _≡_ {A = ℕ} 273 0 = ap (λ (l : List ℕ). getD l 0 0) (p .1) in omega arith
+
+-- the goal's questions asked before the policy's: neither image has a byte, and the number is the policy's
+pub not-goal-first : (work : ℕ) (before after : List ℕ) → GoalPromise [] [] work work before after (outcome.Refused 7) → ⊥
+not-goal-first work before after p =
+    let a = one-number (allQuestions [] [] work work) 7 1 (p .0) (inl ((λ x. let h = x .whole in omega arith), refl)) in
+    omega arith
+
+-- a goal that is refused, let pass: 0 bytes are no goal
+pub not-no-goal : (work : ℕ) (before after : List ℕ) → GoalPromise weir [] work work before after outcome.Holds → ⊥
+not-no-goal work before after p =
+    let a = passed-then (policyQuestions weir) (goalQuestions (countsOf weir) [] ++ (ask 11 (WorkFits weir [] work work) ∷ [])) (p .0) in
+    let h = a .0 .whole in
+    omega arith
+
+-- the numbers that C gets for the five sorts of answer: two answers never share one, and 12 has its m
+pub number-holds : outcomeNumber outcome.Holds ≡ 0
+number-holds = refl
+
+pub number-order : outcomeNumber (outcome.Order 1) ≡ 257
+number-order = refl
+
+pub number-events : outcomeNumber (outcome.Events 3) ≡ 770
+number-events = refl
+
+pub number-refused : outcomeNumber (outcome.Refused 11) ≡ 47
+number-refused = refl
+
+pub number-no-room : outcomeNumber (outcome.NoRoom 3) ≡ 819
+number-no-room = refl

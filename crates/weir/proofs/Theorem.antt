@@ -83,17 +83,17 @@ unfolding countsOf recordCount legsOf
 write-only-length = refl
 
 -- where both images are accepted and each work slice has the entries, every question is passed
-enough : (s g : List ℕ) (work : ℕ) → Accepted s → GoalAccepted (countsOf s) g → workLength s g ≡ work → AllYes (allQuestions s g work work)
+pub enough : (s g : List ℕ) (work : ℕ) → Accepted s → GoalAccepted (countsOf s) g → workLength s g ≤ work → AllYes (allQuestions s g work work)
 enough s g work a b e =
     let last : List Question = ask 11 (WorkFits s g work work) ∷ [] in
     passed-both (policyQuestions s) (goalQuestions (countsOf s) g ++ last) (a .it)
     (passed-both (goalQuestions (countsOf s) g) last (b .it) (record { first = omega arith; second = omega arith }, tt))
 
-w5-enough : AllYes (allQuestions weirAllow41 goalG 32 32)
-w5-enough = enough weirAllow41 goalG 32 weir41-accepted goal41-accepted work41-length
+pub w5-enough : AllYes (allQuestions weirAllow41 goalG 32 32)
+w5-enough = enough weirAllow41 goalG 32 weir41-accepted goal41-accepted (omega (arith, work41-length))
 
 pub w2-enough : AllYes (allQuestions weir writeOnly 32 32)
-w2-enough = enough weir writeOnly 32 weir-accepted write-only-accepted write-only-length
+w2-enough = enough weir writeOnly 32 weir-accepted write-only-accepted (omega (arith, write-only-length))
 
 pub w5-slice : (before after : List ℕ) (r : Outcome) → 3 ≤ length before → GoalPromise weirAllow41 goalG 32 32 before after r → W5Slice before after r
 w5-slice before after outcome.Holds room p = absurd (not-holds-order (model weirAllow41 goalG) 1 (p .1) w5)

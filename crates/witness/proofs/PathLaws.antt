@@ -291,11 +291,11 @@ node-in {v = v} A S h =
       roles = omega (arith, A .legs .roles);
       users = omega (arith, A .legs .users);
       some = S .some;
-      below = at-place v (around A refl S) h;
+      below = at-place v (around A S) h;
     }
 
 pub code-at : {s g : List ℕ} {n : Counts} {l : Legs} {k c : ℕ} (v : ℕ) → Task s g n l → States l k → c ≡ codeOf n k v → c ≡ codeOf n (2 ^ legsOf g) v
-code-at {n = n} v A S q = q ∙ ap (λ (i : ℕ). codeOf n i v) (around A refl S .states-are)
+code-at {n = n} v A S q = q ∙ ap (λ (i : ℕ). codeOf n i v) (around A S .states-are)
 
 pub node-small : {s g : List ℕ} {n : Counts} {l : Legs} {k v : ℕ} → Task s g n l → States l k → v < contextCount n * 2 ^ legsOf g → v < 2 ^ 26
-node-small A S h = omega (arith, around A refl S .nodes)
+node-small A S h = omega (arith, around A S .nodes)

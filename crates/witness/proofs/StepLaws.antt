@@ -1,5 +1,5 @@
 -- Whether an event leads from one node to another, of which some event leads there.
-use mathlib.Core.Path.{_≡_, refl, sym, _∙_, ap, subst}
+use mathlib.Core.Path.{_≡_, refl, sym, _∙_, ap, subst, subst₂}
 use mathlib.Core.Bool.{Bool, true, false, not}
 use mathlib.Core.List.{List}
 use mathlib.Core.Logic.{⊎-elim}
@@ -9,36 +9,61 @@ use native.Mathlib.Omega.{arith}
 use native.Mathlib.Decide.{decLt}
 use borrow.Author.Tests.{not-true, not-false, eqb-true, eqb-false}
 use lib.Dec.{T, eqb}
+use lib.Pow.{pow-pos}
 use Rattle.base.specs.Bits.{bit}
 use Rattle.base.specs.Decides.{Decides}
 use Rattle.policy_image.specs.declared.counts.Counts.{Counts}
+use Rattle.policy_image.specs.Layout.{countsOf}
 use Rattle.policy_image.specs.Policy.{policyOf}
 use Rattle.context.specs.declared.Context.{Context}
 use Rattle.context.specs.Codes.{eventOf}
 use Rattle.context.specs.Ranges.{ContextInRange}
 use Rattle.context.specs.Places.{contextCount, contextAtIndex}
+use Rattle.context.proofs.PlaceLaws.{at-in-range}
 use Rattle.access.specs.Authorization.{flow}
 use Rattle.goal_image.specs.declared.check.Legs.{Legs}
 use Rattle.goal_image.specs.Layout.{legsOf}
 use Rattle.goal_image.specs.Goal.{goalOf}
 use Rattle.goal_image.specs.Sets.{EventSets}
-use Rattle.goal_model.specs.Images.{model}
-use Rattle.steps.specs.Steps.{NextEvent}
+use Rattle.goal_model.specs.Images.{held, model}
+use Rattle.plan.specs.Plan.{firstAt, eventsAt, special, Planned}
+use Rattle.steps.specs.declared.nearest.Offer.{Offer}
+use Rattle.steps.specs.Nearest.{Cursor}
+use Rattle.steps.specs.Steps.{Offering, Facing, NextOffer}
+use Rattle.steps.proofs.FlowLaws.{flow-held}
 use Rattle.search.specs.declared.arrival.Arrival.{Arrival}
 use Rattle.search.specs.declared.arrival.Arrival.the-variants.{Enter, Dropped, Broken}
 use Rattle.search.specs.declared.monitor.Mode.{Mode}
 use Rattle.search.specs.Nodes.{watchOf, codeAt, placeOf}
 use Rattle.search.specs.Arrivals.{States, Lands, LandsOpen, LandsGood, LandsBad, Arriving}
 use Rattle.search.specs.Tasks.{Task, Stands, graphOf}
-use Rattle.witness.specs.Links.{Linked}
+use Rattle.witness.specs.Links.{Least, Linked, typeOf, OfferedBetween}
 use Rattle.search.proofs.ModelLaws.{bounded}
-use Rattle.search.proofs.ArrivalLaws.{clash}
-use Rattle.search.proofs.LevelLaws.{edge-flow, edge-free, edge-freeE, range-at, only-at, edge-at}
+use Rattle.search.proofs.ArrivalLaws.{clash, later}
+use Rattle.search.proofs.LevelLaws.{place-lt, edge-flow, edge-free, edge-freeE, range-at, only-at, edge-at}
 use Rattle.search.proofs.LoopLaws.{Around, around, at-place, stand}
 
+-- what has been looked for: no step before the offer leads from u to w
+pub record Looking (s g : List ℕ) (n : Counts) (plan : List ℕ) (m : Mode) (u w : ℕ) (x : Context) (o : Offer) : Type 0 where
+  pub high : o .at ≤ 4194304
+  pub none : (j : ℕ) → 4096 * j + typeOf g n w < o .at → graphOf s g n m .Edge u j w → ⊥
+  pub offers : o .at < 4194304 → Offering (policyOf s) plan (x .ty) (o .at / 4096) (o .at % 4096) (o .entry)
+  pub cursor : Cursor plan (firstAt plan (x .ty)) (firstAt plan (x .ty + 1)) (o .group) (o .at + 1)
+
+-- ---- an event that an entry offers
+module _ {s g : List ℕ} {n : Counts} {l : Legs} (A : Task s g n l) where
+  classes : n .classes ≡ countsOf s .classes
+  classes = ap (λ (k : Counts). k .classes) (A .given .ready .same)
+
+  pub event-high : {plan : List ℕ} {t e o entry : ℕ} → Offering (policyOf s) plan t e o entry → e < 1024
+  event-high O = omega (arith, O .event .high, A .given .ready .sound .range .classes .high)
+
+  pub event-sets : {plan : List ℕ} {t e o entry : ℕ} → Planned s g n plan → Offering (policyOf s) plan t e o entry → EventSets (goalOf g) (eventOf e) (eventsAt plan e)
+  event-sets {e = e} P O = P .goal .events e (omega (arith, O .event .low)) (omega (arith, O .event .high, classes))
+
 module _ {s g : List ℕ} {n : Counts} {l : Legs} (A : Task s g n l) (m : Mode) {u w states : ℕ} (L : Linked (graphOf s g n m) u w) (St : States l states) where
-  fixed : Around s g n l (contextCount n) states
-  fixed = around A refl St
+  fixed : Around s g n l states
+  fixed = around A St
 
   pub from-below : u / states < contextCount n
   from-below = at-place u fixed (L .from)
@@ -58,21 +83,31 @@ module _ {s g : List ℕ} {n : Counts} {l : Legs} (A : Task s g n l) (m : Mode) 
     pub from-range : ContextInRange n x
     from-range = stand u fixed (L .from) q .range
 
-    -- the events that are passed over do not lead from u to w
-    pub passed : {e r : ℕ} → NextEvent (policyOf s) x e r → (j : ℕ) → e ≤ j → j < r → graphOf s g n m .Edge u j w → ⊥
-    passed N j lo hi ed =
-        let S = stand u fixed (L .from) q in
-        N .none j (contextAtIndex n (placeOf (2 ^ legsOf g) w)) lo hi (range-at A m S (L .to)) (edge-flow A m S (L .to) ed)
+    -- an event that leads to w flows from x to w's context
+    flows : (j : ℕ) → graphOf s g n m .Edge u j w → flow (policyOf s) (eventOf j) x (contextAtIndex n (placeOf (2 ^ legsOf g) w)) ≡ true
+    flows j ed = edge-flow A m (stand u fixed (L .from) q) (L .to) ed
 
-    pub passed-more : {e r : ℕ} → NextEvent (policyOf s) x (e + 1) r → ((j : ℕ) → j < e → graphOf s g n m .Edge u j w → ⊥) → (graphOf s g n m .Edge u e w → ⊥)
-        → (j : ℕ) → j < r → graphOf s g n m .Edge u j w → ⊥
-    passed-more {e} N below here j hi ed = go (decLt j e)
+    -- so x meets ρ and μ, since some event does
+    pub from-held : held (policyOf s) x ≡ true
+    from-held = flow-held (policyOf s) (eventOf (L .event .which)) x (contextAtIndex n (placeOf (2 ^ legsOf g) w)) (flows (L .event .which) (L .event .holds)) .0
+
+    -- x faces w's context by an event that is offered from its type to the other's
+    pub facing : {plan : List ℕ} {e entry : ℕ} {c : Bool} → OfferedBetween s g n plan u e entry w → c ≡ special (policyOf s) (eventOf e)
+        → Facing (policyOf s) plan x e (contextAtIndex n (w / states) .ty) entry c
+    facing {plan} {e} {entry} O k =
+        record {
+          meets = from-held;
+          offering = subst₂ (λ (a b : ℕ). Offering (policyOf s) plan a e b entry) (ap (λ (z : Context). z .ty) (sym place)) (ap (λ (i : ℕ). contextAtIndex n i .ty) place-w) O;
+          conditions = k;
+        }
       where
-        go : Dec (j < e) → ⊥
-        go (yes z) = below j z ed
-        go (no z) =
-            ⊎-elim (λ (k : e ≡ j). here (subst (λ (i : ℕ). graphOf s g n m .Edge u i w) (sym k) ed)) (λ (k : e < j). passed N j (omega arith) hi ed)
-            (eq-or-lt-of-le (omega arith))
+        place : x ≡ contextAtIndex n (placeOf (2 ^ legsOf g) u)
+        place = stand u fixed (L .from) q .place
+
+    -- the steps that are passed over do not lead from u to w
+    pub passed : {plan : List ℕ} {from : ℕ} {r : Offer} → NextOffer (policyOf s) plan x from r → (j : ℕ) → from ≤ 4096 * j + typeOf g n w → 4096 * j + typeOf g n w < r .at
+        → graphOf s g n m .Edge u j w → ⊥
+    passed N j lo hi ed = N .none j (contextAtIndex n (placeOf (2 ^ legsOf g) w)) (range-at A m (stand u fixed (L .from) q) (L .to)) lo hi (flows j ed)
 
   module _ {x : Context} (q : x ≡ contextAtIndex n (u / states)) (e : ℕ) {by : ℕ} (E : EventSets (goalOf g) (eventOf e) by) where
     stands : Stands g n u x (u % states)
@@ -116,3 +151,46 @@ module _ {s g : List ℕ} {n : Counts} {l : Legs} (A : Task s g n l) (m : Mode) 
                 (L .event .holds .edge .first) (edge-free A m stands (L .event .holds)) (sym (E .at 14) ∙ sym p ∙ t)
                 (ap (flow (policyOf s) (eventOf e) x) (sym q′) ∙ sym f ∙ not-false c t′) (λ j. absurd (z .outside j))
             go false i = λ ed. eqb-false v w i (z .node ∙ sym (only-at A m stands e (w / states) w place-w ed))
+
+  pub type-is : {y : Context} → y ≡ contextAtIndex n (w / states) → y .ty ≡ typeOf g n w
+  type-is q′ = ap (λ (z : Context). z .ty) q′ ∙ ap (λ (i : ℕ). contextAtIndex n i .ty) (sym place-w)
+
+  -- ---- looking for the least event
+  type-small : typeOf g n w < 4096
+  type-small =
+      let r = at-in-range n (placeOf (2 ^ legsOf g) w) (A .legs .countable .roles) (A .legs .countable .users) (place-lt (pow-pos (legsOf g)) (L .to)) in
+      let q : n .types ≡ countsOf s .types = ap (λ (k : Counts). k .types) (A .given .ready .same) in
+      omega (arith, r .ty .high, A .given .ready .sound .range .types .high)
+
+  module _ {x : Context} (q : x ≡ contextAtIndex n (u / states)) {plan : List ℕ} where
+    pub look-begin : {r : Offer} → NextOffer (policyOf s) plan x 0 r → Looking s g n plan m u w x r
+    look-begin N =
+        record { high = N .high; none = λ j h. passed q N j (omega arith) h; offers = N .offers; cursor = later (N .cursor) (omega arith) }
+
+    module _ {o : Offer} (K : Looking s g n plan m u w x o) where
+      pub offered : {y : Context} → y ≡ contextAtIndex n (w / states) → o .at < 4194304 → o .at % 4096 ≡ y .ty → OfferedBetween s g n plan u (o .at / 4096) (o .entry) w
+      offered q′ h k =
+          subst₂ (λ (a b : ℕ). Offering (policyOf s) plan a (o .at / 4096) b (o .entry)) (ap (λ (z : Context). z .ty) (stand u fixed (L .from) q .place)) (k ∙ type-is q′)
+          (K .offers h)
+
+      -- a step at the offer is by its event to its type
+      pub only-here : (j : ℕ) → o .at ≡ 4096 * j + typeOf g n w → (o .at / 4096 ≡ j) × (o .at % 4096 ≡ typeOf g n w)
+      only-here j h = let k = type-small in (omega arith, omega arith)
+
+      pub look-more : {r : Offer} → NextOffer (policyOf s) plan x (o .at + 1) r → ((j : ℕ) → o .at ≡ 4096 * j + typeOf g n w → graphOf s g n m .Edge u j w → ⊥)
+          → Looking s g n plan m u w x r
+      look-more {r} N here =
+          record { high = N .high; none = λ j h ed. go j h ed (decLt (4096 * j + typeOf g n w) (o .at)); offers = N .offers; cursor = later (N .cursor) (omega (arith, N .low)) }
+        where
+          go : (j : ℕ) → 4096 * j + typeOf g n w < r .at → graphOf s g n m .Edge u j w → Dec (4096 * j + typeOf g n w < o .at) → ⊥
+          go j h ed (yes k) = K .none j k ed
+          go j h ed (no k) =
+              ⊎-elim (λ (z : o .at ≡ 4096 * j + typeOf g n w). here j z ed) (λ (z : o .at < 4096 * j + typeOf g n w). passed q N j (omega arith) h ed)
+              (eq-or-lt-of-le (omega arith))
+
+      pub look-found : o .at < 4194304 → graphOf s g n m .Edge u (o .at / 4096) w → Least (λ e. graphOf s g n m .Edge u e w) 1024 (o .at / 4096)
+      look-found h ed =
+          record { within = omega arith; holds = ed; before = λ j k. K .none j (let z = type-small in omega arith) }
+
+      pub look-end : 4194304 ≤ o .at → ⊥
+      look-end h = K .none (L .event .which) (let z = type-small in omega (arith, L .event .within)) (L .event .holds)

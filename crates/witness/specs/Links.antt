@@ -1,6 +1,13 @@
 -- The links that a search leaves: which event leads from a node to the next is found again.
-use Prim.Native.Nat.{ℕ, _<_}
+use Prim.Native.Nat.{ℕ, _^_, _<_}
+use mathlib.Core.List.{List}
+use Rattle.policy_image.specs.declared.counts.Counts.{Counts}
+use Rattle.policy_image.specs.Policy.{policyOf}
+use Rattle.context.specs.Places.{contextAtIndex}
+use Rattle.goal_image.specs.Layout.{legsOf}
+use Rattle.steps.specs.Steps.{Offering}
 use Rattle.search.specs.Graph.{Graph}
+use Rattle.search.specs.Nodes.{placeOf}
 
 -- r is the least number below n of which P holds
 pub record Least (P : ℕ → Type 0) (n r : ℕ) : Type 0 where
@@ -20,3 +27,11 @@ pub record Linked (G : Graph) (u w : ℕ) : Type 0 where
   pub to : w < G .k
   pub event : Some (λ e. G .Edge u e w) (G .e)
   pub open-end : G .End w → ⊥
+
+-- the type of the context of node v
+abbrev pub typeOf : List ℕ → Counts → ℕ → ℕ
+typeOf g n v = contextAtIndex n (placeOf (2 ^ legsOf g) v) .ty
+
+-- the entry of a plan offers the event from the type of u's context to that of w's
+abbrev pub OfferedBetween : List ℕ → List ℕ → Counts → List ℕ → ℕ → ℕ → ℕ → ℕ → Type 0
+OfferedBetween s g n plan u e entry w = Offering (policyOf s) plan (typeOf g n u) e (typeOf g n w) entry

@@ -10,6 +10,7 @@ ghost use mathlib.Core.Path.{_≡_};
 ghost use Prim.Native.Nat.{_+_, _*_, _≤_};
 ghost use lib.ListN.{length};
 ghost use Rattle.goal_model.specs.Images.{model};
+ghost use Rattle.plan.specs.Plan.{Planned};
 ghost use Rattle.search.specs.Found.{FoundLeast};
 ghost use Rattle.search.specs.Graph.{FoundAt};
 ghost use Rattle.search.specs.Nodes.{codeOf};
@@ -29,6 +30,7 @@ fn write_path(
     policy: &[u8],
     goal: &[u8],
     counts: Counts,
+    plan: &[u32],
     legs: Legs,
     mode: Mode,
     u: u32,
@@ -38,7 +40,7 @@ fn write_path(
     back: &[u32],
     path: &mut [u32],
 )
-    requires { ⌜ Task (now policy) (now goal) counts legs × FoundAt (graphOf (now policy) (now goal) counts mode) (now back) u event v d × (graphOf (now policy) (now goal) counts mode .k ≤ length (now back)) × (2 * (d + 1) + 1 ≤ length (now path)) ⌝ }
+    requires { ⌜ Task (now policy) (now goal) counts legs × Planned (now policy) (now goal) counts (now plan) × FoundAt (graphOf (now policy) (now goal) counts mode) (now back) u event v d × (graphOf (now policy) (now goal) counts mode .k ≤ length (now back)) × (2 * (d + 1) + 1 ≤ length (now path)) ⌝ }
     ensures { λ _. ⌜ Shown (model (now (policy .entry)) (now (goal .entry))) mode (d + 1) (now (path .entry)) (now (path .exit)) ⌝ }
 {
     let states = states_of(legs);
@@ -56,7 +58,7 @@ fn write_path(
         let next = w;
         let at = next as usize;
         w = back[at] - 1;
-        e = least_event(policy, goal, counts, legs, mode, w, next);
+        e = least_event(policy, goal, counts, plan, legs, mode, w, next);
     }
 }
 
@@ -65,13 +67,14 @@ pub fn show(
     policy: &[u8],
     goal: &[u8],
     counts: Counts,
+    plan: &[u32],
     legs: Legs,
     mode: Mode,
     found: Found,
     back: &[u32],
     path: &mut [u32],
 )
-    requires { ⌜ Task (now policy) (now goal) counts legs × FoundLeast (now policy) (now goal) counts mode (now back) found × Something found × (graphOf (now policy) (now goal) counts mode .k ≤ length (now back)) × (2 * stepsTo found + 1 ≤ length (now path)) ⌝ }
+    requires { ⌜ Task (now policy) (now goal) counts legs × Planned (now policy) (now goal) counts (now plan) × FoundLeast (now policy) (now goal) counts mode (now back) found × Something found × (graphOf (now policy) (now goal) counts mode .k ≤ length (now back)) × (2 * stepsTo found + 1 ≤ length (now path)) ⌝ }
     ensures { λ _. ⌜ Shown (model (now (policy .entry)) (now (goal .entry))) mode (stepsTo found) (now (path .entry)) (now (path .exit)) ⌝ }
 {
     match found {
@@ -80,7 +83,20 @@ pub fn show(
             path[0] = x;
         }
         Found::At(u, e, v, d) => {
-            write_path(policy, goal, counts, legs, mode, u, e, v, d, back, path);
+            write_path(
+                policy,
+                goal,
+                counts,
+                plan,
+                legs,
+                mode,
+                u,
+                e,
+                v,
+                d,
+                back,
+                path,
+            );
         }
     }
 }

@@ -1,55 +1,45 @@
-use mathlib.Core.Path.{_≡_, refl, sym, _∙_, ap, subst}
+use Rattle.search.proofs.ArrivalLaws.{later}
+use Rattle.search.proofs.LoopLaws.{Around, Middle, Inner, around, node-below, at-place, stand, middle-begin, middle-end, event-low, event-high, event-few, type-low, type-high, inner-begin, inner-end, inner-place, inner-facing, inner-skip, inner-below, inner-entered, inner-seen, inner-dropped, inner-broken, inner-next}
+use Rattle.search.proofs.SearchLaws.{enter, room, nothing, turn-chain, chain-bound}
+use Rattle.search.specs.Tasks.{graphOf}
+use Rattle.search.specs.State.{Inv}
+use Rattle.plan.specs.Plan.{Planned}
+use lib.ListN.{length, getD, set, length-set}
+use Prim.Native.Nat.{ℕ, _+_, _-_, _*_, _/_, _%_, _≤_, _<_}
 use mathlib.Core.Logic.{⊎-elim}
-use Prim.Native.Nat.{ℕ, _+_, _-_, _≤_, _<_}
+use mathlib.Core.Path.{_≡_, refl, sym, _∙_, ap, subst}
 use native.Mathlib.Omega.{arith}
 use borrow.Author.Needs.{needs}
-use lib.ListN.{length, getD, set, length-set}
-use Rattle.context.specs.Places.{contextCount}
-use Rattle.search.specs.State.{Inv}
-use Rattle.search.specs.Tasks.{graphOf}
-use Rattle.search.proofs.SearchLaws.{enter, room, nothing, turn-chain, chain-bound}
-use Rattle.search.proofs.LoopLaws.{Around, Middle, Inner, around, node-below, sets-same, at-place, stand, middle-begin, middle-end, inner-begin, inner-end, inner-below, inner-entered, inner-seen, inner-dropped, inner-broken, inner-next}
 use Rattle.search.proofs.levels.search_levels.Statement.{statement}
 use Rattle.search.proofs.levels.search_levels.Tie as tie
 
 abbrev Inv-loop2 : tie.InvT-loop2
-Inv-loop2 policy goal counts legs mode seeded queue₀ back₀ count states tail₀ head level-end depth u x state e by y₀ queue back tail y =
-    (length queue ≡ length queue₀) × (length back ≡ length back₀)
-    × Inner policy goal counts legs mode count states back queue head tail level-end depth u x state e by y
+Inv-loop2 policy goal counts plan legs mode seeded queue₀ back₀ states tail₀ head level-end depth u x state offer e ty by guarded end y₀ queue back tail y = (length queue ≡ length queue₀) × (length back ≡ length back₀) × Inner policy goal counts plan legs mode states back queue head tail level-end depth u x state offer by guarded end y
 
 abbrev μ-loop2 : tie.MeasureT-loop2
-μ-loop2 policy goal counts legs mode seeded queue₀ back₀ count states tail₀ head level-end depth u x state e by y₀ queue back tail y = count - y
+μ-loop2 policy goal counts plan legs mode seeded queue₀ back₀ states tail₀ head level-end depth u x state offer e ty by guarded end y₀ queue back tail y = end - y
 
 abbrev Inv-loop : tie.InvT-loop
-Inv-loop policy goal counts legs mode seeded queue₀ back₀ count states tail₀ head level-end depth u x state e₀ queue back tail e =
-    (length queue ≡ length queue₀) × (length back ≡ length back₀)
-    × Middle policy goal counts legs mode count states back queue head tail level-end depth u x state e
+Inv-loop policy goal counts plan legs mode seeded queue₀ back₀ states tail₀ head level-end depth u x state offer₀ queue back tail offer = (length queue ≡ length queue₀) × (length back ≡ length back₀) × Middle policy goal counts plan legs mode states back queue head tail level-end depth u x state offer
 
 abbrev μ-loop : tie.MeasureT-loop
-μ-loop policy goal counts legs mode seeded queue₀ back₀ count states tail₀ head level-end depth u x state e₀ queue back tail e = 1024 - e
+μ-loop policy goal counts plan legs mode seeded queue₀ back₀ states tail₀ head level-end depth u x state offer₀ queue back tail offer = 4194304 - offer .at
 
 abbrev Inv-search : tie.InvT-search
-Inv-search policy goal counts legs mode seeded queue₀ back₀ count states tail₀ head₀ level-end₀ depth₀ queue back tail head level-end depth =
-    (length queue ≡ length queue₀) × (length back ≡ length back₀) × Around policy goal counts legs count states
-    × Inv (graphOf policy goal counts mode) back queue head tail level-end depth
+Inv-search policy goal counts plan legs mode seeded queue₀ back₀ states tail₀ head₀ level-end₀ depth₀ queue back tail head level-end depth = (length queue ≡ length queue₀) × (length back ≡ length back₀) × Around policy goal counts legs states × Planned policy goal counts plan × Inv (graphOf policy goal counts mode) back queue head tail level-end depth
 
 abbrev μ-search : tie.MeasureT-search
-μ-search policy goal counts legs mode seeded queue₀ back₀ count states tail₀ head₀ level-end₀ depth₀ queue back tail head level-end depth = graphOf policy goal counts mode .k - head
-
-count-requires : tie.Need-count-requires Inv-loop2 μ-loop2 Inv-loop μ-loop Inv-search μ-search
-count-requires c κs = c .before .before .before .before .pre .0 .legs .countable
+μ-search policy goal counts plan legs mode seeded queue₀ back₀ states tail₀ head₀ level-end₀ depth₀ queue back tail head level-end depth = graphOf policy goal counts mode .k - head
 
 states-of-requires :
     tie.Need-states-of-requires Inv-loop2 μ-loop2 Inv-loop μ-loop Inv-search μ-search
 states-of-requires c κs = c .before .before .before .before .before .pre .0 .legs .few-legs
 
 search-holds : tie.Need-search-holds Inv-loop2 μ-loop2 Inv-loop μ-loop Inv-search μ-search
-search-holds c =
-    let s = c .before .before .before .before .before .before in
-    (refl, refl, around (s .pre .0) (c .before .count .ensures) (c .states-of .ensures), s .pre .1)
+search-holds c = (refl, refl, around (c .before .before .before .before .before .before .pre .0) (c .states-of .ensures), c .before .before .before .before .before .before .pre .1, c .before .before .before .before .before .before .pre .2)
 
 add-depth : tie.Need-add-depth Inv-loop2 μ-loop2 Inv-loop μ-loop Inv-search μ-search
-add-depth c = omega (arith, c .before .before .search .inv .3 .deep (c .before .if1 .left))
+add-depth c = omega (arith, c .before .before .search .inv .4 .deep (c .before .if1 .left))
 
 mul-u : tie.Need-mul-u Inv-loop2 μ-loop2 Inv-loop μ-loop Inv-search μ-search
 mul-u c = omega arith
@@ -61,56 +51,66 @@ div-at : tie.Need-div-at Inv-loop2 μ-loop2 Inv-loop μ-loop Inv-search μ-searc
 div-at c = omega arith
 
 at-requires : tie.Need-at-requires Inv-loop2 μ-loop2 Inv-loop μ-loop Inv-search μ-search
-at-requires c κs =
-    let a = c .before .before in
-    let i = a .before .search .inv in
-    (i .2 .task .legs .countable, at-place _ (i .2) (node-below (i .3) (a .if1 .left)))
+at-requires c κs = let i = c .before .before .before .search .inv in (i .2 .task .legs .countable, at-place _ (i .2) (node-below (i .4) (c .before .before .if1 .left)))
 
 rem-state : tie.Need-rem-state Inv-loop2 μ-loop2 Inv-loop μ-loop Inv-search μ-search
 rem-state c = omega arith
 
-first-event-requires :
-    tie.Need-first-event-requires Inv-loop2 μ-loop2 Inv-loop μ-loop Inv-search μ-search
-first-event-requires c κs =
-    let a = c .before .before .before in
-    let i = a .before .search .inv in
-    (i .2 .task .given, stand _ (i .2) (node-below (i .3) (a .if1 .left)) (c .at .ensures) .range)
+div-first-step : tie.Need-div-first-step Inv-loop2 μ-loop2 Inv-loop μ-loop Inv-search μ-search
+div-first-step c = omega arith
+
+first-step-requires :
+    tie.Need-first-step-requires Inv-loop2 μ-loop2 Inv-loop μ-loop Inv-search μ-search
+first-step-requires c κs = let i = c .before .before .before .before .search .inv in (i .2 .task .given, i .3, at-place _ (i .2) (node-below (i .4) (c .before .before .before .if1 .left)), c .at .ensures)
 
 loop-holds : tie.Need-loop-holds Inv-loop2 μ-loop2 Inv-loop μ-loop Inv-search μ-search
-loop-holds c =
-    let a = c .before .before .before .before in
-    let i = a .before .search .inv in
-    let more = a .if1 .left in
-    let s = stand _ (i .2) (node-below (i .3) more) (c .before .at .ensures) in (
+loop-holds c = let i = c .before .before .before .before .before .search .inv in
+    let more = c .before .before .before .before .if1 .left in
+    let s = stand _ (i .2) (node-below (i .4) more) (c .before .at .ensures) in (
       refl,
       refl,
       ⊎-elim
-          (λ w. rw (w .1, w .2) (middle-begin (i .2) (enter (i .3) (w .0 .taken) more) more refl s (c .first-event .ensures)))
-          (λ w. rw (w .1, w .2) (middle-begin (i .2) (i .3) (omega (arith, w .0 .left, i .3 .head-stop)) refl s (c .first-event .ensures)))
+          (λ w. rw (w .1, w .2) (middle-begin (i .2) (i .3) (enter (i .4) (w .0 .taken) more) more refl s (c .first-step .ensures)))
+          (λ w. rw (w .1, w .2) (middle-begin (i .2) (i .3) (i .4) (omega (arith, w .0 .left, i .4 .head-stop)) refl s (c .first-step .ensures)))
           (c .before .before .before .if2 .came),
     )
 
-decode-requires : tie.Need-decode-requires Inv-loop2 μ-loop2 Inv-loop μ-loop Inv-search μ-search
-decode-requires c κs = search needs
+cast-by : tie.Need-cast-by Inv-loop2 μ-loop2 Inv-loop μ-loop Inv-search μ-search
+cast-by c = let I = c .before .before .before .before .loop .inv .2 in omega (arith, event-few (I .fixed) (I .ahead (c .before .before .if3 .taken)))
 
-event-sets-requires :
-    tie.Need-event-sets-requires Inv-loop2 μ-loop2 Inv-loop μ-loop Inv-search μ-search
-event-sets-requires c κs = (c .before .before .loop .inv .2 .fixed .task .given .goal, rw (c .decode .ensures) (omega arith))
+add-by : tie.Need-add-by Inv-loop2 μ-loop2 Inv-loop μ-loop Inv-search μ-search
+add-by c = let I = c .before .before .before .before .loop .inv .2 in omega (arith, event-few (I .fixed) (I .ahead (c .before .before .if3 .taken)))
 
-first-target-requires :
-    tie.Need-first-target-requires Inv-loop2 μ-loop2 Inv-loop μ-loop Inv-search μ-search
-first-target-requires c κs =
-    let i = c .before .before .before .loop .inv .2 in
-    (i .fixed .task .given, i .stands .range, c .before .before .loop-test .taken, sets-same (c .before .decode .ensures) (c .event-sets .ensures))
+mul-by : tie.Need-mul-by Inv-loop2 μ-loop2 Inv-loop μ-loop Inv-search μ-search
+mul-by c = let I = c .before .before .before .before .loop .inv .2 in omega (arith, event-few (I .fixed) (I .ahead (c .before .before .if3 .taken)))
+
+shared-slice-read-by :
+    tie.Need-shared-slice-read-by Inv-loop2 μ-loop2 Inv-loop μ-loop Inv-search μ-search
+shared-slice-read-by c = let I = c .before .before .before .before .before .loop .inv .2 in omega (arith, event-few (I .fixed) (I .ahead (c .before .before .before .if3 .taken)), I .planned .policy .size)
+
+is-special-requires :
+    tie.Need-is-special-requires Inv-loop2 μ-loop2 Inv-loop μ-loop Inv-search μ-search
+is-special-requires c κs = let I = c .before .before .before .before .before .loop .inv .2 in (I .planned .policy, event-few (I .fixed) (I .ahead (c .before .before .before .if3 .taken)))
+
+end-place-requires :
+    tie.Need-end-place-requires Inv-loop2 μ-loop2 Inv-loop μ-loop Inv-search μ-search
+end-place-requires c κs = let I = c .before .before .before .before .before .before .loop .inv .2 in (I .fixed .task .legs .countable, type-low (I .fixed) (I .ahead (c .before .before .before .before .if3 .taken)), type-high (I .fixed) (I .ahead (c .before .before .before .before .if3 .taken)))
+
+first-place-requires :
+    tie.Need-first-place-requires Inv-loop2 μ-loop2 Inv-loop μ-loop Inv-search μ-search
+first-place-requires c κs = let I = c .before .before .before .before .before .before .before .loop .inv .2 in (I .fixed .task .legs .countable, type-low (I .fixed) (I .ahead (c .before .before .before .before .before .if3 .taken)), let z = type-high (I .fixed) (I .ahead (c .before .before .before .before .before .if3 .taken)) in omega arith)
 
 loop2-holds : tie.Need-loop2-holds Inv-loop2 μ-loop2 Inv-loop μ-loop Inv-search μ-search
-loop2-holds c =
-    let i = c .before .before .before .before .loop .inv in
-    let by = sets-same (c .before .before .decode .ensures) (c .before .event-sets .ensures) in
-    (refl, refl, inner-begin (i .2) (c .before .before .before .loop-test .taken) by (c .first-target .ensures))
+loop2-holds c = let I = c .before .before .before .before .before .before .before .before .loop .inv .2 in
+    let A = I .ahead (c .before .before .before .before .before .before .if3 .taken) in
+    (refl, refl, inner-begin I (c .before .before .before .before .before .before .if3 .taken) (I .planned .goal .events _ (event-low (I .fixed) A) (event-high (I .fixed) A)) (c .before .before .is-special .ensures) (c .before .end-place .ensures) (c .first-place .ensures))
+
+is-target-requires :
+    tie.Need-is-target-requires Inv-loop2 μ-loop2 Inv-loop μ-loop Inv-search μ-search
+is-target-requires c κs = let I = c .before .loop2 .inv .2 in let h = c .loop2-test .taken in (I .fixed .task .given .ready, I .planned .policy, I .stands .range, inner-place I h, inner-facing I h)
 
 arrive-requires : tie.Need-arrive-requires Inv-loop2 μ-loop2 Inv-loop μ-loop Inv-search μ-search
-arrive-requires c κs = let i = c .before .loop2 .inv .2 in (i .fixed .task .legs, omega (arith, i .fixed .contexts))
+arrive-requires c κs = let I = c .before .before .before .loop2 .inv .2 in (I .fixed .task .legs, I .planned .goal, inner-place I (c .before .before .loop2-test .taken))
 
 enum-known-v : tie.Need-enum-known-v Inv-loop2 μ-loop2 Inv-loop μ-loop Inv-search μ-search
 enum-known-v c = search needs
@@ -124,87 +124,62 @@ enum-known-v-2 c = search needs
 cast-at : tie.Need-cast-at Inv-loop2 μ-loop2 Inv-loop μ-loop Inv-search μ-search
 cast-at c = omega arith
 
-mul-if3 : tie.Need-mul-if3 Inv-loop2 μ-loop2 Inv-loop μ-loop Inv-search μ-search
-mul-if3 c = omega arith
+mul-if5 : tie.Need-mul-if5 Inv-loop2 μ-loop2 Inv-loop μ-loop Inv-search μ-search
+mul-if5 c = omega arith
 
-slice-read-if3 : tie.Need-slice-read-if3 Inv-loop2 μ-loop2 Inv-loop μ-loop Inv-search μ-search
-slice-read-if3 c =
-    let a = c .before .before .before .before in
-    omega (arith, inner-below (a .before .before .loop2 .inv .2) (a .before .loop2-test .taken) (a .arrive .ensures) (c .before .before .v2 .given .1))
+slice-read-if5 : tie.Need-slice-read-if5 Inv-loop2 μ-loop2 Inv-loop μ-loop Inv-search μ-search
+slice-read-if5 c = omega (arith, inner-below (c .before .before .before .before .before .before .before .before .loop2 .inv .2) (c .before .before .before .before .before .before .before .loop2-test .taken) (c .before .before .before .before .before .before .is-target .ensures) (c .before .before .before .before .before .if4 .taken) (c .before .before .before .before .arrive .ensures) (c .before .before .v2 .given .1), c .before .before .before .before .before .before .before .before .loop2 .inv .2 .turn .inv .back-room)
 
 add-back : tie.Need-add-back Inv-loop2 μ-loop2 Inv-loop μ-loop Inv-search μ-search
-add-back c =
-    let a = c .before .before .before .before .before in
-    omega (arith, chain-bound (turn-chain (a .before .before .loop2 .inv .2 .turn)))
+add-back c = let I = c .before .before .before .before .before .before .before .before .before .loop2 .inv .2 in omega (arith, chain-bound (turn-chain (I .turn)), I .fixed .nodes)
 
 mul-back : tie.Need-mul-back Inv-loop2 μ-loop2 Inv-loop μ-loop Inv-search μ-search
 mul-back c = omega arith
 
 slice-write-back : tie.Need-slice-write-back Inv-loop2 μ-loop2 Inv-loop μ-loop Inv-search μ-search
-slice-write-back c =
-    let a = c .before .before .before .before .before in
-    omega (arith, inner-below (a .before .before .loop2 .inv .2) (a .before .loop2-test .taken) (a .arrive .ensures) (c .before .before .before .v2 .given .1))
+slice-write-back c = omega (arith, inner-below (c .before .before .before .before .before .before .before .before .before .loop2 .inv .2) (c .before .before .before .before .before .before .before .before .loop2-test .taken) (c .before .before .before .before .before .before .before .is-target .ensures) (c .before .before .before .before .before .before .if4 .taken) (c .before .before .before .before .before .arrive .ensures) (c .before .before .before .v2 .given .1), c .before .before .before .before .before .before .before .before .before .loop2 .inv .2 .turn .inv .back-room)
 
 mul-queue : tie.Need-mul-queue Inv-loop2 μ-loop2 Inv-loop μ-loop Inv-search μ-search
 mul-queue c = omega arith
 
 slice-write-queue :
     tie.Need-slice-write-queue Inv-loop2 μ-loop2 Inv-loop μ-loop Inv-search μ-search
-slice-write-queue c =
-    let a = c .before .before .before .before .before in
-    let i = a .before .before .loop2 .inv .2 in
-    omega (arith, room (i .turn .inv) (inner-below i (a .before .loop2-test .taken) (a .arrive .ensures) (c .before .before .before .v2 .given .1)) (c .if3 .taken))
+slice-write-queue c = let I = c .before .before .before .before .before .before .before .before .before .loop2 .inv .2 in omega (arith, room (I .turn .inv) (inner-below (c .before .before .before .before .before .before .before .before .before .loop2 .inv .2) (c .before .before .before .before .before .before .before .before .loop2-test .taken) (c .before .before .before .before .before .before .before .is-target .ensures) (c .before .before .before .before .before .before .if4 .taken) (c .before .before .before .before .before .arrive .ensures) (c .before .before .before .v2 .given .1)) (c .if5 .taken), I .turn .inv .queue-room)
 
 add-tail : tie.Need-add-tail Inv-loop2 μ-loop2 Inv-loop μ-loop Inv-search μ-search
-add-tail c = omega arith
+add-tail c = let I = c .before .before .before .before .before .before .before .before .before .loop2 .inv .2 in omega (arith, I .turn .inv .full, I .fixed .nodes)
 
-add-next-target : tie.Need-add-next-target Inv-loop2 μ-loop2 Inv-loop μ-loop Inv-search μ-search
-add-next-target c = omega arith
-
-next-target-requires :
-    tie.Need-next-target-requires Inv-loop2 μ-loop2 Inv-loop μ-loop Inv-search μ-search
-next-target-requires c κs =
-    let i = c .before .before .before .loop2 .inv .2 in
-    (i .fixed .task .given .ready, i .stands .range, i .event, omega (arith, i .fixed .contexts))
+add-y : tie.Need-add-y Inv-loop2 μ-loop2 Inv-loop μ-loop Inv-search μ-search
+add-y c = let I = c .before .before .before .loop2 .inv .2 in omega (arith, I .within, I .fixed .fewer)
 
 loop2-less : tie.Need-loop2-less Inv-loop2 μ-loop2 Inv-loop μ-loop Inv-search μ-search
 loop2-less c = omega arith
 
 loop2-again : tie.Need-loop2-again Inv-loop2 μ-loop2 Inv-loop μ-loop Inv-search μ-search
-loop2-again c =
-    let a = c .before .before in
-    let i = a .before .before .loop2 .inv in
-    let y = a .before .loop2-test .taken in
-    let z = a .arrive .ensures in
+loop2-again c = let i = c .before .before .before .loop2 .inv in
+    let h = c .before .before .loop2-test .taken in
+    let f = c .before .is-target .ensures in
     ⊎-elim
-    (λ w. rw (w .2, w .3, w .4) (i .0, i .1, inner-next (i .2) (inner-dropped (i .2) y z (w .1 .given .1)) (c .next-target .ensures) y))
+    (λ w. rw (w .4, w .5, w .6) (i .0, i .1, inner-next (i .2) h (inner-dropped (i .2) h f (w .0 .taken) (w .1 .ensures) (w .3 .given .1))))
     (⊎-elim
-    (λ w.
-    rw (w .5, w .6, w .7) (
-      simp length-set (i .0),
-      simp length-set (i .1),
-      inner-next (i .2) (inner-entered (i .2) y z (w .1 .given .1) (w .4 .taken)) (c .next-target .ensures) y,
-    ))
-    (λ w. rw (w .5, w .6, w .7) (i .0, i .1, inner-next (i .2) (inner-seen (i .2) y z (w .1 .given .1) (w .4 .left)) (c .next-target .ensures) y)))
-    (c .before .match .came)
+    (λ w. rw (w .7, w .8, w .9) (simp length-set (i .0), simp length-set (i .1), inner-next (i .2) h (inner-entered (i .2) h f (w .0 .taken) (w .1 .ensures) (w .3 .given .1) (w .6 .taken))))
+    (⊎-elim
+    (λ w. rw (w .7, w .8, w .9) (i .0, i .1, inner-next (i .2) h (inner-seen (i .2) h f (w .0 .taken) (w .1 .ensures) (w .3 .given .1) (w .6 .left))))
+    (λ w. rw (w .1, w .2, w .3) (i .0, i .1, inner-next (i .2) h (inner-skip (i .2) h f (w .0 .left))))))
+    (c .if4 .came)
 
-add-next-event : tie.Need-add-next-event Inv-loop2 μ-loop2 Inv-loop μ-loop Inv-search μ-search
-add-next-event c = omega arith
+add-next-offer : tie.Need-add-next-offer Inv-loop2 μ-loop2 Inv-loop μ-loop Inv-search μ-search
+add-next-offer c = omega (arith, c .before .before .loop2 .inv .2 .below)
 
-next-event-requires :
-    tie.Need-next-event-requires Inv-loop2 μ-loop2 Inv-loop μ-loop Inv-search μ-search
-next-event-requires c κs =
-    let i = c .before .loop2 .inv .2 in
-    (i .fixed .task .given .ready, i .stands .range, omega (arith, i .event))
+next-offer-requires :
+    tie.Need-next-offer-requires Inv-loop2 μ-loop2 Inv-loop μ-loop Inv-search μ-search
+next-offer-requires c κs = let I = c .before .before .loop2 .inv .2 in (I .fixed .task .given .ready, I .planned .policy, I .stands .range, (omega (arith, I .below), later (I .ahead .cursor) (omega arith)))
 
 loop-less : tie.Need-loop-less Inv-loop2 μ-loop2 Inv-loop μ-loop Inv-search μ-search
-loop-less c = omega arith
+loop-less c = omega (arith, c .before .before .before .loop2 .inv .2 .below, c .next-offer .ensures .low)
 
 loop-again : tie.Need-loop-again Inv-loop2 μ-loop2 Inv-loop μ-loop Inv-search μ-search
-loop-again c =
-    let i = c .before .before .loop2 .inv in
-    let j = c .before .before .before .before .before .before .before .loop .inv in
-    (i .0 ∙ j .0, i .1 ∙ j .1, inner-end (i .2) (c .before .loop2-test .left) (c .next-event .ensures))
+loop-again c = let i = c .before .before .before .loop2 .inv in let j = c .before .before .before .before .before .before .before .before .before .before .before .before .loop .inv in (i .0 ∙ j .0, i .1 ∙ j .1, inner-end (i .2) (c .before .before .loop2-test .left) (c .next-offer .ensures))
 
 add-head : tie.Need-add-head Inv-loop2 μ-loop2 Inv-loop μ-loop Inv-search μ-search
 add-head c = omega arith
@@ -213,10 +188,7 @@ search-less : tie.Need-search-less Inv-loop2 μ-loop2 Inv-loop μ-loop Inv-searc
 search-less c = omega arith
 
 search-again : tie.Need-search-again Inv-loop2 μ-loop2 Inv-loop μ-loop Inv-search μ-search
-search-again c =
-    let i = c .before .loop .inv in
-    let j = c .before .before .before .before .before .before .before .search .inv in
-    (i .0 ∙ j .0, i .1 ∙ j .1, j .2, middle-end (i .2) (c .loop-test .left))
+search-again c = let i = c .before .before .loop .inv in let j = c .before .before .before .before .before .before .before .before .search .inv in (i .0 ∙ j .0, i .1 ∙ j .1, j .2, j .3, middle-end (i .2) (c .if3 .left))
 
 same-length : tie.Need-same-length Inv-loop2 μ-loop2 Inv-loop μ-loop Inv-search μ-search
 same-length c = omega arith
@@ -225,24 +197,16 @@ same-length-2 : tie.Need-same-length-2 Inv-loop2 μ-loop2 Inv-loop μ-loop Inv-s
 same-length-2 c = omega arith
 
 returns : tie.Need-returns Inv-loop2 μ-loop2 Inv-loop μ-loop Inv-search μ-search
-returns c = nothing (c .before .search .inv .3) (c .if1 .taken)
+returns c = nothing (c .before .search .inv .4) (c .if1 .taken)
 
 same-length-3 : tie.Need-same-length-3 Inv-loop2 μ-loop2 Inv-loop μ-loop Inv-search μ-search
-same-length-3 c =
-    let a = c .before .before .before .before .before in
-    let b = a .before .before .before .before .before in
-    omega (arith, a .loop2 .inv .0, b .loop .inv .0, b .before .before .before .before .before .before .search .inv .0)
+same-length-3 c = omega (arith, c .before .before .before .before .before .before .before .loop2 .inv .0, c .before .before .before .before .before .before .before .before .before .before .before .before .before .before .before .before .loop .inv .0, c .before .before .before .before .before .before .before .before .before .before .before .before .before .before .before .before .before .before .before .before .before .before .search .inv .0)
 
 same-length-4 : tie.Need-same-length-4 Inv-loop2 μ-loop2 Inv-loop μ-loop Inv-search μ-search
-same-length-4 c =
-    let a = c .before .before .before .before .before in
-    let b = a .before .before .before .before .before in
-    omega (arith, a .loop2 .inv .1, b .loop .inv .1, b .before .before .before .before .before .before .search .inv .1)
+same-length-4 c = omega (arith, c .before .before .before .before .before .before .before .loop2 .inv .1, c .before .before .before .before .before .before .before .before .before .before .before .before .before .before .before .before .loop .inv .1, c .before .before .before .before .before .before .before .before .before .before .before .before .before .before .before .before .before .before .before .before .before .before .search .inv .1)
 
 returns-2 : tie.Need-returns-2 Inv-loop2 μ-loop2 Inv-loop μ-loop Inv-search μ-search
-returns-2 c =
-    let a = c .before .before .before in
-    inner-broken (a .before .before .loop2 .inv .2) (a .before .loop2-test .taken) (a .arrive .ensures) (c .before .v .given .1)
+returns-2 c = inner-broken (c .before .before .before .before .before .before .before .loop2 .inv .2) (c .before .before .before .before .before .before .loop2-test .taken) (c .before .before .before .before .before .is-target .ensures) (c .before .before .before .before .if4 .taken) (c .before .before .before .arrive .ensures) (c .before .v .given .1)
 
 pub search-levels-spec : {M : Type 1} → statement M
 search-levels-spec =
@@ -254,7 +218,6 @@ search-levels-spec =
     μ-loop
     Inv-search
     μ-search
-    count-requires
     states-of-requires
     search-holds
     add-depth
@@ -263,31 +226,36 @@ search-levels-spec =
     div-at
     at-requires
     rem-state
-    first-event-requires
+    div-first-step
+    first-step-requires
     loop-holds
-    decode-requires
-    event-sets-requires
-    first-target-requires
+    cast-by
+    add-by
+    mul-by
+    shared-slice-read-by
+    is-special-requires
+    end-place-requires
+    first-place-requires
     loop2-holds
+    is-target-requires
     arrive-requires
     enum-known-v
     enum-told
     enum-known-v-2
     cast-at
-    mul-if3
-    slice-read-if3
+    mul-if5
+    slice-read-if5
     add-back
     mul-back
     slice-write-back
     mul-queue
     slice-write-queue
     add-tail
-    add-next-target
-    next-target-requires
+    add-y
     loop2-less
     loop2-again
-    add-next-event
-    next-event-requires
+    add-next-offer
+    next-offer-requires
     loop-less
     loop-again
     add-head

@@ -1,46 +1,37 @@
-use mathlib.Core.Path.{_≡_, refl, sym, _∙_}
-use mathlib.Core.Logic.{⊎-elim}
+use Rattle.search.proofs.SeedLaws.{Sowing, nodes-of, nodes-few, roomy, sow-begin, sow-skip, sow-below, sow-room, sow-enter, sow-end, opened, skipped, sow-broken}
+use Rattle.plan.specs.Plan.{Planned}
+use lib.ListN.{length, length-set}
 use Prim.Native.Nat.{_-_}
+use mathlib.Core.Logic.{⊎-elim}
+use mathlib.Core.Path.{_≡_, refl, sym, _∙_}
 use native.Mathlib.Omega.{arith}
 use borrow.Author.Needs.{needs}
-use lib.ListN.{length, length-set}
-use Rattle.search.proofs.SeedLaws.{Sowing, nodes-of, nodes-few, roomy, sow-begin, sow-skip, sow-below, sow-room, sow-enter, sow-end, opened, skipped, sow-broken}
 use Rattle.search.proofs.seed.seed.Statement.{statement}
 use Rattle.search.proofs.seed.seed.Tie as tie
 
 abbrev Inv-loop : tie.InvT-loop
-Inv-loop policy goal counts legs mode queue₀ back₀ count nodes tail₀ y₀ queue back tail y =
-    (length queue ≡ length queue₀) × (length back ≡ length back₀) × Sowing policy goal counts legs mode count nodes back queue tail y
+Inv-loop policy goal counts plan legs mode queue₀ back₀ count nodes tail₀ y₀ queue back tail y = (length queue ≡ length queue₀) × (length back ≡ length back₀) × Planned policy goal counts plan × Sowing policy goal counts legs mode count nodes back queue tail y
 
 abbrev μ-loop : tie.MeasureT-loop
-μ-loop policy goal counts legs mode queue₀ back₀ count nodes tail₀ y₀ queue back tail y = count - y
+μ-loop policy goal counts plan legs mode queue₀ back₀ count nodes tail₀ y₀ queue back tail y = count - y
 
 count-requires : tie.Need-count-requires Inv-loop μ-loop
-count-requires c κs = c .before .before .before .before .pre .0 .legs .countable
+count-requires c κs = c .before .before .before .before .before .pre .0 .legs .countable
 
 states-of-requires : tie.Need-states-of-requires Inv-loop μ-loop
-states-of-requires c κs = c .before .before .before .before .before .pre .0 .legs .few-legs
+states-of-requires c κs = c .before .before .before .before .before .before .pre .0 .legs .few-legs
 
 mul-nodes : tie.Need-mul-nodes Inv-loop μ-loop
-mul-nodes c =
-    let s = c .before .before .before .before .before .before in
-    omega (arith, nodes-of (s .pre .0) (c .before .count .ensures) (c .states-of .ensures), nodes-few (s .pre .0))
+mul-nodes c = omega (arith, nodes-of (c .before .before .before .before .before .before .before .pre .0) (c .before .count .ensures) (c .states-of .ensures), nodes-few (c .before .before .before .before .before .before .before .pre .0))
 
 clear-requires : tie.Need-clear-requires Inv-loop μ-loop
-clear-requires c κs =
-    let k = c .before in
-    let s = k .before .before .before .before .before .before in
-    omega (arith, nodes-of (s .pre .0) (k .before .count .ensures) (k .states-of .ensures), roomy (s .pre .0) (s .pre .1) .1)
+clear-requires c κs = omega (arith, nodes-of (c .before .before .before .before .before .before .before .before .pre .0) (c .before .before .count .ensures) (c .before .states-of .ensures), roomy (c .before .before .before .before .before .before .before .before .pre .0) (c .before .before .before .before .before .before .before .before .pre .2) .1)
 
 loop-holds : tie.Need-loop-holds Inv-loop μ-loop
-loop-holds c =
-    let k = c .before .before .before .before in
-    let s = k .before .before .before .before .before .before in
-    let room = roomy (s .pre .0) (s .pre .1) in
-    (refl, refl, sow-begin (s .args .mode) (s .pre .0) (k .before .count .ensures) (nodes-of (s .pre .0) (k .before .count .ensures) (k .states-of .ensures)) (omega (arith, room .1)) (room .0) (c .before .before .clear .ensures))
+loop-holds c = let room = roomy (c .before .before .before .before .before .before .before .before .before .before .before .pre .0) (c .before .before .before .before .before .before .before .before .before .before .before .pre .2) in (refl, refl, c .before .before .before .before .before .before .before .before .before .before .before .pre .1, sow-begin (c .before .before .before .before .before .before .before .before .before .before .before .args .mode) (c .before .before .before .before .before .before .before .before .before .before .before .pre .0) (c .before .before .before .before .before .count .ensures) (nodes-of (c .before .before .before .before .before .before .before .before .before .before .before .pre .0) (c .before .before .before .before .before .count .ensures) (c .before .before .before .before .states-of .ensures)) (omega (arith, room .1)) (room .0) (c .before .before .clear .ensures))
 
 start-at-requires : tie.Need-start-at-requires Inv-loop μ-loop
-start-at-requires c κs = let i = c .before .loop .inv .2 in (i .task, omega (arith, i .contexts))
+start-at-requires c κs = let i = c .before .loop .inv .3 in (i .task, c .before .loop .inv .2, omega (arith, i .contexts))
 
 enum-told : tie.Need-enum-told Inv-loop μ-loop
 enum-told c = search needs
@@ -52,9 +43,7 @@ same-length-2 : tie.Need-same-length-2 Inv-loop μ-loop
 same-length-2 c = omega arith
 
 returns : tie.Need-returns Inv-loop μ-loop
-returns c =
-    let a = c .before .before in
-    sow-broken (a .before .before .loop .inv .2) (a .start-at .result) (a .start-at .ensures) (a .before .loop-test .taken) (c .enum-told .given .1)
+returns c = sow-broken (c .before .before .before .before .loop .inv .3) (c .before .before .start-at .result) (c .before .before .start-at .ensures) (c .before .before .before .loop-test .taken) (c .enum-told .given .1)
 
 enum-told-2 : tie.Need-enum-told-2 Inv-loop μ-loop
 enum-told-2 c = search needs
@@ -72,19 +61,13 @@ mul-back : tie.Need-mul-back Inv-loop μ-loop
 mul-back c = omega arith
 
 slice-write-back : tie.Need-slice-write-back Inv-loop μ-loop
-slice-write-back c =
-    let a = c .before .before .before in
-    let i = a .before .before .loop .inv .2 in
-    omega (arith, sow-below i (a .before .loop-test .taken) (opened i (a .start-at .result) (a .start-at .ensures) (c .before .v .given .1)))
+slice-write-back c = let i = c .before .before .before .before .before .loop .inv .3 in omega (arith, sow-below i (c .before .before .before .before .loop-test .taken) (opened i (c .before .before .before .start-at .result) (c .before .before .before .start-at .ensures) (c .before .v .given .1)))
 
 mul-queue : tie.Need-mul-queue Inv-loop μ-loop
 mul-queue c = omega arith
 
 slice-write-queue : tie.Need-slice-write-queue Inv-loop μ-loop
-slice-write-queue c =
-    let a = c .before .before .before in
-    let i = a .before .before .loop .inv .2 in
-    omega (arith, sow-room i (a .before .loop-test .taken) (opened i (a .start-at .result) (a .start-at .ensures) (c .before .v .given .1)))
+slice-write-queue c = let i = c .before .before .before .before .before .loop .inv .3 in omega (arith, sow-room i (c .before .before .before .before .loop-test .taken) (opened i (c .before .before .before .start-at .result) (c .before .before .before .start-at .ensures) (c .before .v .given .1)))
 
 add-tail : tie.Need-add-tail Inv-loop μ-loop
 add-tail c = omega arith
@@ -96,14 +79,12 @@ loop-less : tie.Need-loop-less Inv-loop μ-loop
 loop-less c = omega arith
 
 loop-again : tie.Need-loop-again Inv-loop μ-loop
-loop-again c =
-    let a = c .before in
-    let i = a .before .before .loop .inv in
-    let y = a .before .loop-test .taken in
-    let z = a .start-at .ensures in
+loop-again c = let i = c .before .before .before .loop .inv in
+    let y = c .before .before .loop-test .taken in
+    let z = c .before .start-at .ensures in
     ⊎-elim
-    (λ w. rw (w .2, w .3, w .4) (i .0, i .1, sow-skip (i .2) y (skipped (i .2) (a .start-at .result) z (w .1 .given .1))))
-    (λ w. rw (w .3, w .4, w .5) (simp length-set (i .0), simp length-set (i .1), sow-enter (i .2) y (opened (i .2) (a .start-at .result) z (w .1 .given .1))))
+    (λ w. rw (w .2, w .3, w .4) (i .0, i .1, i .2, sow-skip (i .3) y (skipped (i .3) (c .before .start-at .result) z (w .1 .given .1))))
+    (λ w. rw (w .3, w .4, w .5) (simp length-set (i .0), simp length-set (i .1), i .2, sow-enter (i .3) y (opened (i .3) (c .before .start-at .result) z (w .1 .given .1))))
     (c .match .came)
 
 same-length-3 : tie.Need-same-length-3 Inv-loop μ-loop
@@ -113,7 +94,7 @@ same-length-4 : tie.Need-same-length-4 Inv-loop μ-loop
 same-length-4 c = omega arith
 
 returns-2 : tie.Need-returns-2 Inv-loop μ-loop
-returns-2 c = sow-end (c .before .loop .inv .2) (c .loop-test .left)
+returns-2 c = sow-end (c .before .loop .inv .3) (c .loop-test .left)
 
 pub seed-spec : {M : Type 1} → statement M
 seed-spec =

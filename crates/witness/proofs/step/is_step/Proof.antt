@@ -1,19 +1,23 @@
-use mathlib.Core.Path.{refl, sym, _∙_}
+use mathlib.Core.Path.{refl}
 use native.Mathlib.Omega.{arith}
-use Rattle.search.proofs.LoopLaws.{sets-same}
-use Rattle.witness.proofs.StepLaws.{from-below, to-below, no-event, no-flow, no-drop, no-break, decided}
 use borrow.Author.Needs.{needs}
+use Rattle.witness.proofs.StepLaws.{from-below, to-below, from-range, event-high, event-sets, facing, no-event, no-flow, no-drop, no-break, decided}
 use Rattle.witness.proofs.step.is_step.Statement.{statement}
 use Rattle.witness.proofs.step.is_step.Tie as tie
 
 states-of-requires : tie.Need-states-of-requires
-states-of-requires c κs = search needs
+states-of-requires c κs = c .before .before .before .pre .0 .legs .few-legs
 
-decode-requires : tie.Need-decode-requires
-decode-requires c κs = search needs
+add-by : tie.Need-add-by
+add-by c = omega arith
 
-event-sets-requires : tie.Need-event-sets-requires
-event-sets-requires c κs = (c .before .before .before .before .pre .0 .given .goal, rw (c .decode .ensures) (omega arith))
+mul-by : tie.Need-mul-by
+mul-by c = omega arith
+
+shared-slice-read-by : tie.Need-shared-slice-read-by
+shared-slice-read-by c =
+    let s = c .before .before .before .before .before in
+    omega (arith, s .pre .1 .goal .size, event-high (s .pre .0) (s .pre .3))
 
 has-bit-requires : tie.Need-has-bit-requires
 has-bit-requires c κs = search needs
@@ -21,50 +25,55 @@ has-bit-requires c κs = search needs
 returns : tie.Need-returns
 returns c =
     let b = c .before in
-    let d = b .before .before in
-    let t = d .before in
-    let s = t .before .before .before in
-    λ ed. no-event (s .pre .0) (s .args .mode) (s .pre .1) (t .states-of .ensures) refl (s .args .e) (sets-same (d .decode .ensures) (b .before .event-sets .ensures)) (b .has-bit .ensures) (c .if1 .taken) ed
+    let t = b .before .before in
+    let s = t .before .before .before .before in
+    no-event (s .pre .0) (s .args .mode) (s .pre .2) (t .states-of .ensures) refl (s .args .e) (event-sets (s .pre .0) (s .pre .1) (s .pre .3)) (b .has-bit .ensures) (c .if1 .taken)
 
 div-at : tie.Need-div-at
 div-at c = search needs
 
 at-requires : tie.Need-at-requires
 at-requires c κs =
-    let t = c .before .before .before .before in
-    let s = t .before .before .before in
-    (s .pre .0 .legs .countable, from-below (s .pre .0) (s .args .mode) (s .pre .1) (t .states-of .ensures))
+    let t = c .before .before .before in
+    let s = t .before .before .before .before in
+    (s .pre .0 .legs .countable, from-below (s .pre .0) (s .args .mode) (s .pre .2) (t .states-of .ensures))
 
 div-y : tie.Need-div-y
 div-y c = search needs
 
-at-requires-2 : tie.Need-at-requires-2
-at-requires-2 c κs =
-    let t = c .before .before .before .before .before in
-    let s = t .before .before .before in
-    (s .pre .0 .legs .countable, to-below (s .pre .0) (s .args .mode) (s .pre .1) (t .states-of .ensures))
+is-special-requires : tie.Need-is-special-requires
+is-special-requires c κs =
+    let s = c .before .before .before .before .before .before .before .before in
+    (s .pre .1 .policy, event-high (s .pre .0) (s .pre .3))
 
-flows-requires : tie.Need-flows-requires
-flows-requires c κs = search needs
+is-target-requires : tie.Need-is-target-requires
+is-target-requires c κs =
+    let a = c .before in
+    let t = a .before .before .before .before in
+    let s = t .before .before .before .before in (
+      s .pre .0 .given .ready,
+      s .pre .1 .policy,
+      from-range (s .pre .0) (s .args .mode) (s .pre .2) (t .states-of .ensures) (a .at .ensures),
+      to-below (s .pre .0) (s .args .mode) (s .pre .2) (t .states-of .ensures),
+      facing (s .pre .0) (s .args .mode) (s .pre .2) (t .states-of .ensures) (a .at .ensures) (s .pre .3) (c .is-special .ensures),
+    )
 
 returns-2 : tie.Need-returns-2
 returns-2 c =
     let f = c .before in
     let a = f .before .before in
-    let b = a .before .before in
-    let d = b .before .before in
-    let t = d .before in
-    let s = t .before .before .before in
-    no-flow (s .pre .0) (s .args .mode) (s .pre .1) (t .states-of .ensures) (a .at .ensures) (s .args .e) (sets-same (d .decode .ensures) (b .before .event-sets .ensures)) (f .before .at2 .ensures) (f .flows .ensures) (c .if2 .taken)
+    let t = a .before .before .before .before in
+    let s = t .before .before .before .before in
+    no-flow (s .pre .0) (s .args .mode) (s .pre .2) (t .states-of .ensures) (a .at .ensures) (s .args .e) (event-sets (s .pre .0) (s .pre .1) (s .pre .3)) refl (f .is-target .ensures) (c .if2 .taken)
 
 rem-arrive : tie.Need-rem-arrive
 rem-arrive c = search needs
 
 arrive-requires : tie.Need-arrive-requires
 arrive-requires c κs =
-    let t = c .before .before .before .before .before .before .before .before in
-    let s = t .before .before .before in
-    (s .pre .0 .legs, to-below (s .pre .0) (s .args .mode) (s .pre .1) (t .states-of .ensures))
+    let t = c .before .before .before .before .before .before .before in
+    let s = t .before .before .before .before in
+    (s .pre .0 .legs, s .pre .1 .goal, to-below (s .pre .0) (s .args .mode) (s .pre .2) (t .states-of .ensures))
 
 enum-known-v : tie.Need-enum-known-v
 enum-known-v c = search needs
@@ -81,45 +90,41 @@ returns-3 c =
     let f = r .before .before in
     let a = f .before .before in
     let b = a .before .before in
-    let d = b .before .before in
-    let t = d .before in
-    let s = t .before .before .before in
-    decided (s .pre .0) (s .args .mode) (s .pre .1) (t .states-of .ensures) (a .at .ensures) (s .args .e) (sets-same (d .decode .ensures) (b .before .event-sets .ensures)) (r .arrive .result) (r .arrive .ensures) (b .has-bit .ensures) (a .before .if1 .left) (f .before .at2 .ensures) (f .flows .ensures) (r .before .if2 .left) _ (c .before .v .given .1)
+    let t = b .before .before in
+    let s = t .before .before .before .before in
+    decided (s .pre .0) (s .args .mode) (s .pre .2) (t .states-of .ensures) (a .at .ensures) (s .args .e) (event-sets (s .pre .0) (s .pre .1) (s .pre .3)) (r .arrive .result) (r .arrive .ensures) (b .has-bit .ensures) (a .before .if1 .left) refl (f .is-target .ensures) (r .before .if2 .left) _ (c .before .v .given .1)
 
 returns-4 : tie.Need-returns-4
 returns-4 c =
     let r = c .before .before in
     let a = r .before .before .before .before in
-    let b = a .before .before in
-    let d = b .before .before in
-    let t = d .before in
-    let s = t .before .before .before in
-    no-drop (s .pre .0) (s .args .mode) (s .pre .1) (t .states-of .ensures) (a .at .ensures) (s .args .e) (sets-same (d .decode .ensures) (b .before .event-sets .ensures)) (r .arrive .result) (r .arrive .ensures) (c .enum-told .given .1)
+    let t = a .before .before .before .before in
+    let s = t .before .before .before .before in
+    no-drop (s .pre .0) (s .args .mode) (s .pre .2) (t .states-of .ensures) (a .at .ensures) (s .args .e) (event-sets (s .pre .0) (s .pre .1) (s .pre .3)) (r .arrive .result) (r .arrive .ensures) (c .enum-told .given .1)
 
 returns-5 : tie.Need-returns-5
 returns-5 c =
     let r = c .before .before in
     let a = r .before .before .before .before in
-    let b = a .before .before in
-    let d = b .before .before in
-    let t = d .before in
-    let s = t .before .before .before in
-    no-break (s .pre .0) (s .args .mode) (s .pre .1) (t .states-of .ensures) (a .at .ensures) (s .args .e) (sets-same (d .decode .ensures) (b .before .event-sets .ensures)) (r .arrive .result) (r .arrive .ensures) (c .enum-told2 .given .1)
+    let t = a .before .before .before .before in
+    let s = t .before .before .before .before in
+    no-break (s .pre .0) (s .args .mode) (s .pre .2) (t .states-of .ensures) (a .at .ensures) (s .args .e) (event-sets (s .pre .0) (s .pre .1) (s .pre .3)) (r .arrive .result) (r .arrive .ensures) (c .enum-told2 .given .1)
 
 pub is-step-spec : {M : Type 1} → statement M
 is-step-spec =
     tie.close
     (tie.spec
     states-of-requires
-    decode-requires
-    event-sets-requires
+    add-by
+    mul-by
+    shared-slice-read-by
     has-bit-requires
     returns
     div-at
     at-requires
     div-y
-    at-requires-2
-    flows-requires
+    is-special-requires
+    is-target-requires
     returns-2
     rem-arrive
     arrive-requires

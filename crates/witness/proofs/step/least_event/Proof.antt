@@ -1,84 +1,109 @@
-use Prim.Native.Nat.{ℕ, _-_, _≤_, _<_}
-use mathlib.Core.Path.{_≡_, refl}
+use Prim.Native.Nat.{ℕ, _+_, _-_, _/_, _*_, _≤_, _<_}
+use mathlib.Core.Logic.{⊎-elim}
+use mathlib.Core.Path.{_≡_, refl, sym, ap, subst, _∙_}
 use native.Mathlib.Omega.{arith}
-use borrow.Author.Needs.{needs}
+use denote.Ref.{now}
 use Rattle.base.proofs.Decide.{yes-of, no-of}
-use Rattle.context.specs.Places.{contextAtIndex}
 use Rattle.search.specs.Tasks.{graphOf}
-use Rattle.witness.proofs.StepLaws.{from-below, from-range, passed, passed-more}
+use Rattle.witness.proofs.StepLaws.{Looking, from-below, to-below, from-range, type-is, offered, only-here, look-begin, look-more, look-found, look-end}
 use Rattle.witness.proofs.step.least_event.Statement.{statement}
 use Rattle.witness.proofs.step.least_event.Tie as tie
 
 abbrev Inv-loop : tie.InvT-loop
-Inv-loop policy goal counts legs mode u w x e₀ e = (e ≤ 1024) × ((j : ℕ) → j < e → graphOf policy goal counts mode .Edge u j w → ⊥)
+Inv-loop policy goal counts plan legs mode u w states x y offer₀ offer = Looking policy goal counts plan mode u w x offer
 
 abbrev μ-loop : tie.MeasureT-loop
-μ-loop policy goal counts legs mode u w x e₀ e = 1024 - e
+μ-loop policy goal counts plan legs mode u w states x y offer₀ offer = 4194304 - offer .at
+
+-- where the loop stands
+module _ (L : tie.At-loop Inv-loop μ-loop) where
+  abbrev to : tie.After-at2 Inv-loop μ-loop
+  to = L .before .before
+
+  abbrev from : tie.After-at Inv-loop μ-loop
+  from = to .before
+
+  abbrev start : tie.Start Inv-loop μ-loop
+  start = from .before .before .before .before .before
 
 states-of-requires : tie.Need-states-of-requires Inv-loop μ-loop
-states-of-requires c κs = c .before .before .pre .0 .legs .few-legs
+states-of-requires c κs = c .before .before .before .pre .0 .legs .few-legs
 
 div-at : tie.Need-div-at Inv-loop μ-loop
 div-at c = omega (arith, c .states-of .ensures .some)
 
 at-requires : tie.Need-at-requires Inv-loop μ-loop
 at-requires c κs =
-    let s = c .before .before .before in
-    (s .pre .0 .legs .countable, from-below (s .pre .0) (s .args .mode) (s .pre .1) (c .states-of .ensures))
-
-next-event-requires : tie.Need-next-event-requires Inv-loop μ-loop
-next-event-requires c κs =
     let s = c .before .before .before .before in
-    (s .pre .0 .given .ready, from-range (s .pre .0) (s .args .mode) (s .pre .1) (c .before .states-of .ensures) (c .at .ensures), omega arith)
+    (s .pre .0 .legs .countable, from-below (s .pre .0) (s .args .mode) (s .pre .2) (c .states-of .ensures))
+
+div-at-2 : tie.Need-div-at-2 Inv-loop μ-loop
+div-at-2 c = omega (arith, c .before .states-of .ensures .some)
+
+at-requires-2 : tie.Need-at-requires-2 Inv-loop μ-loop
+at-requires-2 c κs =
+    let s = c .before .before .before .before .before in
+    (s .pre .0 .legs .countable, to-below (s .pre .0) (s .args .mode) (s .pre .2) (c .before .states-of .ensures))
+
+first-offer-requires : tie.Need-first-offer-requires Inv-loop μ-loop
+first-offer-requires c κs =
+    let a = c .before in
+    let s = a .before .before .before .before .before in
+    (s .pre .0 .given .ready, s .pre .1 .policy, from-range (s .pre .0) (s .args .mode) (s .pre .2) (a .before .states-of .ensures) (a .at .ensures))
 
 loop-holds : tie.Need-loop-holds Inv-loop μ-loop
 loop-holds c =
-    let a = c .before in
-    let s = a .before .before .before .before in
-    let N = c .next-event .ensures in
-    (N .high, λ j h. passed (s .pre .0) (s .args .mode) (s .pre .1) (a .before .states-of .ensures) (a .at .ensures) N j (omega arith) h)
+    let a = c .before .before in
+    let s = a .before .before .before .before .before in
+    look-begin (s .pre .0) (s .args .mode) (s .pre .2) (a .before .states-of .ensures) (a .at .ensures) (c .first-offer .ensures)
 
 is-step-requires : tie.Need-is-step-requires Inv-loop μ-loop
-is-step-requires c κs = let s = c .before .before .before .before .before .before .before in (s .pre .0, s .pre .1, c .loop-test .taken)
+is-step-requires c κs =
+    let L = c .before .before .before .before .before .before in
+    let s = start L in (
+      s .pre .0,
+      s .pre .1,
+      s .pre .2,
+      offered (s .pre .0) (s .args .mode) (s .pre .2) (from L .before .states-of .ensures) (from L .at .ensures) (L .loop .inv) (to L .at2 .ensures) (c .before .before .before .before .if1 .taken) (c .if2 .taken),
+    )
 
 returns : tie.Need-returns Inv-loop μ-loop
 returns c =
-    record {
-      within = omega arith;
-      holds = yes-of (c .before .is-step .result) (c .before .is-step .ensures) (c .if1 .taken);
-      before = c .before .before .before .loop .inv .1;
-    }
+    let b = c .before in
+    let d = b .before .before .before .before .before in
+    let L = d .before .before in
+    let s = start L in
+    look-found (s .pre .0) (s .args .mode) (s .pre .2) (from L .before .states-of .ensures) (from L .at .ensures) (L .loop .inv) (d .if1 .taken)
+    (yes-of (b .is-step .result) (b .is-step .ensures) (c .if3 .taken))
 
-add-next-event : tie.Need-add-next-event Inv-loop μ-loop
-add-next-event c = omega arith
+add-next-offer : tie.Need-add-next-offer Inv-loop μ-loop
+add-next-offer c = omega arith
 
-next-event-requires-2 : tie.Need-next-event-requires-2 Inv-loop μ-loop
-next-event-requires-2 c κs =
-    let l = c .before .before .before in
-    let a = l .before .before in
-    let s = a .before .before .before .before in
-    let h = c .before .before .loop-test .taken in
-    (s .pre .0 .given .ready, from-range (s .pre .0) (s .args .mode) (s .pre .1) (a .before .states-of .ensures) (a .at .ensures), omega arith)
+next-offer-requires : tie.Need-next-offer-requires Inv-loop μ-loop
+next-offer-requires c κs =
+    let d = c .before .before .before .before .before in
+    let L = d .before .before in
+    let s = start L in
+    (s .pre .0 .given .ready, s .pre .1 .policy, from-range (s .pre .0) (s .args .mode) (s .pre .2) (from L .before .states-of .ensures) (from L .at .ensures), (omega (arith, d .if1 .taken), L .loop .inv .cursor))
 
 loop-less : tie.Need-loop-less Inv-loop μ-loop
-loop-less c = let N = c .next-event2 .ensures in let h = c .before .before .before .loop-test .taken in omega (arith, N .low)
+loop-less c = omega (arith, c .next-offer .ensures .low)
 
 loop-again : tie.Need-loop-again Inv-loop μ-loop
 loop-again c =
-    let i = c .before .before in
-    let l = i .before .before in
-    let a = l .before .before in
-    let s = a .before .before .before .before in
-    let N = c .next-event2 .ensures in (
-      N .high,
-      passed-more (s .pre .0) (s .args .mode) (s .pre .1) (a .before .states-of .ensures) (a .at .ensures) N (l .loop .inv .1)
-          (no-of (i .is-step .result) (i .is-step .ensures) (c .before .if1 .left)),
-    )
+    let j = c .before .before in
+    let L = j .before .before .before .before .before .before in
+    let s = start L in
+    look-more (s .pre .0) (s .args .mode) (s .pre .2) (from L .before .states-of .ensures) (from L .at .ensures) (L .loop .inv) (c .next-offer .ensures)
+    (λ i z ed. let k = only-here (s .pre .0) (s .args .mode) (s .pre .2) (from L .before .states-of .ensures) (from L .at .ensures) (L .loop .inv) i z in
+    ⊎-elim (λ w. no-of (w .1 .result) (w .1 .ensures) (w .2 .left) (subst (λ (e : ℕ). graphOf (now (s .args .policy)) (now (s .args .goal)) (s .args .counts) (s .args .mode) .Edge (s .args .u) e (s .args .w)) (sym (k .0)) ed))
+    (λ w. w .left (k .1 ∙ sym (type-is (s .pre .0) (s .args .mode) (s .pre .2) (from L .before .states-of .ensures) (to L .at2 .ensures)))) (j .if2 .came))
 
 returns-2 : tie.Need-returns-2 Inv-loop μ-loop
 returns-2 c =
-    let i = c .before .before .before .before .before .before .before .pre .1 .event in
-    absurd (c .before .loop .inv .1 (i .which) (omega (arith, i .within)) (i .holds))
+    let L = c .before .before in
+    let s = start L in
+    absurd (look-end (s .pre .0) (s .args .mode) (s .pre .2) (from L .before .states-of .ensures) (from L .at .ensures) (L .loop .inv) (omega (arith, c .if1 .left)))
 
 pub least-event-spec : {M : Type 1} → statement M
 least-event-spec =
@@ -89,12 +114,14 @@ least-event-spec =
     states-of-requires
     div-at
     at-requires
-    next-event-requires
+    div-at-2
+    at-requires-2
+    first-offer-requires
     loop-holds
     is-step-requires
     returns
-    add-next-event
-    next-event-requires-2
+    add-next-offer
+    next-offer-requires
     loop-less
     loop-again
     returns-2)

@@ -1,0 +1,171 @@
+-- From the index of a policy to the blocks of a plan: the regions are the index's lists, cut to what is write-like or read-like.
+use Prim.Native.Nat.{ℕ, zero, suc, _+_, _-_, _*_, _/_, _%_, _≤_, _<_}
+use mathlib.Core.Path.{_≡_, refl, sym, subst, ap, ap₂, _∙_}
+use mathlib.Core.Bool.{Bool, true, _&&_}
+use mathlib.Core.List.{List}
+use mathlib.Core.Logic.{_⊎_, ⊎-elim}
+use native.Mathlib.Omega.{arith}
+use lib.Bits.{bitAnd}
+use lib.ListN.{length, getD}
+use Rattle.base.specs.Bits.{bit}
+use Rattle.base.specs.Ranges.{Within}
+use Rattle.base.proofs.BitLaws.{bit-and}
+use Rattle.policy_image.specs.declared.counts.Counts.{Counts}
+use Rattle.policy_image.specs.Policy.{Policy, policyOf}
+use Rattle.policy_image.specs.Layout.{countsOf}
+use Rattle.policy_image.specs.Reading.{Counted}
+use Rattle.context.specs.Codes.{eventAt}
+use Rattle.context.specs.Places.{contextCount, contextAtIndex}
+use Rattle.relations.specs.Relations.{α, flowsAs, writeLike, readLike}
+use Rattle.tables.specs.Tables.{FlowMasks}
+use Rattle.index.specs.Index.{Has, Bears, Ranged}
+use Rattle.index.specs.Meaning.{AllowBlock, AllowIndex}
+use Rattle.index.proofs.MeaningLaws.{entry-towards, entry-from}
+use Rattle.goal_image.specs.Goal.{goalOf}
+use Rattle.goal_image.specs.Sets.{EventSets}
+use Rattle.context.specs.Codes.{eventOf}
+use Rattle.plan.specs.Fill.{Filled}
+use Rattle.plan.specs.Plan.{Ready, firstAt, keyAt, outsAt, insAt, eventsAt, contextsAt, EntryOf, OfferBlock, Blocks, BlocksPut, Tabled, TablesPut, Known, Planned}
+
+-- ---- bounds
+module _ {s : List ℕ} {n : Counts} (R : Ready s n) where
+  pub types-same : n .types ≡ policyOf s .counts .types
+  types-same = ap (λ (k : Counts). k .types) (R .same)
+
+  pub all-few : policyOf s .counts .types ≤ 255
+  all-few = R .sound .range .types .high
+
+  pub all-some : 1 ≤ policyOf s .counts .types
+  all-some = R .sound .range .types .low
+
+  pub types-few : n .types ≤ 255
+  types-few = omega (arith, types-same, all-few)
+
+  pub classes-few : n .classes ≤ 31
+  classes-few = subst (λ (k : Counts). k .classes ≤ 31) (sym (R .same)) (R .sound .range .classes .high)
+
+  pub counted : Counted s n
+  unfolding countsOf
+  counted = record { exact = R .sound .exact; same = R .same; size = ap (λ (k : Counts). k .records) (R .same) }
+
+  -- the last block's end
+  pub last-few : {first keys ts fs : List ℕ} {k : ℕ} → AllowIndex (policyOf s) first keys ts fs → k ≡ getD first (n .types + 1) 0 → k ≤ length keys
+  last-few {first} {keys} {k = k} I e =
+      let t = I .tops (policyOf s .counts .types) (record { low = all-some; high = omega arith }) in
+      let q : getD first (n .types + 1) 0 ≡ getD first (policyOf s .counts .types + 1) 0 = ap (λ (i : ℕ). getD first (i + 1) 0) types-same in
+      omega arith
+
+-- an entry's mask, cut to what its class has
+abbrev pub cutTo : (keys masks cut : List ℕ) → ℕ → ℕ
+cutTo keys masks cut i = bitAnd (getD masks i 0) (getD cut (getD keys i 0 / 4096 % 32) 0)
+
+-- the blocks stand one behind the other, so none ends behind the last
+module _ (p : Policy) (first keys ts fs : List ℕ) (I : AllowIndex p first keys ts fs) where
+  ends : (d t : ℕ) → 1 ≤ t → t + d ≡ p .counts .types → getD first (t + 1) 0 ≤ getD first (p .counts .types + 1) 0
+  ends zero t l e = let q : t ≡ p .counts .types = omega arith in subst (λ (k : ℕ). getD first (t + 1) 0 ≤ getD first (k + 1) 0) q (omega arith)
+  ends (suc d) t l e =
+      let step = I .blocks (t + 1) (record { low = omega arith; high = omega arith }) .order in
+      omega (arith, ends d (t + 1) (omega arith) (omega arith))
+
+  pub before-end : (t : ℕ) → Within 1 (p .counts .types) t → getD first (t + 1) 0 ≤ getD first (p .counts .types + 1) 0
+  before-end t w = let h = w .high in let e : t + (p .counts .types - t) ≡ p .counts .types = omega arith in ends (p .counts .types - t) t (w .low) e
+
+module _ {p : Policy} {first keys ts fs write read old p1 p2 p3 plan : List ℕ} {n types : ℕ} (I : AllowIndex p first keys ts fs) (W : FlowMasks p 1 write) (R : FlowMasks p 2 read)
+    (few : p .counts .types ≤ 255) (same : types ≡ p .counts .types) (size : length keys ≡ 8192) (top : n ≡ getD first (types + 1) 0)
+    (F1 : Filled (λ i v. v ≡ getD first i 0) old p1 64 0 257) (F2 : Filled (λ i v. v ≡ getD keys i 0) p1 p2 512 0 n)
+    (F3 : Filled (λ i v. v ≡ cutTo keys ts write i) p2 p3 8704 0 n) (F4 : Filled (λ i v. v ≡ cutTo keys fs read i) p3 plan 16896 0 n) (some : 1 ≤ p .counts .types) where
+  last : n ≡ getD first (p .counts .types + 1) 0
+  last = top ∙ ap (λ (k : ℕ). getD first (k + 1) 0) same
+
+  room : n ≤ 8192
+  room = omega (arith, last, I .tops (p .counts .types) (record { low = some; high = omega arith }))
+
+  first-same : (t : ℕ) → t < 257 → firstAt plan t ≡ getD first t 0
+  first-same t h = F4 .below (64 + t) (omega arith) ∙ F3 .below (64 + t) (omega arith) ∙ F2 .below (64 + t) (omega arith) ∙ F1 .here t (omega arith) h
+
+  key-same : (j : ℕ) → j < n → keyAt plan j ≡ getD keys j 0
+  key-same j h = let r = room in F4 .below (512 + j) (omega arith) ∙ F3 .below (512 + j) (omega arith) ∙ F2 .here j (omega arith) h
+
+  outs-same : (j : ℕ) → j < n → outsAt plan j ≡ cutTo keys ts write j
+  outs-same j h = let r = room in F4 .below (8704 + j) (omega arith) ∙ F3 .here j (omega arith) h
+
+  ins-same : (j : ℕ) → j < n → insAt plan j ≡ cutTo keys fs read j
+  ins-same j h = F4 .here j (omega arith) h
+
+  module _ (t lo hi : ℕ) (B : AllowBlock p t keys ts fs lo hi) (within : hi ≤ n) where
+    range-at : (j : ℕ) → lo ≤ j → j < hi → Ranged (p .counts .types) (getD keys j 0)
+    range-at j l h = B .ranged (getD keys j 0) (record { place = j; low = l; high = h; key = refl })
+
+    class-at : (j : ℕ) → lo ≤ j → j < hi → getD keys j 0 / 4096 % 32 ≡ getD keys j 0 / 4096
+    class-at j l h = omega (arith, range-at j l h .class .high)
+
+    entry-of : {masks : List ℕ} {k q : ℕ} → Bears keys masks lo hi k q → EntryOf plan lo hi k
+    entry-of b = record { place = b .place; low = b .low; high = b .high; key = key-same (b .place) (omega (arith, b .high)) ∙ b .key }
+
+    offer-block : OfferBlock p t plan lo hi
+    unfolding writeLike readLike
+    offer-block =
+        record {
+          order = B .order;
+          rising = λ i j l k h. omega (arith, key-same i (omega arith), key-same j (omega arith), B .sorted .rising i j l k h);
+          ranged = λ j l h. subst (Ranged (p .counts .types)) (sym (key-same j (omega arith))) (range-at j l h);
+          outs = λ j q l h lq. subst (λ (k : ℕ). bit (outsAt plan j) q ≡ (α p t (k % 4096) (eventAt (k / 4096) q) && flowsAs p 1 (eventAt (k / 4096) q))) (sym (key-same j (omega arith)))
+              (ap (λ (m : ℕ). bit m q) (outs-same j (omega arith)) ∙ bit-and (getD ts j 0) (getD write (getD keys j 0 / 4096 % 32) 0) q
+              ∙ ap₂ _&&_ (entry-towards p t keys ts fs lo hi B j q l h lq)
+              (ap (λ (c : ℕ). bit (getD write c 0) q) (class-at j l h) ∙ W .at (getD keys j 0 / 4096) q));
+          ins = λ j q l h lq. subst (λ (k : ℕ). bit (insAt plan j) q ≡ (α p (k % 4096) t (eventAt (k / 4096) q) && flowsAs p 2 (eventAt (k / 4096) q))) (sym (key-same j (omega arith)))
+              (ap (λ (m : ℕ). bit m q) (ins-same j (omega arith)) ∙ bit-and (getD fs j 0) (getD read (getD keys j 0 / 4096 % 32) 0) q
+              ∙ ap₂ _&&_ (entry-from p t keys ts fs lo hi B j q l h lq)
+              (ap (λ (c : ℕ). bit (getD read c 0) q) (class-at j l h) ∙ R .at (getD keys j 0 / 4096) q));
+          whole = λ c o q lc lo′ lq w. ⊎-elim (λ a. entry-of (B .towards .whole c o q lc lo′ lq a)) (λ a. entry-of (B .from .whole c o q lc lo′ lq a)) w;
+        }
+
+  block-at : (t : ℕ) → Within 1 (p .counts .types) t → OfferBlock p t plan (firstAt plan t) (firstAt plan (t + 1))
+  block-at t w =
+      let h = w .high in
+      let end : getD first (t + 1) 0 ≤ n = omega (arith, last, before-end p first keys ts fs I t w) in
+      let B = offer-block t (getD first t 0) (getD first (t + 1) 0) (I .blocks t w) end in
+      subst (λ (k : ℕ). OfferBlock p t plan k (firstAt plan (t + 1))) (sym (first-same t (omega arith)))
+      (subst (λ (k : ℕ). OfferBlock p t plan (getD first t 0) k) (sym (first-same (t + 1) (omega arith))) B)
+
+  pub blocks-put : BlocksPut p old plan
+  blocks-put =
+      let r = room in
+      record {
+        blocks = record {
+          blocks = block-at;
+          tops = λ t w. let h = w .high in omega (arith, first-same (t + 1) (omega arith), I .tops t w);
+        };
+        below = λ i h. F4 .below i (omega arith) ∙ F3 .below i (omega arith) ∙ F2 .below i (omega arith) ∙ F1 .below i (omega arith);
+        above = λ i h. F4 .above i (omega arith) ∙ F3 .above i (omega arith) ∙ F2 .above i (omega arith) ∙ F1 .above i (omega arith);
+      }
+
+-- ---- the whole plan
+pub planned : {s g old p1 p2 p3 plan : List ℕ} {n : Counts} {classes : ℕ} → 26112 + contextCount n ≤ length plan → classes ≡ n .classes → n .classes ≤ 31
+    → Filled (λ e v. EventSets (goalOf g) (eventOf e) v) old p1 25088 32 (32 * (classes + 1))
+    → Filled (λ y v. Known (policyOf s) (goalOf g) (contextAtIndex n y) v) p1 p2 26112 0 (contextCount n)
+    → TablesPut (policyOf s) p2 p3 → BlocksPut (policyOf s) p3 plan → Planned s g n plan
+planned {s} {g} {old} {p1} {p2} {p3} {plan} {n} {classes} size same few E C A B =
+    record {
+      policy = record {
+        size = size;
+        tables = record {
+          special-at = λ c q h. ap (λ (k : ℕ). bit k q) (B .below c (omega arith)) ∙ A .tables .special-at c q h;
+          change = λ r1 r2 h. ap (λ (k : ℕ). bit k r2) (B .below (32 + r1) (omega arith)) ∙ A .tables .change r1 r2 h;
+        };
+        index = B .blocks;
+        meets = λ y h. known y h .holds;
+      };
+      goal = record {
+        size = size;
+        events = λ e l h.
+            subst (EventSets (goalOf g) (eventOf e)) (sym (after (25088 + e) (omega arith) ∙ C .below (25088 + e) (omega arith))) (E .here e l (omega arith));
+        contexts = λ y h. known y h .sets;
+      };
+    }
+  where
+    after : (i : ℕ) → 25088 ≤ i → getD plan i 0 ≡ getD p2 i 0
+    after i h = B .above i h ∙ A .above i (omega arith)
+
+    known : (y : ℕ) → y < contextCount n → Known (policyOf s) (goalOf g) (contextAtIndex n y) (contextsAt plan y)
+    known y h = subst (Known (policyOf s) (goalOf g) (contextAtIndex n y)) (sym (after (26112 + y) (omega arith))) (C .here y (omega arith) h)

@@ -1,0 +1,130 @@
+-- What a plan knows of contexts, of special events and of roles, from the tables that it is made of.
+use Prim.Native.Nat.{ℕ, _+_, _%_, _≤_, _<_, _^_}
+use mathlib.Core.Path.{_≡_, refl, sym, subst, ap, ap₂, _∙_}
+use mathlib.Core.Bool.{Bool, true, false, not, _&&_, _||_}
+use mathlib.Core.List.{List}
+use mathlib.Core.Logic.{⊎-elim}
+use native.Mathlib.Decide.{decLt}
+use native.Mathlib.Omega.{arith}
+use borrow.Author.Tests.{not-true, not-false, lt-ltb, le-ltb, ne-eqb, eq-eqb}
+use lib.Bits.{bitOr}
+use lib.Dec.{eqb, ltb}
+use lib.ListN.{length, getD, set}
+use lib.Seq.{getD-set-same, getD-set-other}
+use Rattle.base.specs.Bits.{bit}
+use Rattle.base.proofs.BitLaws.{bit-or, bit-pow, bit-mod}
+use Rattle.base.proofs.Numbers.{split-eq}
+use Rattle.policy_image.specs.Policy.{Policy}
+use Rattle.policy_image.specs.OfKind.{some}
+use Rattle.policy_image.specs.declared.counts.Counts.{Counts}
+use Rattle.context.specs.declared.Context.{Context}
+use Rattle.context.specs.Places.{contextCount, contextAtIndex}
+use Rattle.context.proofs.PlaceLaws.{at-in-range}
+use Rattle.context.specs.declared.Event.{Event}
+use Rattle.context.specs.Codes.{eventAt, isTransition}
+use Rattle.relations.specs.Relations.{ρ, μ}
+use Rattle.constraints.specs.Constraints.{constrains}
+use Rattle.goal_image.specs.Goal.{Goal, isContextChain}
+use Rattle.goal_image.specs.Sets.{contextIn, ContextSets, EventSets}
+use Rattle.goal_model.specs.Images.{held}
+use Rattle.tables.specs.Tables.{ConstraintMasks, RoleTable, UserTable, RoleChanges}
+use Rattle.plan.specs.Fill.{Filled}
+use Rattle.plan.specs.Plan.{Ready, specialAt, special, Tabled, TablesPut, Noted, Known}
+
+-- ---- truth values
+pub both-not : {a r : Bool} (b : Bool) → r ≡ a → not r ≡ true → false ≡ (a && b)
+both-not {a} {r} b p t = let q : a ≡ false = sym p ∙ not-true r t in rw q
+
+pub both-then : {a b r t : Bool} → r ≡ a → not r ≡ false → t ≡ b → t ≡ (a && b)
+both-then {a} {b} {r} {t} p n e = let q : a ≡ true = sym p ∙ not-false r n in rw q e
+
+or-nothing : (a : Bool) → (a || false) ≡ a
+or-nothing true = refl
+or-nothing false = refl
+
+and-false : (a : Bool) → (a && false) ≡ false
+and-false true = refl
+and-false false = refl
+
+and-yes : (a : Bool) → (a && true) ≡ a
+and-yes true = refl
+and-yes false = refl
+
+-- ---- contexts
+pub noted-held : (sets : ℕ) → Noted sets true (bitOr sets 2147483648)
+noted-held sets = record { at = λ i. bit-or sets 2147483648 i ∙ ap (λ (b : Bool). bit sets i || b) (bit-pow 31 i) }
+
+pub noted-not : (sets : ℕ) → Noted sets false sets
+noted-not sets = record { at = λ i. sym (or-nothing (bit sets i)) }
+
+module _ {g : Goal} {x : Context} {sets v : ℕ} {h : Bool} (S : ContextSets g x sets) (N : Noted sets h v) where
+  low : (i : ℕ) → Dec (i < 15) → bit (v % 2 ^ 15) i ≡ (isContextChain i && contextIn g i x)
+  low i (yes l) =
+      bit-mod v 15 i ∙ ap₂ _&&_ (lt-ltb i 15 l) (N .at i) ∙ ap (λ (b : Bool). bit sets i || (h && b)) (ne-eqb 31 i (omega arith))
+      ∙ ap (λ (b : Bool). bit sets i || b) (and-false h) ∙ or-nothing (bit sets i) ∙ S .at i
+  low i (no n) =
+      let a : 15 ≤ i = omega arith in
+      let b : 7 ≤ i = omega arith in
+      let d : i ≡ 13 → ⊥ = λ q. omega arith in
+      bit-mod v 15 i ∙ ap (λ (b : Bool). b && bit v i) (le-ltb i 15 a) ∙ sym (rw (le-ltb i 7 b, ne-eqb i 13 d))
+
+  pub known-law : {p : Policy} {roles users : List ℕ} → RoleTable p roles → UserTable p users → x .ty < 256 → x .user < 16
+      → h ≡ (bit (getD roles (x .ty) 0) (x .role) && bit (getD users (x .user) 0) (x .role)) → Known p g x v
+  unfolding held
+  known-law {p} {roles} {users} R U lt lu q =
+      record {
+        sets = record { at = λ i. low i (decLt i 15) };
+        holds = N .at 31 ∙ ap₂ _||_ (S .at 31) (and-yes h) ∙ q ∙ ap₂ _&&_ (R .at (x .ty) (x .role) lt) (U .at (x .user) (x .role) lu);
+      }
+
+pub known-same : {p : Policy} {g : Goal} {x x′ : Context} {v : ℕ} → x ≡ x′ → Known p g x v → Known p g x′ v
+known-same {p} {g} {v = v} q K = subst (λ (k : Context). Known p g k v) q K
+
+pub event-same : {g : Goal} {e e′ : Event} {v : ℕ} → e ≡ e′ → EventSets g e v → EventSets g e′ v
+event-same {g} {v = v} q S = subst (λ (k : Event). EventSets g k v) q S
+
+-- a context in range, by its place
+pub in-bytes : {s : List ℕ} {n : Counts} {y : ℕ} {x : Context} → Ready s n → y < contextCount n → x ≡ contextAtIndex n y → (x .ty < 256) × (x .role < 16) × (x .user < 16)
+in-bytes {s} {n} {y} {x} R h q =
+    let r = at-in-range n y (R .countable .roles) (R .countable .users) h in
+    let t : n .types ≤ 255 = subst (λ (k : Counts). k .types ≤ 255) (sym (R .same)) (R .sound .range .types .high) in
+    let o : n .roles ≤ 15 = subst (λ (k : Counts). k .roles ≤ 15) (sym (R .same)) (R .sound .range .roles .high) in
+    let u : n .users ≤ 15 = subst (λ (k : Counts). k .users ≤ 15) (sym (R .same)) (R .sound .range .users .high) in
+    let a = r .ty .high in
+    let b = r .role .high in
+    let d = r .user .high in
+    rw q (omega arith, omega arith, omega arith)
+
+-- ---- special events, and roles
+zero-add : (c : ℕ) → c ≡ 0 + c
+zero-add c = omega arith
+
+module _ {p : Policy} {masks : List ℕ} (C : ConstraintMasks p masks) (size : length masks ≡ 32) where
+  marked : (c q : ℕ) → bit (getD (set masks 1 (bitOr (getD masks 1 0) 1)) c 0) q ≡ special p (eventAt c q)
+  unfolding special
+  marked c q =
+      ⊎-elim
+      (λ (e : c ≡ 1).
+      let m : ℕ = getD masks 1 0 in
+      subst (λ (k : ℕ). bit (getD (set masks 1 (bitOr m 1)) k 0) q ≡ (some p 8 (λ r. constrains r (eventAt k q)) || isTransition (eventAt k q))) (sym e)
+      (ap (λ (k : ℕ). bit k q) (getD-set-same masks 1 (bitOr m 1) 0 (omega arith)) ∙ bit-or m 1 q ∙ ap₂ _||_ (C .at 1 q) (bit-pow 0 q ∙ zero-is q)))
+      (λ (d : c ≡ 1 → ⊥).
+      ap (λ (k : ℕ). bit k q) (getD-set-other masks 1 c (bitOr (getD masks 1 0) 1) 0 d) ∙ C .at c q
+      ∙ sym (ap (λ (b : Bool). some p 8 (λ r. constrains r (eventAt c q)) || (b && eqb q 0)) (ne-eqb c 1 d) ∙ or-nothing _))
+      (split-eq c 1)
+    where
+      zero-is : (i : ℕ) → eqb 0 i ≡ eqb i 0
+      zero-is i = ⊎-elim (λ (e : i ≡ 0). eq-eqb 0 i (sym e) ∙ sym (eq-eqb i 0 e)) (λ (d : i ≡ 0 → ⊥). ne-eqb 0 i (λ e. d (sym e)) ∙ sym (ne-eqb i 0 d)) (split-eq i 0)
+
+  pub tabled : {changes old mid new : List ℕ} → RoleChanges p changes
+      → Filled (λ i v. v ≡ getD (set masks 1 (bitOr (getD masks 1 0) 1)) i 0) old mid 0 0 32
+      → Filled (λ i v. v ≡ getD changes i 0) mid new 32 0 16
+      → TablesPut p old new
+  tabled {changes} {old} {mid} {new} R A B =
+      record {
+        tables = record {
+          special-at = λ c q h. ap (λ (k : ℕ). bit k q) (B .below c (omega arith) ∙ ap (λ (k : ℕ). getD mid k 0) (zero-add c) ∙ A .here c (omega arith) h) ∙ marked c q;
+          change = λ r1 r2 h. ap (λ (k : ℕ). bit k r2) (B .here r1 (omega arith) h) ∙ R .at r1 r2;
+        };
+        above = λ i h. B .above i (omega arith) ∙ A .above i (omega arith);
+      }

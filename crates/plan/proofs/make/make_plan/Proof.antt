@@ -1,0 +1,36 @@
+use Rattle.plan.proofs.BlockLaws.{classes-few, planned}
+use mathlib.Core.Path.{refl}
+use native.Mathlib.Omega.{arith}
+use borrow.Author.Needs.{needs}
+use borrow.Author.Needs.{needs}
+use Rattle.plan.proofs.make.make_plan.Statement.{statement}
+use Rattle.plan.proofs.make.make_plan.Tie as tie
+
+put-events-requires : tie.Need-put-events-requires
+put-events-requires c κs = (c .before .before .before .before .pre .1, classes-few (c .before .before .before .before .pre .0), omega arith)
+
+put-contexts-requires : tie.Need-put-contexts-requires
+put-contexts-requires c κs = search needs
+
+put-tables-requires : tie.Need-put-tables-requires
+put-tables-requires c κs = search needs
+
+put-index-requires : tie.Need-put-index-requires
+put-index-requires c κs = search needs
+
+same-length : tie.Need-same-length
+same-length c = search needs
+
+returns : tie.Need-returns
+returns c = planned (omega (arith, c .before .before .before .before .before .before .before .before .before .before .before .before .before .before .before .before .before .before .before .pre .2)) refl (classes-few (c .before .before .before .before .before .before .before .before .before .before .before .before .before .before .before .before .before .before .before .pre .0)) (c .before .before .before .before .before .before .before .before .before .before .before .before .before .before .put-events .ensures) (c .before .before .before .before .before .before .before .before .before .before .put-contexts .ensures) (c .before .before .before .before .before .before .put-tables .ensures) (c .before .before .put-index .ensures)
+
+pub make-plan-spec : {M : Type 1} → statement M
+make-plan-spec =
+    tie.close
+    (tie.spec
+    put-events-requires
+    put-contexts-requires
+    put-tables-requires
+    put-index-requires
+    same-length
+    returns)

@@ -1,0 +1,220 @@
+-- From the nearest step of a block to the next step that flows, and from an entry to whether it flows.
+use Prim.Native.Nat.{ℕ, _+_, _*_, _/_, _%_, _≤_, _<_}
+use mathlib.Core.Bool.{Bool, true, false, not, _&&_, _||_}
+use mathlib.Core.List.{List}
+use mathlib.Core.Logic.{_⊎_, inl, inr, ⊎-elim}
+use mathlib.Core.Path.{_≡_, refl, sym, ap, ap₂, subst, _∙_}
+use native.Mathlib.Omega.{arith}
+use borrow.Author.Tests.{not-true, not-false}
+use lib.Bits.{bitOr}
+use lib.ListN.{length}
+use Rattle.base.specs.Bits.{bit}
+use Rattle.base.specs.Ranges.{Within}
+use Rattle.base.proofs.BitLaws.{bit-or}
+use Rattle.base.proofs.UptoLaws.{or-cases, or-left, or-true, and-true, and-first}
+use Rattle.policy_image.specs.declared.counts.Counts.{Counts}
+use Rattle.policy_image.specs.Policy.{Policy, policyOf}
+use Rattle.policy_check.specs.Sound.{Sound}
+use Rattle.context.specs.declared.Context.{Context}
+use Rattle.context.specs.declared.Event.{Event}
+use Rattle.context.specs.Codes.{eventAt, eventOf, isTransition}
+use Rattle.context.specs.Ranges.{ContextInRange}
+use Rattle.context.specs.Places.{contextCount}
+use Rattle.relations.specs.Relations.{α, roleChange, writeLike, readLike}
+use Rattle.constraints.specs.Constraints.{constraintsHold}
+use Rattle.access.specs.Authorization.{roleRule, flow}
+use Rattle.index.specs.Index.{Ranged}
+use Rattle.goal_model.specs.Images.{held}
+use Rattle.plan.specs.Plan.{Ready, firstAt, keyAt, outsAt, insAt, special, OfferBlock, EntryOf, PolicyPlan}
+use Rattle.steps.specs.declared.nearest.Offer.{Offer}
+use Rattle.steps.specs.Nearest.{firstStep, maskAt, StepBy, Block, Cursor, OfferedAt, Nearest}
+use Rattle.steps.specs.Steps.{Offering, NextOffer, Facing}
+use Rattle.steps.proofs.FlowLaws.{alpha-defined, defined-class, flow-alpha, flow-class, flow-by, plain-conditions, conditions}
+
+module _ {s : List ℕ} {n : Counts} {plan : List ℕ} (R : Ready s n) (P : PolicyPlan s n plan) where
+  abbrev p : Policy
+  p = policyOf s
+
+  pub type-in : {x : Context} → ContextInRange n x → Within 1 (p .counts .types) (x .ty)
+  type-in {x} h = subst (λ (k : Counts). Within 1 (k .types) (x .ty)) (R .same) (h .ty)
+
+  pub type-few : {x : Context} → ContextInRange n x → x .ty ≤ 255
+  type-few h = let w = type-in h .high in omega (arith, R .sound .range .types .high)
+
+  block-of : {x : Context} → ContextInRange n x → OfferBlock p (x .ty) plan (firstAt plan (x .ty)) (firstAt plan (x .ty + 1))
+  block-of {x} h = P .index .blocks (x .ty) (type-in h)
+
+  pub block-top : {x : Context} → ContextInRange n x → firstAt plan (x .ty + 1) ≤ 8192
+  block-top {x} h = P .index .tops (x .ty) (type-in h)
+
+  pub block-order : {x : Context} → ContextInRange n x → firstAt plan (x .ty) ≤ firstAt plan (x .ty + 1)
+  block-order h = block-of h .order
+
+  pub block-law : {x : Context} → ContextInRange n x → Block plan (firstAt plan (x .ty)) (firstAt plan (x .ty + 1))
+  block-law {x} h =
+      record {
+        size = omega (arith, P .size);
+        high = block-top h;
+        rising = block-of h .rising;
+        small = λ j l k. omega (arith, block-of h .ranged j l k .class .high);
+      }
+
+  pub cursor-start : {x : Context} → ContextInRange n x → Cursor plan (firstAt plan (x .ty)) (firstAt plan (x .ty + 1)) (firstAt plan (x .ty)) 0
+  cursor-start h = record { low = omega arith; high = block-order h; passed = λ j l k. absurd (omega arith) }
+
+  module _ {x : Context} (h : ContextInRange n x) where
+    abbrev lo : ℕ
+    lo = firstAt plan (x .ty)
+
+    abbrev hi : ℕ
+    hi = firstAt plan (x .ty + 1)
+
+    -- an entry of x's block, and a permission that it bears
+    module _ (j q : ℕ) (l : lo ≤ j) (k : j < hi) (lq : q < 32) (b : bit (maskAt plan j) q ≡ true) where
+      abbrev c : ℕ
+      c = keyAt plan j / 4096
+
+      abbrev o : ℕ
+      o = keyAt plan j % 4096
+
+      defined : Within 1 (p .counts .classes) c
+      defined =
+          ⊎-elim
+          (λ a. defined-class p (eventAt c q) (R .sound .fields) (alpha-defined p (eventAt c q) (x .ty) o (and-first (α p (x .ty) o (eventAt c q)) (writeLike p (eventAt c q)) (sym (block-of h .outs j q l k lq) ∙ a))))
+          (λ a. defined-class p (eventAt c q) (R .sound .fields) (alpha-defined p (eventAt c q) o (x .ty) (and-first (α p o (x .ty) (eventAt c q)) (readLike p (eventAt c q)) (sym (block-of h .ins j q l k lq) ∙ a))))
+          (or-cases (bit (outsAt plan j) q) (bit (insAt plan j) q) (sym (bit-or (outsAt plan j) (insAt plan j) q) ∙ b))
+
+      offering-at : (e o′ : ℕ) → c ≡ e / 32 → q ≡ e % 32 → o ≡ o′ → Offering p plan (x .ty) e o′ j
+      offering-at e o′ qc qq qo =
+          let w = defined in
+          let wl = w .low in
+          let wh = w .high in
+          record {
+            within = omega (arith, block-top h);
+            event = record { low = omega arith; high = omega arith };
+            other = subst (Within 1 (p .counts .types)) qo (block-of h .ranged j l k .other);
+            outs = subst (λ (i : ℕ). bit (outsAt plan j) i ≡ (α p (x .ty) o′ (eventOf e) && writeLike p (eventOf e))) qq (block-of h .outs j q l k lq ∙ same);
+            ins = subst (λ (i : ℕ). bit (insAt plan j) i ≡ (α p o′ (x .ty) (eventOf e) && readLike p (eventOf e))) qq (block-of h .ins j q l k lq ∙ same′);
+            some = subst (λ (i : ℕ). bit (maskAt plan j) i ≡ true) qq b;
+          }
+        where
+          same : (α p (x .ty) o (eventAt c q) && writeLike p (eventAt c q)) ≡ (α p (x .ty) o′ (eventOf e) && writeLike p (eventOf e))
+          same = λ i. α p (x .ty) (qo i) (eventAt (qc i) (qq i)) && writeLike p (eventAt (qc i) (qq i))
+
+          same′ : (α p o (x .ty) (eventAt c q) && readLike p (eventAt c q)) ≡ (α p o′ (x .ty) (eventOf e) && readLike p (eventOf e))
+          same′ = λ i. α p (qo i) (x .ty) (eventAt (qc i) (qq i)) && readLike p (eventAt (qc i) (qq i))
+
+    -- a flow is offered by an entry
+    flow-entry : (i : ℕ) (y : Context) → ContextInRange (p .counts) y → flow p (eventOf i) x y ≡ true
+        → (j : ℕ) × (lo ≤ j) × (j < hi) × (keyAt plan j ≡ 4096 * (i / 32) + y .ty) × (bit (maskAt plan j) (i % 32) ≡ true)
+    flow-entry i y r t =
+        let small : i / 32 < 32 = (let w = flow-class {s = s} (eventOf i) x y (R .sound) t .high in omega (arith, R .sound .range .classes .high)) in
+        let few : y .ty < 4096 = (let w = r .ty .high in omega (arith, R .sound .range .types .high)) in
+        let lq : i % 32 < 32 = omega arith in
+        ⊎-elim
+        (λ w.
+        let E = block-of h .whole (i / 32) (y .ty) (i % 32) small few lq (inl (w .0)) in
+        let kc : keyAt plan (E .place) / 4096 ≡ i / 32 = omega (arith, E .key) in
+        let ko : keyAt plan (E .place) % 4096 ≡ y .ty = omega (arith, E .key) in
+        let b : bit (outsAt plan (E .place)) (i % 32) ≡ true = block-of h .outs (E .place) (i % 32) (E .low) (E .high) lq
+        ∙ (λ z. α p (x .ty) (ko z) (eventAt (kc z) (i % 32)) && writeLike p (eventAt (kc z) (i % 32)))
+        ∙ and-true (α p (x .ty) (y .ty) (eventOf i)) (writeLike p (eventOf i)) (w .0) (w .1) in
+        (E .place, E .low, E .high, E .key, bit-or (outsAt plan (E .place)) (insAt plan (E .place)) (i % 32) ∙ or-left (bit (outsAt plan (E .place)) (i % 32)) (bit (insAt plan (E .place)) (i % 32)) b))
+        (λ w.
+        let E = block-of h .whole (i / 32) (y .ty) (i % 32) small few lq (inr (w .0)) in
+        let kc : keyAt plan (E .place) / 4096 ≡ i / 32 = omega (arith, E .key) in
+        let ko : keyAt plan (E .place) % 4096 ≡ y .ty = omega (arith, E .key) in
+        let b : bit (insAt plan (E .place)) (i % 32) ≡ true = block-of h .ins (E .place) (i % 32) (E .low) (E .high) lq
+        ∙ (λ z. α p (ko z) (x .ty) (eventAt (kc z) (i % 32)) && readLike p (eventAt (kc z) (i % 32)))
+        ∙ and-true (α p (y .ty) (x .ty) (eventOf i)) (readLike p (eventOf i)) (w .0) (w .1) in
+        (E .place, E .low, E .high, E .key, bit-or (outsAt plan (E .place)) (insAt plan (E .place)) (i % 32) ∙ or-true (bit (outsAt plan (E .place)) (i % 32)) (bit (insAt plan (E .place)) (i % 32)) b))
+        (flow-alpha p (eventOf i) x y t)
+
+    pub next-law : {from : ℕ} {r : Offer} → Nearest plan lo hi from r → NextOffer p plan x from r
+    next-law {from} {r} N =
+        record {
+          low = N .low;
+          high = N .high;
+          none = λ i y w a b t.
+              let few : y .ty < 4096 = (let z = w .ty .high in omega (arith, R .sound .range .types .high)) in
+              let (j, l, k, key, m) = flow-entry i y w t in
+              let is : firstStep (keyAt plan j) + 4096 * (i % 32) ≡ 4096 * i + y .ty = omega arith in
+              let z = N .least j (i % 32) l k (omega arith) m (omega arith) in
+              omega arith;
+          offers = λ g.
+              let O = N .offers g in
+              let q = O .by .small in
+              let e = O .by .is in
+              offering-at (r .entry) (O .by .perm) (O .low) (O .high) (O .by .small) (O .by .bears) (r .at / 4096) (r .at % 4096) (omega arith) (omega arith) (omega arith);
+          cursor = N .cursor;
+        }
+
+-- ---- whether a step that an entry offers flows
+yes-then : (a b c d : Bool) → c ≡ true → d ≡ true → (a || b) ≡ true → ((a && c) || (b && d)) ≡ true
+yes-then true b c d hc hd h = rw hc
+yes-then false true c d hc hd h = hd
+yes-then false false c d hc hd h = h
+
+module _ {p : Policy} {plan : List ℕ} {e entry : ℕ} (x y : Context) (hx : held p x ≡ true) (hy : held p y ≡ true) (O : Offering p plan (x .ty) e (y .ty) entry) where
+  pub flow-of : flow p (eventOf e) x y
+      ≡ ((bit (outsAt plan entry) (e % 32) && conditions p (eventOf e) x y) || (bit (insAt plan entry) (e % 32) && conditions p (eventOf e) y x))
+  flow-of =
+      flow-by p (eventOf e) x y hx hy
+      ∙ ap₂ (λ (a b : Bool). (a && conditions p (eventOf e) x y) || (b && conditions p (eventOf e) y x)) (sym (O .outs)) (sym (O .ins))
+
+  -- a step that is not special flows
+  pub plain-flow : special p (eventOf e) ≡ false → flow p (eventOf e) x y ≡ true
+  plain-flow n =
+      flow-of
+      ∙ yes-then (bit (outsAt plan entry) (e % 32)) (bit (insAt plan entry) (e % 32)) (conditions p (eventOf e) x y) (conditions p (eventOf e) y x) (plain-conditions p (eventOf e) n x y) (plain-conditions p (eventOf e) n y x)
+      (sym (bit-or (outsAt plan entry) (insAt plan entry) (e % 32)) ∙ O .some)
+
+-- ---- the conditions, one by one
+pub not-may : (m c : Bool) → not m ≡ true → false ≡ (m && c)
+not-may m c h = rw (not-true m h)
+
+module _ (p : Policy) (x y : Context) (e : ℕ) (m : Bool) {d : Event} (q : d ≡ eventOf e) (hm : not m ≡ false) (k : Bool) (hk : k ≡ constraintsHold p d x y) where
+  pub not-held : not k ≡ true → false ≡ (m && conditions p (eventOf e) x y)
+  not-held h =
+      let z : constraintsHold p (eventOf e) x y ≡ false = ap (λ (i : Event). constraintsHold p i x y) (sym q) ∙ sym hk ∙ not-true k h in
+      rw (not-false m hm, z)
+
+  module _ (h : not k ≡ false) (t : Bool) (ht : t ≡ isTransition d) where
+    holds : constraintsHold p (eventOf e) x y ≡ true
+    holds = ap (λ (i : Event). constraintsHold p i x y) (sym q) ∙ sym hk ∙ not-false k h
+
+    is : isTransition (eventOf e) ≡ t
+    is = ap isTransition (sym q) ∙ sym ht
+
+    pub no-rule : not t ≡ true → true ≡ (m && conditions p (eventOf e) x y)
+    unfolding roleRule
+    no-rule n = sym (ap₂ _&&_ (not-false m hm) (ap₂ _&&_ holds (ap (λ (b : Bool). not b || roleChange p (x .role) (y .role)) (is ∙ not-true t n))))
+
+    pub by-rule : {r : Bool} → not t ≡ false → r ≡ roleChange p (x .role) (y .role) → r ≡ (m && conditions p (eventOf e) x y)
+    unfolding roleRule
+    by-rule n hr =
+        hr ∙ sym (ap₂ _&&_ (not-false m hm) (ap₂ _&&_ holds (ap (λ (b : Bool). not b || roleChange p (x .role) (y .role)) (is ∙ not-false t n))))
+
+pub roles-few : {s : List ℕ} {n : Counts} {x : Context} → Ready s n → ContextInRange n x → x .role < 16
+roles-few {s} {n} {x} R h =
+    let o : n .roles ≤ 15 = subst (λ (k : Counts). k .roles ≤ 15) (sym (R .same)) (R .sound .range .roles .high) in
+    omega (arith, h .role .high)
+
+pub event-few : {s : List ℕ} {n : Counts} {plan : List ℕ} {t e o entry : ℕ} → Ready s n → Offering (policyOf s) plan t e o entry → e < 1024
+event-few R O = omega (arith, O .event .high, R .sound .range .classes .high)
+
+pub zero-plus : (c : ℕ) → 0 + c ≡ c
+zero-plus c = omega arith
+
+module _ {p : Policy} {plan : List ℕ} {e entry : ℕ} (x y : Context) (hx : held p x ≡ true) (hy : held p y ≡ true) (O : Offering p plan (x .ty) e (y .ty) entry) where
+  module _ {m r : Bool} (hm : m ≡ bit (outsAt plan entry) (e % 32)) (h : r ≡ (m && conditions p (eventOf e) x y)) where
+    one-way : r ≡ (bit (outsAt plan entry) (e % 32) && conditions p (eventOf e) x y)
+    one-way = h ∙ ap (λ (b : Bool). b && conditions p (eventOf e) x y) hm
+
+    pub ways-yes : r ≡ true → true ≡ flow p (eventOf e) x y
+    ways-yes t = sym (flow-of x y hx hy O ∙ or-left (bit (outsAt plan entry) (e % 32) && conditions p (eventOf e) x y) (bit (insAt plan entry) (e % 32) && conditions p (eventOf e) y x) (sym one-way ∙ t))
+
+    pub ways-rest : r ≡ false → {m′ r′ : Bool} → m′ ≡ bit (insAt plan entry) (e % 32) → r′ ≡ (m′ && conditions p (eventOf e) y x) → r′ ≡ flow p (eventOf e) x y
+    ways-rest f hm′ h′ =
+        h′ ∙ ap (λ (b : Bool). b && conditions p (eventOf e) y x) hm′
+        ∙ sym (flow-of x y hx hy O ∙ ap (λ (z : Bool). z || (bit (insAt plan entry) (e % 32) && conditions p (eventOf e) y x)) (sym one-way ∙ f))

@@ -1,0 +1,11 @@
+use Rattle.steps.proofs.LowestLaws.{lowest-law, no-perm, none-left, lowest-left, from-first, from-later}
+use native.Mathlib.Omega.{arith}
+use borrow.Author.Needs.{needs}
+use Rattle.steps.proofs.bits.lowest.Statement.{statement}
+use Rattle.steps.proofs.bits.lowest.Tie as tie
+
+returns : tie.Need-returns
+returns c = lowest-law (c .args .m) (c .pre) (c .fits .m .fits)
+
+pub lowest-spec : {M : Type 1} → statement M
+lowest-spec = tie.close (tie.spec returns)

@@ -1,0 +1,92 @@
+use Rattle.steps.proofs.NearestLaws.{Looking, look-begin, look-small, look-nearer, look-on, look-end, look-stop}
+use Prim.Native.Nat.{ℕ, _+_, _-_, _≤_, _<_}
+use mathlib.Core.Logic.{⊎-elim}
+use native.Mathlib.Omega.{arith}
+use borrow.Author.Needs.{needs}
+use Rattle.steps.proofs.nearest.nearest.Statement.{statement}
+use Rattle.steps.proofs.nearest.nearest.Tie as tie
+
+abbrev Inv-loop : tie.InvT-loop
+Inv-loop plan lo stop group from start at₀ entry₀ j₀ at entry j = Looking plan lo stop from start at entry j
+
+abbrev μ-loop : tie.MeasureT-loop
+μ-loop plan lo stop group from start at₀ entry₀ j₀ at entry j = stop - j
+
+skip-requires : tie.Need-skip-requires Inv-loop μ-loop
+skip-requires c κs = (c .before .pre .1 .high, c .before .pre .0 .high, c .before .pre .0 .size)
+
+loop-holds : tie.Need-loop-holds Inv-loop μ-loop
+loop-holds c = look-begin (c .before .before .pre .0) (c .before .before .pre .1) (c .before .before .pre .2) (c .skip .ensures)
+
+add-key : tie.Need-add-key Inv-loop μ-loop
+add-key c = search needs
+
+mul-key : tie.Need-mul-key Inv-loop μ-loop
+mul-key c = search needs
+
+shared-slice-read-key : tie.Need-shared-slice-read-key Inv-loop μ-loop
+shared-slice-read-key c = omega (arith, c .before .before .loop .inv .block .high, c .before .before .loop .inv .block .size)
+
+mul-if1 : tie.Need-mul-if1 Inv-loop μ-loop
+mul-if1 c = omega (arith, look-small (c .before .before .loop .inv) (c .before .loop-test .taken))
+
+returns : tie.Need-returns Inv-loop μ-loop
+returns c = look-stop (c .before .before .before .loop .inv) (c .before .before .loop-test .taken) (c .if1 .taken)
+
+add-entry-step : tie.Need-add-entry-step Inv-loop μ-loop
+add-entry-step c = search needs
+
+mul-entry-step : tie.Need-mul-entry-step Inv-loop μ-loop
+mul-entry-step c = search needs
+
+shared-slice-read-entry-step : tie.Need-shared-slice-read-entry-step Inv-loop μ-loop
+shared-slice-read-entry-step c = omega (arith, c .before .before .before .before .loop .inv .block .high, c .before .before .before .before .loop .inv .block .size)
+
+add-entry-step-2 : tie.Need-add-entry-step-2 Inv-loop μ-loop
+add-entry-step-2 c = search needs
+
+mul-entry-step-2 : tie.Need-mul-entry-step-2 Inv-loop μ-loop
+mul-entry-step-2 c = search needs
+
+shared-slice-read-entry-step-2 : tie.Need-shared-slice-read-entry-step-2 Inv-loop μ-loop
+shared-slice-read-entry-step-2 c = omega (arith, c .before .before .before .before .before .loop .inv .block .high, c .before .before .before .before .before .loop .inv .block .size)
+
+entry-step-requires : tie.Need-entry-step-requires Inv-loop μ-loop
+entry-step-requires c κs = (look-small (c .before .before .before .before .before .loop .inv) (c .before .before .before .before .loop-test .taken), c .before .before .before .before .before .loop .inv .asked)
+
+add-j : tie.Need-add-j Inv-loop μ-loop
+add-j c = search needs
+
+loop-less : tie.Need-loop-less Inv-loop μ-loop
+loop-less c = search needs
+
+loop-again : tie.Need-loop-again Inv-loop μ-loop
+loop-again c = let L = c .before .before .before .before .before .before .before .loop .inv in let h = c .before .before .before .before .before .before .loop-test .taken in ⊎-elim (λ w. rw (w .1, w .2) (look-nearer L h (c .before .entry-step .ensures) (w .0 .taken))) (λ w. rw (w .1, w .2) (look-on L h (c .before .entry-step .ensures) (w .0 .left))) (c .if2 .came)
+
+returns-2 : tie.Need-returns-2 Inv-loop μ-loop
+returns-2 c = look-end (c .before .loop .inv) (c .loop-test .left)
+
+pub nearest-spec : {M : Type 1} → statement M
+nearest-spec =
+    tie.close
+    (tie.spec
+    Inv-loop
+    μ-loop
+    skip-requires
+    loop-holds
+    add-key
+    mul-key
+    shared-slice-read-key
+    mul-if1
+    returns
+    add-entry-step
+    mul-entry-step
+    shared-slice-read-entry-step
+    add-entry-step-2
+    mul-entry-step-2
+    shared-slice-read-entry-step-2
+    entry-step-requires
+    add-j
+    loop-less
+    loop-again
+    returns-2)

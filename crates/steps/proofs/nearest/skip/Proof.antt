@@ -1,0 +1,56 @@
+use Prim.Native.Nat.{ℕ, _+_, _-_, _≤_, _<_}
+use Rattle.steps.specs.Nearest.{Skipped}
+use Rattle.steps.proofs.NearestLaws.{skip-begin, skip-more, Looking, look-begin, look-small, look-nearer, look-on, look-end, look-stop}
+use native.Mathlib.Omega.{arith}
+use borrow.Author.Needs.{needs}
+use Rattle.steps.proofs.nearest.skip.Statement.{statement}
+use Rattle.steps.proofs.nearest.skip.Tie as tie
+
+abbrev Inv-loop : tie.InvT-loop
+Inv-loop plan stop a class j₀ j = Skipped plan stop a class j
+
+abbrev μ-loop : tie.MeasureT-loop
+μ-loop plan stop a class j₀ j = stop - j
+
+loop-holds : tie.Need-loop-holds Inv-loop μ-loop
+loop-holds c = skip-begin _ _ _ _ (c .pre .0)
+
+add-if1 : tie.Need-add-if1 Inv-loop μ-loop
+add-if1 c = search needs
+
+mul-if1 : tie.Need-mul-if1 Inv-loop μ-loop
+mul-if1 c = search needs
+
+shared-slice-read-if1 : tie.Need-shared-slice-read-if1 Inv-loop μ-loop
+shared-slice-read-if1 c = search needs
+
+returns : tie.Need-returns Inv-loop μ-loop
+returns c = c .before .before .before .loop .inv
+
+add-j : tie.Need-add-j Inv-loop μ-loop
+add-j c = search needs
+
+loop-less : tie.Need-loop-less Inv-loop μ-loop
+loop-less c = search needs
+
+loop-again : tie.Need-loop-again Inv-loop μ-loop
+loop-again c = skip-more (c .before .before .before .loop .inv) (c .before .before .loop-test .taken) (c .if1 .left)
+
+returns-2 : tie.Need-returns-2 Inv-loop μ-loop
+returns-2 c = c .before .loop .inv
+
+pub skip-spec : {M : Type 1} → statement M
+skip-spec =
+    tie.close
+    (tie.spec
+    Inv-loop
+    μ-loop
+    loop-holds
+    add-if1
+    mul-if1
+    shared-slice-read-if1
+    returns
+    add-j
+    loop-less
+    loop-again
+    returns-2)

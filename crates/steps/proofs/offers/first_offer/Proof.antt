@@ -1,0 +1,32 @@
+use Rattle.steps.proofs.OfferLaws.{type-few, block-top, block-order, block-law, cursor-start, next-law}
+use native.Mathlib.Omega.{arith}
+use borrow.Author.Needs.{needs}
+use borrow.Author.Needs.{needs}
+use Rattle.steps.proofs.offers.first_offer.Statement.{statement}
+use Rattle.steps.proofs.offers.first_offer.Tie as tie
+
+cast-ty : tie.Need-cast-ty
+cast-ty c = search needs
+
+add-lo : tie.Need-add-lo
+add-lo c = search needs
+
+mul-lo : tie.Need-mul-lo
+mul-lo c = search needs
+
+shared-slice-read-lo : tie.Need-shared-slice-read-lo
+shared-slice-read-lo c = omega (arith, type-few (c .before .before .before .before .pre .0) (c .before .before .before .before .pre .1) (c .before .before .before .before .pre .2), c .before .before .before .before .pre .1 .size)
+
+cast-lo : tie.Need-cast-lo
+cast-lo c = omega (arith, block-top (c .before .before .before .before .pre .0) (c .before .before .before .before .pre .1) (c .before .before .before .before .pre .2), block-order (c .before .before .before .before .pre .0) (c .before .before .before .before .pre .1) (c .before .before .before .before .pre .2))
+
+next-offer-requires : tie.Need-next-offer-requires
+next-offer-requires c κs = (c .before .before .before .before .pre .0, c .before .before .before .before .pre .1, c .before .before .before .before .pre .2, (omega arith, cursor-start (c .before .before .before .before .pre .0) (c .before .before .before .before .pre .1) (c .before .before .before .before .pre .2)))
+
+returns : tie.Need-returns
+returns c = search needs
+
+pub first-offer-spec : {M : Type 1} → statement M
+first-offer-spec =
+    tie.close
+    (tie.spec cast-ty add-lo mul-lo shared-slice-read-lo cast-lo next-offer-requires returns)

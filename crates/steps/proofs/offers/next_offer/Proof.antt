@@ -1,0 +1,59 @@
+use Rattle.steps.proofs.OfferLaws.{type-few, block-top, block-order, block-law, cursor-start, next-law}
+use native.Mathlib.Omega.{arith}
+use borrow.Author.Needs.{needs}
+use borrow.Author.Needs.{needs}
+use Rattle.steps.proofs.offers.next_offer.Statement.{statement}
+use Rattle.steps.proofs.offers.next_offer.Tie as tie
+
+cast-ty : tie.Need-cast-ty
+cast-ty c = search needs
+
+add-lo : tie.Need-add-lo
+add-lo c = search needs
+
+mul-lo : tie.Need-mul-lo
+mul-lo c = search needs
+
+shared-slice-read-lo : tie.Need-shared-slice-read-lo
+shared-slice-read-lo c = omega (arith, type-few (c .before .before .before .before .pre .0) (c .before .before .before .before .pre .1) (c .before .before .before .before .pre .2), c .before .before .before .before .pre .1 .size)
+
+cast-lo : tie.Need-cast-lo
+cast-lo c = omega (arith, block-top (c .before .before .before .before .pre .0) (c .before .before .before .before .pre .1) (c .before .before .before .before .pre .2), block-order (c .before .before .before .before .pre .0) (c .before .before .before .before .pre .1) (c .before .before .before .before .pre .2))
+
+add-stop : tie.Need-add-stop
+add-stop c = search needs
+
+add-stop-2 : tie.Need-add-stop-2
+add-stop-2 c = search needs
+
+mul-stop : tie.Need-mul-stop
+mul-stop c = search needs
+
+shared-slice-read-stop : tie.Need-shared-slice-read-stop
+shared-slice-read-stop c = omega (arith, type-few (c .before .before .before .before .before .pre .0) (c .before .before .before .before .before .pre .1) (c .before .before .before .before .before .pre .2), c .before .before .before .before .before .pre .1 .size)
+
+cast-stop : tie.Need-cast-stop
+cast-stop c = omega (arith, block-top (c .before .before .before .before .before .pre .0) (c .before .before .before .before .before .pre .1) (c .before .before .before .before .before .pre .2))
+
+nearest-requires : tie.Need-nearest-requires
+nearest-requires c κs = (block-law (c .before .before .before .before .before .pre .0) (c .before .before .before .before .before .pre .1) (c .before .before .before .before .before .pre .2), c .before .before .before .before .before .pre .3 .1, c .before .before .before .before .before .pre .3 .0)
+
+returns : tie.Need-returns
+returns c = next-law (c .before .before .before .before .before .before .pre .0) (c .before .before .before .before .before .before .pre .1) (c .before .before .before .before .before .before .pre .2) (c .nearest .ensures)
+
+pub next-offer-spec : {M : Type 1} → statement M
+next-offer-spec =
+    tie.close
+    (tie.spec
+    cast-ty
+    add-lo
+    mul-lo
+    shared-slice-read-lo
+    cast-lo
+    add-stop
+    add-stop-2
+    mul-stop
+    shared-slice-read-stop
+    cast-stop
+    nearest-requires
+    returns)

@@ -1,0 +1,39 @@
+// The steps that a context may take, by event and type of the target.
+use crate::nearest::Offer;
+use crate::nearest::nearest;
+use context::Context;
+use plan::regions::FIRST;
+use policy_image::counts::Counts;
+ghost use Prim.Native.Nat.{_≤_};
+ghost use Rattle.policy_image.specs.Policy.{policyOf};
+ghost use Rattle.context.specs.Ranges.{ContextInRange};
+ghost use Rattle.plan.specs.Plan.{Ready, PolicyPlan};
+ghost use Rattle.steps.specs.Steps.{Resumes, NextOffer};
+
+// The first step from x on or after a step; the group of an offer before it, or the start of the block of x's type.
+pub fn next_offer(
+    policy: &[u8],
+    counts: Counts,
+    plan: &[u32],
+    x: Context,
+    group: usize,
+    from: u32,
+) -> Offer
+    requires { ⌜ Ready (now policy) counts × PolicyPlan (now policy) counts (now plan) × ContextInRange counts x × Resumes (now plan) x group from ⌝ }
+    ensures { λ r. ⌜ NextOffer (policyOf (now (policy .entry))) (now (plan .entry)) x from r ⌝ }
+{
+    let ty = x.ty as usize;
+    let lo = plan[FIRST + ty] as usize;
+    let stop = plan[FIRST + (ty + 1)] as usize;
+    nearest(plan, lo, stop, group, from)
+}
+
+// The first step from x.
+pub fn first_offer(policy: &[u8], counts: Counts, plan: &[u32], x: Context) -> Offer
+    requires { ⌜ Ready (now policy) counts × PolicyPlan (now policy) counts (now plan) × ContextInRange counts x ⌝ }
+    ensures { λ r. ⌜ NextOffer (policyOf (now (policy .entry))) (now (plan .entry)) x 0 r ⌝ }
+{
+    let ty = x.ty as usize;
+    let lo = plan[FIRST + ty] as usize;
+    next_offer(policy, counts, plan, x, lo, 0)
+}

@@ -1,0 +1,113 @@
+// Whether a step that a plan offers leads to a context.
+use base::bits::has_bit;
+use constraints::constraints_hold;
+use context::Context;
+use context::Event;
+use plan::regions::CHANGES;
+use plan::regions::CONTEXTS;
+use plan::regions::INS;
+use plan::regions::OUTS;
+use plan::regions::SPECIAL;
+use policy_image::counts::Counts;
+ghost use mathlib.Core.Path.{_≡_};
+ghost use mathlib.Core.Bool.{true, _&&_};
+ghost use Prim.Native.Nat.{_<_};
+ghost use Rattle.policy_image.specs.Policy.{policyOf};
+ghost use Rattle.context.specs.Codes.{eventOf};
+ghost use Rattle.context.specs.Ranges.{ContextInRange};
+ghost use Rattle.context.specs.Places.{contextCount, contextAtIndex};
+ghost use Rattle.access.specs.Authorization.{roleRule, flow};
+ghost use Rattle.constraints.specs.Constraints.{constraintsHold};
+ghost use Rattle.goal_model.specs.Images.{held};
+ghost use Rattle.plan.specs.Plan.{Ready, PolicyPlan, special};
+ghost use Rattle.steps.specs.Steps.{Offering, Facing};
+
+// Whether the event is one whose flow depends on more than types, ρ and μ.
+pub fn is_special(policy: &[u8], counts: Counts, plan: &[u32], event: u32) -> bool
+    requires { ⌜ PolicyPlan (now policy) counts (now plan) × (event < 1024) ⌝ }
+    ensures { λ r. ⌜ r ≡ special (policyOf (now (policy .entry))) (eventOf event) ⌝ }
+{
+    let class = (event / 32) as usize;
+    has_bit(plan[SPECIAL + class], event % 32)
+}
+
+// Whether the event may be, by types, ρ and μ, and the constraints on it and the role rule hold: x acts, y is acted on.
+fn may_act(
+    policy: &[u8],
+    counts: Counts,
+    plan: &[u32],
+    event: u32,
+    may: bool,
+    x: Context,
+    y: Context,
+) -> bool
+    requires { ⌜ Ready (now policy) counts × PolicyPlan (now policy) counts (now plan) × (event < 1024) × (x .role < 16) × (y .role < 16) ⌝ }
+    ensures { λ r. ⌜ r ≡ (may && (constraintsHold (policyOf (now (policy .entry))) (eventOf event) x y && roleRule (policyOf (now (policy .entry))) (eventOf event) x y)) ⌝ }
+{
+    if !may {
+        return false;
+    }
+    let e = Event::decode(event);
+    if !constraints_hold(policy, e, x, y) {
+        return false;
+    }
+    if !e.is_transition() {
+        return true;
+    }
+    let role = x.role as usize;
+    has_bit(plan[CHANGES + role], y.role)
+}
+
+// Whether the event flows from x to y, both of which meet ρ and μ: the entry says which way it may.
+fn flows_by(
+    policy: &[u8],
+    counts: Counts,
+    plan: &[u32],
+    event: u32,
+    entry: usize,
+    x: Context,
+    y: Context,
+) -> bool
+    requires { ⌜ Ready (now policy) counts × PolicyPlan (now policy) counts (now plan) × ContextInRange counts x × ContextInRange counts y × (held (policyOf (now policy)) x ≡ true) × (held (policyOf (now policy)) y ≡ true) × Offering (policyOf (now policy)) (now plan) (x .ty) event (y .ty) entry ⌝ }
+    ensures { λ r. ⌜ r ≡ flow (policyOf (now (policy .entry))) (eventOf event) x y ⌝ }
+{
+    let perm = event % 32;
+    let out = has_bit(plan[OUTS + entry], perm);
+    if may_act(policy, counts, plan, event, out, x, y) {
+        return true;
+    }
+    let back = has_bit(plan[INS + entry], perm);
+    may_act(policy, counts, plan, event, back, y, x)
+}
+
+// Whether the event flows from x to the context at place y, whose type the entry offers it to.
+pub fn is_target(
+    policy: &[u8],
+    counts: Counts,
+    plan: &[u32],
+    x: Context,
+    event: u32,
+    entry: usize,
+    guarded: bool,
+    y: u32,
+) -> bool
+    requires { ⌜ Ready (now policy) counts × PolicyPlan (now policy) counts (now plan) × ContextInRange counts x × (y < contextCount counts) × Facing (policyOf (now policy)) (now plan) x event (contextAtIndex counts y .ty) entry guarded ⌝ }
+    ensures { λ r. ⌜ r ≡ flow (policyOf (now (policy .entry))) (eventOf event) x (contextAtIndex counts y) ⌝ }
+{
+    let at = CONTEXTS + (y as usize);
+    if !has_bit(plan[at], 31) {
+        return false;
+    }
+    if !guarded {
+        return true;
+    }
+    flows_by(
+        policy,
+        counts,
+        plan,
+        event,
+        entry,
+        x,
+        Context::at(y, counts),
+    )
+}

@@ -1,0 +1,243 @@
+-- W1 to W12 carried to the outward calls, by their promises.
+use Prim.Native.Nat.{ℕ, _+_, _*_, _≤_, _<_}
+use mathlib.Core.Bool.{Bool, true, false}
+use mathlib.Core.List.{List, [], _∷_, _++_}
+use mathlib.Core.Logic.{_⊎_, inl, inr, ⊎-elim}
+use mathlib.Core.Path.{_≡_, refl, sym, ap, subst, _∙_}
+use native.Mathlib.Omega.{arith}
+use lib.ListN.{length, getD}
+use Rattle.base.specs.Bits.{bit}
+use Rattle.base.specs.Questions.{Question, ask, AllYes, RefusedWith}
+use Rattle.base.proofs.QuestionLaws.{passed-not-refused, one-number, refused-first}
+use Rattle.policy_image.specs.Layout.{countsOf, recordCount}
+use Rattle.policy_image.specs.Policy.{policyOf}
+use Rattle.policy_image.specs.Weir.{weir, weirAllow31}
+use Rattle.policy_check.specs.Answer.{policyQuestions}
+use Rattle.policy_check.proofs.Cases.{weir-accepted, w10-short, w10-empty, w11}
+use Rattle.context.specs.declared.Context.{Context}
+use Rattle.context.specs.declared.Event.{Event}
+use Rattle.access.specs.Authorization.{authorized}
+use Rattle.access.proofs.NoDomain.{w9-nothing}
+use Rattle.goal_image.specs.Layout.{legsOf, flagsOf, goalCount, headOf as goalHeadOf, nextOf, contextRecordOf, eventRecordOf}
+use Rattle.goal_image.specs.WeirGoal.{goalG}
+use Rattle.goal_image.specs.Questions.{goalQuestions}
+use Rattle.goal_image.proofs.Tests.{Accepted as GoalAccepted, accepted as goal-accepted}
+use Rattle.paths.specs.Paths.{Holds, OrderAt, EventsAt}
+use Rattle.goal_model.specs.Images.{model}
+use Rattle.flowgoal.specs.declared.bare.Answer.{Answer}
+use Rattle.flowgoal.specs.declared.bare.Answer.the-variants as answer
+use Rattle.flowgoal.specs.Bare.{AuthorizationAnswer, numberOf, NumberOf}
+use Rattle.flowgoal.specs.declared.goal.Outcome.{Outcome}
+use Rattle.flowgoal.specs.declared.goal.Outcome.the-variants as outcome
+use Rattle.flowgoal.specs.GoalQuestion.{workLength, WorkFits, allQuestions, GoalPromise, outcomeNumber}
+use Rattle.flowgoal.proofs.GoalLaws.{order-one, events-one, not-both, not-holds-order, not-holds-events, not-holds, least-one}
+use Rattle.weir.specs.Goals.{weirAllow41, empty, writeOnly, exceptType, endTypeOne, oneLeg, noStart}
+use Rattle.weir.specs.Called.{Gives, SaysHolds, Refuses, SaysBroken, Prints, WeirCalled}
+use Rattle.weir.proofs.Answers.{w1, w2, w3, w4, w5, w6, w7, w8}
+use Rattle.weir.proofs.Theorem.{enough, w2-enough, w5-enough, w12-enough, w12-first, w12-second, w5-slice}
+
+-- ---- one outcome for each answer of the definitions
+module _ (s g : List ℕ) (work1 work2 : ℕ) where
+  pub refused-only : {k : ℕ} (before after : List ℕ) (r : Outcome) → RefusedWith (allQuestions s g work1 work2) k → GoalPromise s g work1 work2 before after r
+      → (r ≡ outcome.Refused k) × (after ≡ before)
+  refused-only b a outcome.Holds h p = absurd (passed-not-refused (allQuestions s g work1 work2) _ (p .0) h)
+  refused-only b a (outcome.Order m) h p = absurd (passed-not-refused (allQuestions s g work1 work2) _ (p .0) h)
+  refused-only b a (outcome.Events m) h p = absurd (passed-not-refused (allQuestions s g work1 work2) _ (p .0) h)
+  refused-only b a (outcome.Refused i) h p = (ap outcome.Refused (one-number (allQuestions s g work1 work2) i _ (p .0) h), p .1)
+  refused-only b a (outcome.NoRoom m) h p = absurd (passed-not-refused (allQuestions s g work1 work2) _ (p .0) h)
+
+  module _ (all : AllYes (allQuestions s g work1 work2)) where
+    pub holds-only : (before after : List ℕ) (r : Outcome) → Holds (model s g) → GoalPromise s g work1 work2 before after r → (r ≡ outcome.Holds) × (after ≡ before)
+    holds-only b a outcome.Holds h p = (refl, p .2)
+    holds-only b a (outcome.Order m) h p = absurd (not-holds-order (model s g) m h (p .1))
+    holds-only b a (outcome.Events m) h p = absurd (not-holds-events (model s g) m h (p .1))
+    holds-only b a (outcome.Refused k) h p = absurd (passed-not-refused (allQuestions s g work1 work2) k all (p .0))
+    holds-only b a (outcome.NoRoom m) h p = absurd (not-holds (model s g) m h (p .1))
+
+    pub order-only : {m : ℕ} (before after : List ℕ) (r : Outcome) → OrderAt (model s g) m → 2 * m + 1 ≤ length before → GoalPromise s g work1 work2 before after r
+        → r ≡ outcome.Order m
+    order-only b a outcome.Holds h room p = absurd (not-holds-order (model s g) _ (p .1) h)
+    order-only b a (outcome.Order i) h room p = ap outcome.Order (order-one (model s g) i _ (p .1) h)
+    order-only b a (outcome.Events i) h room p = absurd (not-both (model s g) _ i h (p .1))
+    order-only b a (outcome.Refused k) h room p = absurd (passed-not-refused (allQuestions s g work1 work2) k all (p .0))
+    order-only {m} b a (outcome.NoRoom i) h room p = let e : i ≡ m = least-one (model s g) i m (p .1) (inl h) in absurd (omega (arith, p .2))
+
+    pub events-only : {m : ℕ} (before after : List ℕ) (r : Outcome) → EventsAt (model s g) m → 2 * m + 1 ≤ length before → GoalPromise s g work1 work2 before after r
+        → r ≡ outcome.Events m
+    events-only b a outcome.Holds h room p = absurd (not-holds-events (model s g) _ (p .1) h)
+    events-only b a (outcome.Order i) h room p = absurd (not-both (model s g) i _ (p .1) h)
+    events-only b a (outcome.Events i) h room p = ap outcome.Events (events-one (model s g) i _ (p .1) h)
+    events-only b a (outcome.Refused k) h room p = absurd (passed-not-refused (allQuestions s g work1 work2) k all (p .0))
+    events-only {m} b a (outcome.NoRoom i) h room p = let e : i ≡ m = least-one (model s g) i m (p .1) (inr h) in absurd (omega (arith, p .2))
+
+    pub short-only : {m : ℕ} (before after : List ℕ) (r : Outcome) → OrderAt (model s g) m ⊎ EventsAt (model s g) m → length before < 2 * m + 1
+        → GoalPromise s g work1 work2 before after r → (r ≡ outcome.NoRoom m) × (after ≡ before)
+    short-only {m} b a outcome.Holds h short p = absurd (not-holds (model s g) m (p .1) h)
+    short-only {m} b a (outcome.Order i) h short p = let e : i ≡ m = least-one (model s g) i m (inl (p .1)) h in absurd (omega (arith, p .2 .room))
+    short-only {m} b a (outcome.Events i) h short p = let e : i ≡ m = least-one (model s g) i m (inr (p .1)) h in absurd (omega (arith, p .2 .room))
+    short-only b a (outcome.Refused k) h short p = absurd (passed-not-refused (allQuestions s g work1 work2) k all (p .0))
+    short-only {m} b a (outcome.NoRoom i) h short p = (ap outcome.NoRoom (least-one (model s g) i m (p .1) h), p .3)
+
+-- ---- the numbers that C gets
+pub refuses : {k : ℕ} (s g : List ℕ) (work1 work2 : ℕ) → RefusedWith (allQuestions s g work1 work2) k → Refuses s g work1 work2 k
+refuses s g work1 work2 h b a n G =
+    let r = refused-only s g work1 work2 b a (G .outcome) h (G .promised) in
+    (G .number ∙ ap outcomeNumber (r .0), r .1)
+
+module _ (s g : List ℕ) (all : AllYes (allQuestions s g 32 32)) where
+  pub says-holds : Holds (model s g) → SaysHolds s g
+  says-holds h b a n G =
+      let r = holds-only s g 32 32 all b a (G .outcome) h (G .promised) in
+      (G .number ∙ ap outcomeNumber (r .0), r .1)
+
+  says-short : {m : ℕ} → OrderAt (model s g) m ⊎ EventsAt (model s g) m → (b a : List ℕ) (n : ℕ) → length b < 2 * m + 1 → Gives s g 32 32 b a n
+      → (n ≡ 256 * m + 51) × (a ≡ b)
+  says-short h b a n short G =
+      let r = short-only s g 32 32 all b a (G .outcome) h short (G .promised) in
+      let q = G .number ∙ ap outcomeNumber (r .0) in
+      (omega arith, r .1)
+
+  pub says-order : {m : ℕ} → OrderAt (model s g) m → SaysBroken s g m 1
+  says-order h =
+      record {
+        room = λ b a n room G. G .number ∙ ap outcomeNumber (order-only s g 32 32 all b a (G .outcome) h room (G .promised));
+        no-room = says-short (inl h);
+      }
+
+  pub says-events : {m : ℕ} → EventsAt (model s g) m → SaysBroken s g m 2
+  says-events h =
+      record {
+        room = λ b a n room G. G .number ∙ ap outcomeNumber (events-only s g 32 32 all b a (G .outcome) h room (G .promised));
+        no-room = says-short (inr h);
+      }
+
+-- ---- the goals are accepted, and 32 entries suffice
+except-3-accepted : GoalAccepted (countsOf weir) (exceptType 3)
+unfolding countsOf recordCount legsOf flagsOf goalCount goalHeadOf nextOf contextRecordOf eventRecordOf bit
+except-3-accepted = goal-accepted refl refl refl refl
+
+except-4-accepted : GoalAccepted (countsOf weir) (exceptType 4)
+unfolding countsOf recordCount legsOf flagsOf goalCount goalHeadOf nextOf contextRecordOf eventRecordOf bit
+except-4-accepted = goal-accepted refl refl refl refl
+
+end-accepted : GoalAccepted (countsOf weir) endTypeOne
+unfolding countsOf recordCount legsOf flagsOf goalCount goalHeadOf nextOf contextRecordOf eventRecordOf bit
+end-accepted = goal-accepted refl refl refl refl
+
+one-leg-accepted : GoalAccepted (countsOf weir) oneLeg
+unfolding countsOf recordCount legsOf flagsOf goalCount goalHeadOf nextOf contextRecordOf eventRecordOf bit
+one-leg-accepted = goal-accepted refl refl refl refl
+
+no-start-accepted : GoalAccepted (countsOf weir) noStart
+unfolding countsOf recordCount legsOf flagsOf goalCount goalHeadOf nextOf contextRecordOf eventRecordOf bit
+no-start-accepted = goal-accepted refl refl refl refl
+
+two-legs : (g : List ℕ) → legsOf g ≡ 2 → workLength weir g ≤ 32
+unfolding countsOf recordCount
+two-legs g q = rw q (omega arith)
+
+one-leg : (g : List ℕ) → legsOf g ≡ 1 → workLength weir g ≤ 32
+unfolding countsOf recordCount
+one-leg g q = rw q (omega arith)
+
+legs-3 : legsOf (exceptType 3) ≡ 2
+unfolding legsOf
+legs-3 = refl
+
+legs-4 : legsOf (exceptType 4) ≡ 2
+unfolding legsOf
+legs-4 = refl
+
+legs-6 : legsOf endTypeOne ≡ 2
+unfolding legsOf
+legs-6 = refl
+
+legs-7 : legsOf oneLeg ≡ 1
+unfolding legsOf
+legs-7 = refl
+
+legs-8 : legsOf noStart ≡ 2
+unfolding legsOf
+legs-8 = refl
+
+w3-enough : AllYes (allQuestions weir (exceptType 3) 32 32)
+w3-enough = enough weir (exceptType 3) 32 weir-accepted except-3-accepted (two-legs (exceptType 3) legs-3)
+
+w4-enough : AllYes (allQuestions weir (exceptType 4) 32 32)
+w4-enough = enough weir (exceptType 4) 32 weir-accepted except-4-accepted (two-legs (exceptType 4) legs-4)
+
+w6-enough : AllYes (allQuestions weir endTypeOne 32 32)
+w6-enough = enough weir endTypeOne 32 weir-accepted end-accepted (two-legs endTypeOne legs-6)
+
+w7-enough : AllYes (allQuestions weir oneLeg 32 32)
+w7-enough = enough weir oneLeg 32 weir-accepted one-leg-accepted (one-leg oneLeg legs-7)
+
+w8-enough : AllYes (allQuestions weir noStart 32 32)
+w8-enough = enough weir noStart 32 weir-accepted no-start-accepted (two-legs noStart legs-8)
+
+-- ---- W5's path, W9 and W10
+called-path : (before after : List ℕ) (n : ℕ) → 3 ≤ length before → Gives weirAllow41 goalG 32 32 before after n → Prints before after
+called-path before after n room G =
+    let z = w5-slice before after (G .outcome) room (G .promised) in
+    record { whole = z .whole; x0 = z .x0; e0 = z .e0; x1 = z .x1; rest = z .rest }
+
+never-yes : (x y : Context) (e : Event) (n : ℕ) → x .ty ≡ 3 → NumberOf (AuthorizationAnswer weirAllow31 x y e) n → n ≡ 1 → ⊥
+never-yes x y e n q N h = go (N .answer) (N .promised) (N .number)
+  where
+    go : (r : Answer) → AuthorizationAnswer weirAllow31 x y e r → n ≡ numberOf r → ⊥
+    go answer.Yes p k = let t = p .1 in let f = w9-nothing e x y q in let z : _≡_ {A = ℕ} 0 1 = cc in omega arith
+    go answer.No p k = omega arith
+    go (answer.Refused i) p k = omega arith
+
+-- a refusal by questions that are numbered from n on has a number from n on
+abbrev From : ℕ → List Question → Type 0
+From n [] = Unit
+From n (q ∷ qs) = (n ≤ q .number) × From n qs
+
+refused-from : (n k : ℕ) (qs : List Question) → From n qs → RefusedWith qs k → n ≤ k
+refused-from n k [] f r = absurd r
+refused-from n k (q ∷ qs) f (inl r) = omega (arith, f .0, r .1)
+refused-from n k (q ∷ qs) f (inr r) = refused-from n k qs (f .1) (r .1)
+
+-- what is refused after the policy's questions is refused by the others
+refused-later : (k : ℕ) (qs rs : List Question) → AllYes qs → RefusedWith (qs ++ rs) k → RefusedWith rs k
+refused-later k [] rs a r = r
+refused-later k (q ∷ qs) rs a (inl r) = absurd (r .0 (a .0))
+refused-later k (q ∷ qs) rs a (inr r) = refused-later k qs rs (a .1) (r .1)
+
+empty-passed : (g : List ℕ) (work1 work2 : ℕ) (before after : List ℕ) (n k : ℕ) → Gives empty g work1 work2 before after n → k ≤ 6 → n ≡ 4 * k + 3 → ⊥
+empty-passed g work1 work2 before after n k G small e = go (G .outcome) (G .promised) (G .number)
+  where
+    go : (r : Outcome) → GoalPromise empty g work1 work2 before after r → n ≡ outcomeNumber r → ⊥
+    go outcome.Holds p q = omega arith
+    go (outcome.Order m) p q = omega arith
+    go (outcome.Events m) p q = omega arith
+    go (outcome.Refused i) p q =
+        let l = refused-from 7 i (goalQuestions (countsOf empty) g ++ (ask 11 (WorkFits empty g work1 work2) ∷ []))
+        (omega arith, (omega arith, (omega arith, (omega arith, (omega arith, tt)))))
+        (refused-later i (policyQuestions empty) (goalQuestions (countsOf empty) g ++ (ask 11 (WorkFits empty g work1 work2) ∷ [])) (w10-empty .it) (p .0)) in
+        omega arith
+    go (outcome.NoRoom m) p q = omega arith
+
+-- THE SECOND THEOREM: the same twelve, of the outward calls
+pub weir-called : WeirCalled
+weir-called =
+    record {
+      w1 = says-holds weir goalG w12-enough w1;
+      w2 = says-events weir writeOnly w2-enough w2;
+      w3 = says-holds weir (exceptType 3) w3-enough w3;
+      w4 = says-events weir (exceptType 4) w4-enough w4;
+      w5 = says-order weirAllow41 goalG w5-enough w5;
+      w5-path = called-path;
+      w6 = says-order weir endTypeOne w6-enough w6;
+      w7 = says-events weir oneLeg w7-enough w7;
+      w8 = says-holds weir noStart w8-enough w8;
+      w9 = never-yes;
+      w10 = λ s g work1 work2 h. refuses s g work1 work2
+          (refused-first (policyQuestions s) (goalQuestions (countsOf s) g ++ (ask 11 (WorkFits s g work1 work2) ∷ [])) 1 (w10-short s h .it));
+      w10-empty = empty-passed;
+      w11 = λ s g work1 work2 x c i lo hi h. refuses s g work1 work2
+          (refused-first (policyQuestions s) (goalQuestions (countsOf s) g ++ (ask 11 (WorkFits s g work1 work2) ∷ [])) 3 (w11 s x c i lo hi h .it));
+      w12-first = λ work. refuses weir goalG 31 work (w12-first work);
+      w12-second = λ work. refuses weir goalG work 31 (w12-second work);
+    }
