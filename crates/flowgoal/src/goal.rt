@@ -14,6 +14,7 @@ use search::search;
 use witness::path::show;
 use witness::verdict::Verdict;
 use witness::verdict::judge;
+use witness::verdict::search_order;
 ghost use mathlib.Core.Path.{_≡_};
 ghost use Prim.Native.Nat.{_*_, _^_, _≤_, _<_};
 ghost use lib.ListN.{length};
@@ -79,7 +80,7 @@ fn answer_by(
     requires { ⌜ Passed (now policy) (now goal) counts legs (length (now work1)) (length (now work2)) × Planned (now policy) (now goal) counts (now plan) ⌝ }
     ensures { λ r. ⌜ GoalPromise (now (policy .entry)) (now (goal .entry)) (length (now (work1 .entry))) (length (now (work2 .entry))) (now (path .entry)) (now (path .exit)) r ⌝ }
 {
-    let order = search(policy, goal, counts, plan, legs, Mode::Order, work1, work2);
+    let order = search_order(policy, goal, counts, plan, legs, work1, work2);
     let events = search(policy, goal, counts, plan, legs, Mode::Events, work1, work2);
     let verdict = judge(order, events);
     match verdict {

@@ -1,10 +1,17 @@
 -- The answer that two searches come to, by cases.
+use mathlib.Core.List.{List}
 use mathlib.Core.Path.{_≡_, refl, ap}
 use Prim.Native.Nat.{ℕ, suc, _+_, _≤_, _<_}
 use native.Mathlib.Omega.{arith}
 use native.Mathlib.Decide.{decLe}
+use Rattle.policy_image.specs.declared.counts.Counts.{Counts}
+use Rattle.goal_image.specs.declared.check.Legs.{Legs}
+use Rattle.goal_image.specs.Layout.{legsOf}
 use Rattle.paths.specs.Answer.{Answer, holds, order, events}
-use Rattle.paths.proofs.Verdict.{Found, at, nowhere, answer, answerBy}
+use Rattle.paths.proofs.Monitors.{trackerN, order-iff}
+use Rattle.paths.proofs.Verdict.{Found, Least, at, nowhere, answer, answerBy}
+use Rattle.goal_model.specs.Images.{model}
+use Rattle.search.specs.Tasks.{Task}
 
 pub one-more : {d : ℕ} → suc d ≡ d + 1
 one-more = omega arith
@@ -32,3 +39,10 @@ events-win {m} {k} h = go (decLe m k)
     go : (d : Dec (m ≤ k)) → events k ≡ answerBy d (order m) (events k)
     go (yes l) = absurd (omega arith)
     go (no l) = refl
+
+-- with one leg no path breaks order: "0 < i < n"
+pub one-leg : {s g : List ℕ} {n : Counts} {l : Legs} → Task s g n l → l .count ≡ 1 → Least (model s g) (trackerN (model s g)) nowhere
+one-leg {s} {g} A q k b =
+    let some : 0 < legsOf g = omega (arith, A .legs .some-leg, A .legs .count) in
+    let o = order-iff (model s g) some k .1 b in
+    omega (arith, o .breaks .above, o .breaks .below, A .legs .count)

@@ -1,7 +1,16 @@
 // What the search for order and the search for events come to together.
+use goal_image::check::Legs;
+use policy_image::counts::Counts;
 use search::levels::Found;
+use search::monitor::Mode;
+use search::search;
 ghost use mathlib.Core.Path.{_≡_};
 ghost use Rattle.paths.proofs.Verdict.{answer, nowhere};
+ghost use Rattle.plan.specs.Plan.{Planned};
+ghost use Rattle.search.specs.declared.monitor.Mode.the-variants.{Order};
+ghost use Rattle.search.specs.Found.{FoundLeast};
+ghost use Rattle.search.specs.Seeds.{Roomy};
+ghost use Rattle.search.specs.Tasks.{Task};
 ghost use Rattle.witness.specs.Shown.{reachedBy, Short, answerOf};
 
 // The answer to a goal: m is the number of steps of a shortest path that breaks it.
@@ -9,6 +18,25 @@ pub enum Verdict {
     Holds,
     Order(u32),
     Events(u32),
+}
+
+// The search for order. With one leg no path breaks order, so there is nothing to search.
+pub fn search_order(
+    policy: &[u8],
+    goal: &[u8],
+    counts: Counts,
+    plan: &[u32],
+    legs: Legs,
+    queue: &mut [u32],
+    back: &mut [u32],
+) -> Found
+    requires { ⌜ Task (now policy) (now goal) counts legs × Planned (now policy) (now goal) counts (now plan) × Roomy counts legs (now queue) (now back) ⌝ }
+    ensures { λ r. ⌜ FoundLeast (now (policy .entry)) (now (goal .entry)) counts Order (now (back .exit)) r ⌝ }
+{
+    if legs.count == 1 {
+        return Found::Nothing;
+    }
+    search(policy, goal, counts, plan, legs, Mode::Order, queue, back)
 }
 
 // Where no path breaks order.
