@@ -15,7 +15,7 @@ pub enum Masks {
 pub enum Goals {
     /// No path reaches the end, and every context that may be is reached.
     Holds,
-    /// Types in a line, with every other allow leading back: the only way to the end is all the way.
+    /// Types in a line, with every other allow leading back: the only way to the end is all along it.
     LongPath,
 }
 
@@ -50,12 +50,12 @@ impl Size {
     pub fn images(&self, seed: u64) -> (Vec<u8>, Vec<u8>) {
         let mut maker = Maker { size: *self, rng: Rng(seed), records: vec![] };
         maker.frame();
-        match self.goal {
+        let end = match self.goal {
             Goals::Holds => maker.all_reached(),
             Goals::LongPath => maker.line(),
-        }
+        };
         let Size { types, roles, users, classes, .. } = *self;
-        let goal = maker.goal().encode();
+        let goal = maker.goal(end).encode();
         (Policy { types, roles, users, classes, records: maker.records }.encode(), goal)
     }
 }
@@ -70,10 +70,11 @@ struct Maker {
 const WRITES: u32 = 0x5555_5555;
 
 impl Maker {
-    /// Domains are spread evenly over the types.
+    /// Domains are spread evenly over the types; type 1 is one, and the last is none.
     fn is_domain(&self, t: u32) -> bool {
-        let (types, domains) = (self.size.types, self.size.domains());
-        t * domains / types != (t - 1) * domains / types
+        let (others, domains) = (self.size.types - 1, self.size.domains());
+        let before = |t: u32| (t * domains).div_ceil(others);
+        t <= others && before(t) != before(t - 1)
     }
     fn add(&mut self, kind: u8, a: u32, b: u32, c: u32, mask: u32) {
         self.records.push(Record::new(kind, a, b, c, mask));
@@ -113,62 +114,57 @@ impl Maker {
         let mask = if self.size.masks == Masks::OneBit { 1 << bit } else { u32::MAX };
         self.add(4, source, target, class, mask);
     }
-    /// The next domain from t on, round the types but the last.
-    fn domain_near(&self, t: u32) -> u32 {
-        (t..self.size.types).chain(1..t).find(|&d| self.is_domain(d)).expect("a domain")
+    /// The first domain from the type on, or from the first type on where there is none.
+    fn domain_from(&self, t: u32) -> u32 {
+        (t..self.size.types).chain(1..t).find(|&d| self.is_domain(d)).expect("type 1 is a domain")
     }
 
-    /// Every type but the last is reached from every other; nothing reaches the last.
-    fn all_reached(&mut self) {
+    /// Every type but the last is reached from every other; nothing reaches the last, which is the end.
+    fn all_reached(&mut self) -> u32 {
         let before = self.records.len();
-        let end = self.size.types - 1;
-        for t in 1..=end {
-            let (here, next) = (self.domain_near(t), self.domain_near(t % end + 1));
-            match self.is_domain(t) {
-                true => self.allow(t, next),
-                false => {
-                    self.allow(here, t);
-                    self.allow(t, next);
-                }
+        let end = self.size.types;
+        for t in 1..end {
+            let next = self.domain_from(t + 1);
+            if !self.is_domain(t) {
+                self.allow(next, t);
             }
+            self.allow(t, next);
         }
         while self.records.len() - before < self.size.allows as usize {
-            let (from, to) = (self.rng.range(1, end), self.rng.range(1, end));
+            let (from, to) = (self.rng.range(1, end - 1), self.rng.range(1, end - 1));
             if self.is_domain(from) || self.is_domain(to) {
                 self.allow(from, to);
             }
         }
         self.records.truncate(before + self.size.allows as usize);
+        end
     }
 
-    /// The types of the line, from the first to the last, which is a domain: of two that follow each other one is.
-    fn stops(&self) -> Vec<u32> {
-        let mut stops = vec![1];
-        for t in 2..=self.size.types {
-            if self.is_domain(t) || self.is_domain(*stops.last().expect("a stop")) {
-                stops.push(t);
-            }
-        }
-        stops
-    }
-
-    /// Each stop leads to the next, and every other allow to a lower type. One bit in each mask: two would lead both ways.
-    fn line(&mut self) {
+    /// A line of types from the first one: a domain and another type in turn, and then the domains that are left. Each leads to
+    /// the next, and every other allow to one before. Masks have one bit: more would lead both ways. Gives the end of the line.
+    fn line(&mut self) -> u32 {
+        let (domains, others): (Vec<u32>, Vec<u32>) = (1..=self.size.types).partition(|&t| self.is_domain(t));
+        let pairs = domains.len().min(others.len());
+        let mut line: Vec<u32> = domains.iter().zip(&others).flat_map(|(&d, &o)| [d, o]).collect();
+        line.extend(&domains[pairs..]);
         let before = self.records.len();
-        for pair in self.stops().windows(2) {
-            self.allow(pair[0], pair[1]);
+        for step in line.windows(2) {
+            self.allow(step[0], step[1]);
         }
+        let last = line.len() as u32 - 1;
         while self.records.len() - before < self.size.allows as usize {
-            let (a, b) = (self.rng.range(1, self.size.types), self.rng.range(1, self.size.types));
-            if self.is_domain(a) || self.is_domain(b) {
-                self.allow(a.max(b), a.min(b));
+            let (i, j) = (self.rng.range(0, last), self.rng.range(0, last));
+            let (from, to) = (line[i.max(j) as usize], line[i.min(j) as usize]);
+            if self.is_domain(from) || self.is_domain(to) {
+                self.allow(from, to);
             }
         }
+        line[last as usize]
     }
 
-    fn goal(&mut self) -> Goal {
+    fn goal(&mut self, end: u32) -> Goal {
         let Size { types, classes, legs, goal, .. } = self.size;
-        let mut items = vec![(0, Item::Sigma { t: 1, r: 0, u: 0 }), (legs, Item::Sigma { t: types, r: 0, u: 0 })];
+        let mut items = vec![(0, Item::Sigma { t: 1, r: 0, u: 0 }), (legs, Item::Sigma { t: end, r: 0, u: 0 })];
         // with a long path the set before the end stays empty, so that the path breaks order, or events where there is one leg
         let inner = if goal == Goals::Holds { legs } else { legs - 1 };
         for i in 1..inner {
