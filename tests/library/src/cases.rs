@@ -1,7 +1,7 @@
 //! The cases: seeded by their numbers, so that a case that fails can be had again.
 use second_search::gen::{case, damage, Rng};
 use second_search::goal::Goal;
-use second_search::policy::Policy;
+use second_search::policy::{Policy, Record};
 
 /// The entries that the goal program lends in each work slice.
 pub const LIMIT: usize = 16384;
@@ -40,9 +40,25 @@ fn raised_to_limit(mut policy: Policy, goal: &Goal) -> Option<Policy> {
     fits.then_some(policy)
 }
 
-/// Every 500th case is one of the largest that the program has room for, where its counts can be raised to that.
+/// Many more allows among some of the types: a search that remembers where it has been has much to remember there.
+fn crowd(policy: &mut Policy, rng: &mut Rng) {
+    let (apart, first) = (rng.range(1, 3), rng.range(1, policy.types));
+    let some: Vec<u32> = (first..=policy.types).step_by(apart as usize).collect();
+    for _ in 0..rng.range(5, 20 + 4 * some.len() as u32) {
+        let (source, target, class) = (rng.pick(&some), rng.pick(&some), rng.range(1, policy.classes));
+        let (one, few) = (1 << rng.range(0, 3), rng.range(1, 15));
+        let mask = rng.pick(&[one, one, few, u32::MAX]);
+        policy.records.push(Record::new(4, source, target, class, mask));
+    }
+}
+
+/// Every sixth case is crowded. Every 500th is one of the largest that the program has room for, where its counts can be raised
+/// to that.
 fn generate(number: u64, rng: &mut Rng) -> (Policy, Goal) {
-    let (policy, goal) = case(rng, size(number));
+    let (mut policy, goal) = case(rng, size(number));
+    if number % 6 == 5 {
+        crowd(&mut policy, rng);
+    }
     if number % 500 != 7 {
         return (policy, goal);
     }
