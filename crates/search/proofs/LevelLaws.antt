@@ -145,7 +145,7 @@ module _ {s g : List ℕ} {n : Counts} {l : Legs} (A : Task s g n l) (m : Mode) 
   pub types-few : n .types ≤ 255
   types-few = subst (λ (k : Counts). k .types ≤ 255) (sym same-counts) (A .given .ready .sound .range .types .high)
 
-  type-small : {w : ℕ} → w < G .k → typeOf g n w < 4096
+  pub type-small : {w : ℕ} → w < G .k → typeOf g n w < 4096
   type-small {w} lw = let z = at-place (place-lt (pow-pos (M .legs)) lw) .ty .high in omega (arith, types-few)
 
   pub few-types : (at : ℕ) → at ≤ 4194304 → (at < 4194304 → at % 4096 ≤ policyOf s .counts .types) → at % 4096 ≤ n .types + 1

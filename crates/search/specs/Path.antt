@@ -1,7 +1,8 @@
 -- What a path says that is written from its end, by the links that a search leaves: its nodes, and the events between them.
 use mathlib.Core.Path.{_≡_}
+use mathlib.Core.Bool.{Bool, true, false}
 use mathlib.Core.List.{List}
-use Prim.Native.Nat.{ℕ, _+_, _≤_, _<_}
+use Prim.Native.Nat.{ℕ, _+_, _/_, _%_, _≤_, _<_}
 use lib.ListN.{getD}
 use Rattle.search.specs.Graph.{Graph}
 
@@ -10,6 +11,12 @@ pub record Least (P : ℕ → Type 0) (n e : ℕ) : Type 0 where
   pub within : e < n
   pub holds : P e
   pub before : (j : ℕ) → j < e → P j → ⊥
+
+-- b says whether the step at, 4096 * event + type, leads from u to v, whose context is of the type ty
+pub record Leads (g : Graph) (u at v ty : ℕ) (b : Bool) : Type 0 where
+  pub type : b ≡ true → ty ≡ at % 4096
+  pub yes : b ≡ true → g .Edge u (at / 4096) v
+  pub no : b ≡ false → ty ≡ at % 4096 → g .Edge u (at / 4096) v → ⊥
 
 pub record Some (P : ℕ → Type 0) (n : ℕ) : Type 0 where
   pub which : ℕ

@@ -2,7 +2,8 @@
 use mathlib.Core.Path.{_≡_}
 use mathlib.Core.Bool.{true, false}
 use mathlib.Core.List.{List}
-use Prim.Native.Nat.{ℕ, _^_, _≤_, _<_}
+use Prim.Native.Nat.{ℕ, _/_, _%_, _^_, _≤_, _<_}
+use Rattle.base.specs.Bits.{bit}
 use Rattle.policy_image.specs.declared.counts.Counts.{Counts}
 use Rattle.policy_image.specs.Policy.{Policy, policyOf}
 use Rattle.context.specs.declared.Context.{Context}
@@ -15,6 +16,9 @@ use Rattle.goal_image.specs.Layout.{legsOf}
 use Rattle.goal_image.specs.Goal.{Goal, goalOf, σe, γe}
 use Rattle.goal_image.specs.Sets.{contextIn, eventIn, EventSets}
 use Rattle.goal_model.specs.Images.{model}
+use Rattle.plan.specs.Plan.{eventsAt}
+use Rattle.steps.specs.declared.nearest.Offer.{Offer}
+use Rattle.steps.specs.Steps.{Offering}
 use Rattle.search.specs.declared.monitor.Mode.{Mode}
 use Rattle.search.specs.Graph.{Graph}
 use Rattle.search.specs.Path.{Some}
@@ -54,3 +58,9 @@ pub record Linked (G : Graph) (u w : ℕ) : Type 0 where
   pub to : w < G .k
   pub event : Some (λ e. G .Edge u e w) (G .e)
   pub open-end : G .End w → ⊥
+
+-- an entry offers the step to x, and the event is not in γe
+pub record Offered (p : Policy) (plan : List ℕ) (x : Context) (o : Offer) : Type 0 where
+  pub below : o .at < 4194304
+  pub offering : Offering p plan (x .ty) (o .at / 4096) (o .at % 4096) (o .entry)
+  pub free : bit (eventsAt plan (o .at / 4096)) 14 ≡ false
