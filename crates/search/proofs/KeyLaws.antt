@@ -16,10 +16,10 @@ use Rattle.steps.proofs.NearestLaws.{keeps-all}
 use Rattle.paths.specs.Model.{Model}
 use Rattle.paths.proofs.Numbers.{pack, digit}
 use Rattle.paths.proofs.Events.{goes, enters, opens}
-use Rattle.search.specs.declared.monitor.Mode.{Mode}
-use Rattle.search.specs.declared.monitor.Mode.the-variants.{Order, Events}
-use Rattle.search.specs.Nodes.{watchOf}
-use Rattle.search.specs.Watching.{By}
+use Rattle.nodes.specs.declared.monitor.Mode.{Mode}
+use Rattle.nodes.specs.declared.monitor.Mode.the-variants.{Order, Events}
+use Rattle.nodes.specs.Nodes.{watchOf}
+use Rattle.nodes.specs.Watching.{By}
 use Rattle.search.specs.Memory.{keepsOf, Marks}
 
 -- what an event in the sets by keeps of a state

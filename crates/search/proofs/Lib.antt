@@ -1,14 +1,5 @@
-pub mod SearchLaws
-pub mod NodeLaws
-pub mod ModelLaws
-pub mod WatchLaws
-pub mod ArrivalLaws
-pub mod TypeLaws
 pub mod KeyLaws
-pub mod LevelLaws
 pub mod MemoryLaws
 pub mod LoopLaws
-pub mod SeedLaws
 pub mod FoundLaws
-pub mod PathLaws
 pub mod StepLaws

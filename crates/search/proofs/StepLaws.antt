@@ -31,19 +31,18 @@ use Rattle.steps.specs.declared.nearest.Offer.{Offer}
 use Rattle.steps.specs.Nearest.{Cursor, Passed}
 use Rattle.steps.specs.Steps.{Offering, NextOffer, Facing}
 use Rattle.steps.proofs.FlowLaws.{flow-held}
-use Rattle.search.specs.declared.arrival.Arrival.{Arrival}
-use Rattle.search.specs.declared.arrival.Arrival.the-variants.{Enter, Dropped, Broken}
-use Rattle.search.specs.declared.monitor.Mode.{Mode}
-use Rattle.search.specs.Nodes.{watchOf, codeAt, placeOf}
-use Rattle.search.specs.Arrivals.{States, Lands, LandsOpen, LandsGood, LandsBad, Arriving}
-use Rattle.search.specs.Tasks.{Task, Linked, Stands, Offered, graphOf}
-use Rattle.search.specs.Graph.{Graph}
-use Rattle.search.specs.Path.{Least, Leads}
-use Rattle.search.specs.Memory.{typeOf}
-use Rattle.search.proofs.SearchLaws.{below-or}
-use Rattle.search.proofs.ModelLaws.{bounded}
-use Rattle.search.proofs.ArrivalLaws.{clash, later}
-use Rattle.search.proofs.LevelLaws.{edge-flow, edge-free, edge-freeE, only-at, edge-at, range-at, type-small}
+use Rattle.nodes.specs.declared.arrival.Arrival.{Arrival}
+use Rattle.nodes.specs.declared.arrival.Arrival.the-variants.{Enter, Dropped, Broken}
+use Rattle.nodes.specs.declared.monitor.Mode.{Mode}
+use Rattle.nodes.specs.Nodes.{watchOf, codeAt, placeOf}
+use Rattle.nodes.specs.Arrivals.{States, Lands, LandsOpen, LandsGood, LandsBad, Arriving}
+use Rattle.nodes.specs.Tasks.{typeOf, Task, Linked, Stands, Offered, graphOf}
+use Rattle.nodes.specs.Graph.{Graph}
+use Rattle.nodes.specs.Path.{Least, Leads}
+use Rattle.nodes.proofs.SearchLaws.{below-or}
+use Rattle.nodes.proofs.ModelLaws.{bounded}
+use Rattle.nodes.proofs.ArrivalLaws.{clash, later}
+use Rattle.nodes.proofs.LevelLaws.{edge-flow, edge-free, edge-freeE, only-at, edge-at, range-at, type-small}
 use Rattle.search.proofs.MemoryLaws.{AskerOf, memory-begin, passed}
 use Rattle.search.proofs.LoopLaws.{Around, around, at-place, stand}
 

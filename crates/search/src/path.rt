@@ -1,11 +1,11 @@
 // The events of the path that a search's links hold: each is found again as the least that leads from a node to the next.
-use crate::arrival::Arrival;
-use crate::arrival::arrive;
-use crate::arrival::states_of;
 use crate::memory::keeps_of;
-use crate::monitor::Mode;
 use context::Context;
 use goal_image::check::Legs;
+use nodes::arrival::Arrival;
+use nodes::arrival::arrive;
+use nodes::arrival::states_of;
+use nodes::monitor::Mode;
 use plan::regions::EVENTS;
 use policy_image::counts::Counts;
 use steps::nearest::Asker;
@@ -20,9 +20,8 @@ ghost use mathlib.Core.Path.{_≡_};
 ghost use Rattle.policy_image.specs.Policy.{policyOf};
 ghost use Rattle.context.specs.Places.{contextAtIndex};
 ghost use Rattle.plan.specs.Plan.{Planned};
-ghost use Rattle.search.specs.Memory.{typeOf};
-ghost use Rattle.search.specs.Path.{Least, Leads};
-ghost use Rattle.search.specs.Tasks.{Task, Linked, Offered, graphOf};
+ghost use Rattle.nodes.specs.Path.{Least, Leads};
+ghost use Rattle.nodes.specs.Tasks.{Task, Linked, Offered, graphOf, typeOf};
 
 // Whether a step that is offered to x, where node u stands, leads to node w.
 fn leads(

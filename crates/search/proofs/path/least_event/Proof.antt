@@ -1,6 +1,6 @@
 use Rattle.search.proofs.StepLaws.{Seeking, from-below, none-spent, seek-from, seek-on, seek-found, seek-end}
 use Rattle.search.proofs.LoopLaws.{around, stand, state-few, asker-of}
-use Rattle.search.proofs.ArrivalLaws.{later}
+use Rattle.nodes.proofs.ArrivalLaws.{later}
 use Rattle.context.specs.Places.{contextAtIndex}
 use mathlib.Core.Path.{refl, sym, ap, _∙_}
 use Prim.Native.Nat.{ℕ, _-_, _/_, _%_}
