@@ -32,12 +32,12 @@ use Rattle.paths.proofs.Verdict.{Found as Reached}
 use Rattle.goal_model.specs.Images.{model}
 use Rattle.search.specs.declared.levels.Found.{Found}
 use Rattle.search.specs.declared.levels.Found.the-variants.{Nothing, Start, At}
-use Rattle.search.specs.declared.monitor.Mode.{Mode}
-use Rattle.search.specs.declared.monitor.Mode.the-variants.{Order, Events}
+use Rattle.nodes.specs.declared.monitor.Mode.{Mode}
+use Rattle.nodes.specs.declared.monitor.Mode.the-variants.{Order, Events}
 use Rattle.search.specs.Found.{FoundLeast}
-use Rattle.search.specs.Nodes.{watchOf, monitorOf}
-use Rattle.search.specs.Seeds.{Roomy}
-use Rattle.search.specs.Tasks.{Task}
+use Rattle.nodes.specs.Nodes.{watchOf, monitorOf}
+use Rattle.nodes.specs.Seeds.{Roomy}
+use Rattle.nodes.specs.Tasks.{Task}
 use Rattle.search.proofs.FoundLaws.{task-of}
 use Rattle.witness.specs.declared.verdict.Verdict.{Verdict}
 use Rattle.witness.specs.Shown.{reachedBy, Something, stepsTo, Short, answerOf, Shown}

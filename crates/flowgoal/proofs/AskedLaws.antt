@@ -20,7 +20,7 @@ use Rattle.goal_image.specs.Layout.{legsOf}
 use Rattle.goal_image.specs.Goal.{goalOf}
 use Rattle.goal_image.specs.Questions.{goalQuestions, legsIn, GoalAnswer}
 use Rattle.goal_image.proofs.AnswerLaws.{sound as goal-sound}
-use Rattle.search.specs.Tasks.{Task}
+use Rattle.nodes.specs.Tasks.{Task}
 use Rattle.search.proofs.FoundLaws.{task-of}
 use Rattle.flowgoal.specs.GoalQuestion.{workLength, WorkFits, allQuestions, refusalOf, goalRefusalOf, Passed}
 

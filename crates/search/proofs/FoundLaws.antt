@@ -23,14 +23,14 @@ use Rattle.goal_model.specs.Images.{model}
 use Rattle.plan.specs.Plan.{Ready}
 use Rattle.search.specs.declared.levels.Found.{Found}
 use Rattle.search.specs.declared.levels.Found.the-variants.{Nothing, Start, At}
-use Rattle.search.specs.declared.monitor.Mode.{Mode}
-use Rattle.search.specs.Nodes.{watchOf, monitorOf, codeAt, BadStart}
-use Rattle.search.specs.Arrivals.{Given, GivenGoal}
-use Rattle.search.specs.Tasks.{Task, graphOf}
-use Rattle.search.specs.Seeds.{SownStart}
+use Rattle.nodes.specs.declared.monitor.Mode.{Mode}
+use Rattle.nodes.specs.Nodes.{watchOf, monitorOf, codeAt, BadStart}
+use Rattle.nodes.specs.Arrivals.{Given, GivenGoal}
+use Rattle.nodes.specs.Tasks.{Task, graphOf}
+use Rattle.nodes.specs.Seeds.{SownStart}
 use Rattle.search.specs.Found.{Searched, FoundStart, FoundStep, FoundLeast}
-use Rattle.search.proofs.NodeLaws.{least-start, least-at, least-nowhere}
-use Rattle.search.proofs.ModelLaws.{bounded}
+use Rattle.nodes.proofs.NodeLaws.{least-start, least-at, least-nowhere}
+use Rattle.nodes.proofs.ModelLaws.{bounded}
 
 module _ {s g : List ℕ} {n : Counts} {l : Legs} (A : Task s g n l) (m : Mode) where
   pub found-least : (back : List ℕ) (r : Found) → ((x : ℕ) → BadStart (model s g) n (watchOf m (model s g)) x → ⊥) → Searched (graphOf s g n m) back r

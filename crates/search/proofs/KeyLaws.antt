@@ -8,43 +8,23 @@ use native.Mathlib.Nat.{one-mul, mod-eq-of-lt}
 use lib.Pow.{pow-lt}
 use native.Mathlib.Omega.{arith}
 use borrow.Author.Tests.{lt-ltb, le-ltb, eqb-true}
-use lib.Bits.{bitAnd, bitOr, and-le-l}
+use lib.Bits.{bitAnd, bitOr}
 use lib.Dec.{ltb}
 use Rattle.base.specs.Bits.{bit}
-use Rattle.base.proofs.BitLaws.{bit-and, bit-or, bit-shr, bit-zero, bit-pow, bit-ext}
+use Rattle.base.proofs.BitLaws.{bit-and, bit-or, bit-shr, bit-zero, bit-pow}
+use Rattle.steps.proofs.NearestLaws.{keeps-all}
 use Rattle.paths.specs.Model.{Model}
 use Rattle.paths.proofs.Numbers.{pack, digit}
 use Rattle.paths.proofs.Events.{goes, enters, opens}
-use Rattle.search.specs.declared.monitor.Mode.{Mode}
-use Rattle.search.specs.declared.monitor.Mode.the-variants.{Order, Events}
-use Rattle.search.specs.Nodes.{watchOf}
-use Rattle.search.specs.Watching.{By}
+use Rattle.nodes.specs.declared.monitor.Mode.{Mode}
+use Rattle.nodes.specs.declared.monitor.Mode.the-variants.{Order, Events}
+use Rattle.nodes.specs.Nodes.{watchOf}
+use Rattle.nodes.specs.Watching.{By}
 use Rattle.search.specs.Memory.{keepsOf, Marks}
 
 -- what an event in the sets by keeps of a state
 abbrev pub kept : Mode → ℕ → ℕ → ℕ
 kept m state by = bitAnd state (bitOr (keepsOf m) (by / 2 ^ 7))
-
--- ---- order keeps the state
-all-ones : (p : ℕ) → p < 6 → bit 63 p ≡ true
-unfolding bit
-all-ones zero h = refl
-all-ones (suc zero) h = refl
-all-ones (suc (suc zero)) h = refl
-all-ones (suc (suc (suc zero))) h = refl
-all-ones (suc (suc (suc (suc zero)))) h = refl
-all-ones (suc (suc (suc (suc (suc zero))))) h = refl
-all-ones (suc (suc (suc (suc (suc (suc p)))))) h = absurd (omega arith)
-
-and-all : (a b : Bool) → (a && (true || b)) ≡ a
-and-all true b = refl
-and-all false b = refl
-
-keeps-all : (state by : ℕ) → state < 64 → kept Order state by ≡ state
-keeps-all state by h =
-    bit-ext 6 (kept Order state by) state (omega (arith, and-le-l state (bitOr 63 (by / 2 ^ 7)))) h
-    (λ p l. bit-and state (bitOr 63 (by / 2 ^ 7)) p ∙ ap (λ (b : Bool). bit state p && b) (bit-or 63 (by / 2 ^ 7) p ∙ ap (λ (b : Bool). b || bit (by / 2 ^ 7) p) (all-ones p l))
-    ∙ and-all (bit state p) (bit (by / 2 ^ 7) p))
 
 -- ---- events keep the stages of their legs
 pack-same : (k : ℕ) (f g : ℕ → Bool) → ((i : ℕ) → f i ≡ g i) → pack k f ≡ pack k g
@@ -75,7 +55,7 @@ module _ {M : Model} where
 pub step-by-key : (m : Mode) {M : Model} {e f by bf : ℕ} (s t y : ℕ) → s < 64 → t < 64 → By M e by → By M f bf → kept m s by ≡ kept m t bf
     → watchOf m M .step s e y ≡ watchOf m M .step t f y
 step-by-key Order {M} {e} {f} {by} {bf} s t y ls lt B C q =
-    ap (λ (k : ℕ). watchOf Order M .step k e y) (sym (keeps-all s by ls) ∙ q ∙ keeps-all t bf lt)
+    ap (λ (k : ℕ). watchOf Order M .step k e y) (sym (keeps-all s (by / 2 ^ 7) ls) ∙ q ∙ keeps-all t (bf / 2 ^ 7) lt)
 step-by-key Events {M} s t y ls lt B C q = pack-same (suc (M .legs)) _ _ (opens-same s t B C q y)
 
 -- ---- a set of one number

@@ -1,12 +1,4 @@
-pub mod SearchLaws
-pub mod NodeLaws
-pub mod ModelLaws
-pub mod WatchLaws
-pub mod ArrivalLaws
-pub mod TypeLaws
 pub mod KeyLaws
-pub mod LevelLaws
 pub mod MemoryLaws
 pub mod LoopLaws
-pub mod SeedLaws
 pub mod FoundLaws

@@ -29,20 +29,20 @@ use Rattle.steps.specs.declared.nearest.Offer.{Offer}
 use Rattle.steps.specs.Nearest.{keyOf, closed}
 use Rattle.steps.specs.Steps.{Offering, NextOffer, Facing}
 use Rattle.steps.proofs.NearestLaws.{key-few}
-use Rattle.search.specs.declared.arrival.Arrival.{Arrival}
-use Rattle.search.specs.declared.arrival.Arrival.the-variants.{Enter, Dropped, Broken}
-use Rattle.search.specs.declared.monitor.Mode.{Mode}
-use Rattle.search.specs.Graph.{Graph, FoundAt, NoneFound}
-use Rattle.search.specs.State.{Inv, Turn}
-use Rattle.search.specs.Nodes.{watchOf, codeAt, placeOf, stateOf}
-use Rattle.search.specs.Arrivals.{States, Lands, LandsOpen, LandsGood, LandsBad, Arriving}
-use Rattle.search.specs.Blocks.{startOf, Asks, Ahead, FirstStep}
-use Rattle.search.specs.Memory.{keepsOf, Marks, typeOf, Memory}
-use Rattle.search.specs.Tasks.{Task, graphOf, Stands, Asked, Faced}
-use Rattle.search.proofs.SearchLaws.{enter, take-up, turn-chain, chain-bound, end-turn, nothing}
-use Rattle.search.proofs.ArrivalLaws.{later}
-use Rattle.search.proofs.TypeLaws.{type-is, start-le, start-next}
-use Rattle.search.proofs.LevelLaws.{step-on, few-types, range-at, edge-free, edge-flow, not-target, swept-to, dropped, enter-below, entered, seen, broken}
+use Rattle.nodes.specs.declared.arrival.Arrival.{Arrival}
+use Rattle.nodes.specs.declared.arrival.Arrival.the-variants.{Enter, Dropped, Broken}
+use Rattle.nodes.specs.declared.monitor.Mode.{Mode}
+use Rattle.nodes.specs.Graph.{Graph, FoundAt, NoneFound}
+use Rattle.nodes.specs.State.{Inv, Turn}
+use Rattle.nodes.specs.Nodes.{watchOf, codeAt, placeOf, stateOf}
+use Rattle.nodes.specs.Arrivals.{States, Lands, LandsOpen, LandsGood, LandsBad, Arriving}
+use Rattle.nodes.specs.Blocks.{startOf, Asks, Ahead, FirstStep}
+use Rattle.search.specs.Memory.{keepsOf, Marks, Memory}
+use Rattle.nodes.specs.Tasks.{typeOf, Task, graphOf, Stands, Asked, Faced}
+use Rattle.nodes.proofs.SearchLaws.{enter, take-up, turn-chain, chain-bound, end-turn, nothing}
+use Rattle.nodes.proofs.ArrivalLaws.{later}
+use Rattle.nodes.proofs.TypeLaws.{type-is, start-le, start-next}
+use Rattle.nodes.proofs.LevelLaws.{step-on, few-types, range-at, edge-free, edge-flow, not-target, swept-to, dropped, enter-below, entered, seen, broken}
 use Rattle.search.proofs.MemoryLaws.{AskerOf, memory-keep, passed, memory-swept, memory-spent, state-small}
 
 -- what does not change

@@ -36,19 +36,19 @@ use Rattle.steps.specs.Nearest.{keyOf, closed, Passed}
 use Rattle.steps.specs.Steps.{Offering}
 use Rattle.steps.proofs.FlowLaws.{flow-class, flow-held, plain-same}
 use Rattle.steps.proofs.OfferLaws.{plain-flow}
-use Rattle.search.specs.declared.monitor.Mode.{Mode}
-use Rattle.search.specs.Graph.{Graph}
-use Rattle.search.specs.State.{Turn, Clear}
-use Rattle.search.specs.Nodes.{Watch, watchOf, codeAt, placeOf, stateOf, codeOf}
-use Rattle.search.specs.Watching.{By}
-use Rattle.search.specs.Tasks.{Task, graphOf, Stands}
-use Rattle.search.specs.Blocks.{startOf, Asks, Ahead}
-use Rattle.search.specs.Memory.{keepsOf, stateKey, Marks, typeOf, Memory}
-use Rattle.search.proofs.SearchLaws.{clear-keep, turn-chain, chain-bound}
-use Rattle.search.proofs.ArrivalLaws.{clash, by-of}
-use Rattle.search.proofs.TypeLaws.{type-lt, type-le}
+use Rattle.nodes.specs.declared.monitor.Mode.{Mode}
+use Rattle.nodes.specs.Graph.{Graph}
+use Rattle.nodes.specs.State.{Turn, Clear}
+use Rattle.nodes.specs.Nodes.{Watch, watchOf, codeAt, placeOf, stateOf, codeOf}
+use Rattle.nodes.specs.Watching.{By}
+use Rattle.nodes.specs.Tasks.{typeOf, Task, graphOf, Stands}
+use Rattle.nodes.specs.Blocks.{startOf, Asks, Ahead}
+use Rattle.search.specs.Memory.{keepsOf, stateKey, Marks, Memory}
+use Rattle.nodes.proofs.SearchLaws.{clear-keep, turn-chain, chain-bound}
+use Rattle.nodes.proofs.ArrivalLaws.{clash, by-of}
+use Rattle.nodes.proofs.TypeLaws.{type-lt, type-le}
 use Rattle.search.proofs.KeyLaws.{kept, step-by-key}
-use Rattle.search.proofs.LevelLaws.{place-lt, place-le, whole, chain-open, edge-flow, edge-freeE, edge-at, types-few, same-counts}
+use Rattle.nodes.proofs.LevelLaws.{place-lt, place-le, whole, chain-open, edge-flow, edge-freeE, edge-at, types-few, same-counts}
 
 -- nothing is remembered at first
 pub memory-begin : (s g : List ℕ) (n : Counts) (m : Mode) (plan back : List ℕ) → Memory s g n m plan back (replicate 256 0) (replicate 256 0)

@@ -6,10 +6,10 @@ use Rattle.paths.proofs.Verdict.{Least, at, nowhere}
 use Rattle.goal_model.specs.Images.{model}
 use Rattle.search.specs.declared.levels.Found.{Found}
 use Rattle.search.specs.declared.levels.Found.the-variants.{Nothing, Start, At}
-use Rattle.search.specs.declared.monitor.Mode.{Mode}
-use Rattle.search.specs.Graph.{Graph, FoundAt, NoneFound}
-use Rattle.search.specs.Nodes.{watchOf, monitorOf, BadStart}
-use Rattle.search.specs.Tasks.{graphOf}
+use Rattle.nodes.specs.declared.monitor.Mode.{Mode}
+use Rattle.nodes.specs.Graph.{Graph, FoundAt, NoneFound}
+use Rattle.nodes.specs.Nodes.{watchOf, monitorOf, BadStart}
+use Rattle.nodes.specs.Tasks.{graphOf}
 
 -- of the graph, from starts that are no ends
 abbrev pub Searched : Graph → List ℕ → Found → Type 0

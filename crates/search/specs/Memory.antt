@@ -9,15 +9,14 @@ use Rattle.base.specs.Bits.{bit}
 use Rattle.policy_image.specs.declared.counts.Counts.{Counts}
 use Rattle.policy_image.specs.Policy.{policyOf}
 use Rattle.context.specs.Codes.{eventOf}
-use Rattle.context.specs.Places.{contextAtIndex}
 use Rattle.goal_image.specs.Layout.{legsOf}
 use Rattle.plan.specs.Plan.{eventsAt, special}
-use Rattle.search.specs.declared.monitor.Mode.{Mode}
-use Rattle.search.specs.declared.monitor.Mode.the-variants.{Order, Events}
-use Rattle.search.specs.Graph.{Graph}
-use Rattle.search.specs.State.{Clear}
-use Rattle.search.specs.Nodes.{placeOf, stateOf}
-use Rattle.search.specs.Tasks.{graphOf}
+use Rattle.nodes.specs.declared.monitor.Mode.{Mode}
+use Rattle.nodes.specs.declared.monitor.Mode.the-variants.{Order, Events}
+use Rattle.nodes.specs.Graph.{Graph}
+use Rattle.nodes.specs.State.{Clear}
+use Rattle.nodes.specs.Nodes.{stateOf}
+use Rattle.nodes.specs.Tasks.{graphOf, typeOf}
 
 -- the bits of a state that every event keeps
 abbrev pub keepsOf : Mode → ℕ
@@ -32,10 +31,6 @@ stateKey m plan state e = bitAnd state (bitOr (keepsOf m) (eventsAt plan e / 2 ^
 -- r is the set of k alone, where yes, or empty
 pub record Marks (k : ℕ) (yes : Bool) (r : ℕ) : Type 0 where
   pub only : (i : ℕ) → bit r i ≡ true → (yes ≡ true) × (k ≡ i)
-
--- the type of the context at which a node stands
-abbrev pub typeOf : List ℕ → Counts → ℕ → ℕ
-typeOf g n v = contextAtIndex n (placeOf (2 ^ legsOf g) v) .ty
 
 -- swept, by type of the target: an edge whose event keeps a key that is in the set arrives at no end, and at a node that is visited.
 -- spent, by type of the source: so does an edge from a state in the set, by an event that is not special

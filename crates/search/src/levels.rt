@@ -1,15 +1,15 @@
 // The search level by level: of the nodes in the queue, the events rising, and of each the types and their contexts rising.
-use crate::arrival::Arrival;
-use crate::arrival::arrive;
-use crate::arrival::first_step;
-use crate::arrival::is_asked;
-use crate::arrival::states_of;
 use crate::memory::keeps_of;
 use crate::memory::mark;
-use crate::monitor::Mode;
-use crate::places::first_place;
 use context::Context;
 use goal_image::check::Legs;
+use nodes::arrival::Arrival;
+use nodes::arrival::arrive;
+use nodes::arrival::first_step;
+use nodes::arrival::is_asked;
+use nodes::arrival::states_of;
+use nodes::monitor::Mode;
+use nodes::places::first_place;
 use plan::regions::EVENTS;
 use policy_image::counts::Counts;
 use steps::bits::has_member;
@@ -20,8 +20,8 @@ use steps::offers::next_offer;
 use steps::targets::is_special;
 use steps::targets::is_target;
 ghost use Rattle.plan.specs.Plan.{Planned};
-ghost use Rattle.search.specs.State.{Inv};
-ghost use Rattle.search.specs.Tasks.{Task, graphOf};
+ghost use Rattle.nodes.specs.State.{Inv};
+ghost use Rattle.nodes.specs.Tasks.{Task, graphOf};
 ghost use Rattle.search.specs.Found.{Searched};
 
 // What a search finds: nothing; a start that is a bad end, by its code; or a step into a bad end, as the node it is from, the

@@ -1,23 +1,19 @@
 // The search of a goal's nodes, each a context and a monitor's state, level by level.
-pub mod arrival;
 pub mod levels;
 pub mod memory;
-pub mod monitor;
-pub mod places;
-pub mod seed;
 
 use crate::levels::Found;
 use crate::levels::search_levels;
-use crate::monitor::Mode;
-use crate::seed::Seeded;
-use crate::seed::seed;
 use context::Context;
 use goal_image::check::Legs;
+use nodes::monitor::Mode;
+use nodes::seed::Seeded;
+use nodes::seed::seed;
 use policy_image::counts::Counts;
 ghost use Rattle.plan.specs.Plan.{Planned};
 ghost use Rattle.search.specs.Found.{FoundLeast};
-ghost use Rattle.search.specs.Seeds.{Roomy};
-ghost use Rattle.search.specs.Tasks.{Task};
+ghost use Rattle.nodes.specs.Seeds.{Roomy};
+ghost use Rattle.nodes.specs.Tasks.{Task};
 
 // The least number of steps to a bad end, for a mode. The plan is made once of the policy and the goal. The slices hold an entry for each node; back then leads from the node that
 // is found to a start.

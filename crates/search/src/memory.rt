@@ -1,5 +1,5 @@
 // What a search remembers, so that it sweeps the contexts of a type once for each part of a state that a step depends on.
-use crate::monitor::Mode;
+use nodes::monitor::Mode;
 ghost use mathlib.Core.Path.{_≡_};
 ghost use Prim.Native.Nat.{_<_};
 ghost use Rattle.search.specs.Memory.{keepsOf, Marks};

@@ -3,14 +3,14 @@ use mathlib.Core.Path.{_≡_, refl, sym, _∙_, ap, subst}
 use mathlib.Core.Bool.{Bool, true, false, not, _&&_, _||_}
 use mathlib.Core.List.{List}
 use mathlib.Core.Logic.{_⊎_, inl, inr, ⊎-elim}
-use Prim.Native.Nat.{ℕ, _+_, _-_, _*_, _/_, _%_, _^_, _≤_, _<_}
+use Prim.Native.Nat.{ℕ, zero, suc, _+_, _-_, _*_, _/_, _%_, _^_, _≤_, _<_}
 use native.Mathlib.Nat.{eq-or-lt-of-le}
 use native.Mathlib.Omega.{arith}
 use borrow.Author.Tests.{not-true, not-false}
 use lib.Bits.{bitAnd, bitOr, and-le-l}
 use lib.ListN.{getD}
 use Rattle.base.specs.Bits.{bit}
-use Rattle.base.proofs.BitLaws.{bit-and}
+use Rattle.base.proofs.BitLaws.{bit-and, bit-or, bit-ext}
 use Rattle.base.proofs.UptoLaws.{and-true, and-first, or-true, true-or-false}
 use Rattle.base.proofs.Numbers.{split-le, split-eq}
 use Rattle.plan.specs.Plan.{specialAt, keyAt, outsAt, insAt, eventsAt}
@@ -39,6 +39,38 @@ closed-first a by done p t = sym (ap (λ (z : Bool). z || bit done (keyOf a by))
 
 pub closed-second : (a : Asker) (by done : ℕ) {b k : Bool} {key : ℕ} → b ≡ bit by 14 → b ≡ false → key ≡ keyOf a by → k ≡ bit done key → k ≡ closed a by done
 closed-second a by done p f e q = q ∙ ap (bit done) e ∙ ap (λ (z : Bool). z || bit done (keyOf a by)) (sym f ∙ p)
+
+-- ---- where every event keeps the whole state
+all-ones : (p : ℕ) → p < 6 → bit 63 p ≡ true
+unfolding bit
+all-ones zero h = refl
+all-ones (suc zero) h = refl
+all-ones (suc (suc zero)) h = refl
+all-ones (suc (suc (suc zero))) h = refl
+all-ones (suc (suc (suc (suc zero)))) h = refl
+all-ones (suc (suc (suc (suc (suc zero))))) h = refl
+all-ones (suc (suc (suc (suc (suc (suc p)))))) h = absurd (omega arith)
+
+and-all : (a b : Bool) → (a && (true || b)) ≡ a
+and-all true b = refl
+and-all false b = refl
+
+pub keeps-all : (state z : ℕ) → state < 64 → bitAnd state (bitOr 63 z) ≡ state
+keeps-all state z h =
+    bit-ext 6 (bitAnd state (bitOr 63 z)) state (omega (arith, and-le-l state (bitOr 63 z))) h
+    (λ p l. bit-and state (bitOr 63 z) p ∙ ap (λ (b : Bool). bit state p && b) (bit-or 63 z p ∙ ap (λ (b : Bool). b || bit z p) (all-ones p l)) ∙ and-all (bit state p) (bit z p))
+
+pub all-closed : (plan : List ℕ) (a : Asker) (done k mask from : ℕ) {b : Bool} → a .state < 64 → from ≤ 4194304 → a .keeps ≡ 63 → b ≡ bit done (a .state) → b ≡ true
+    → OpenStep plan a done k mask from 4194304
+all-closed plan a done k mask from few h w p t =
+    record {
+      high = omega arith;
+      by = λ l. absurd (omega arith);
+      low = h;
+      unclosed = λ l. absurd (omega arith);
+      least = λ q _ _ _. inr (or-true (bit (eventsAt plan (32 * (k / 4096) + q)) 14) (bit done (keyOf a (eventsAt plan (32 * (k / 4096) + q))))
+          (ap (bit done) (ap (λ (i : ℕ). bitAnd (a .state) (bitOr i (eventsAt plan (32 * (k / 4096) + q) / 2 ^ 7))) w ∙ keeps-all (a .state) (eventsAt plan (32 * (k / 4096) + q) / 2 ^ 7) few) ∙ sym p ∙ t));
+    }
 
 -- the steps from `from` on and before `at` are closed
 pub record Opening (plan : List ℕ) (a : Asker) (done k mask from at : ℕ) : Type 0 where

@@ -17,6 +17,9 @@ ghost use Rattle.steps.specs.Nearest.{keyOf, closed, LowestStep, EntrySt
 // No step: a number above every step's.
 pub const NONE: u32 = 4194304;
 
+// All bits of a state: where every event keeps them, one test closes all steps of an entry.
+const WHOLE: u32 = 63;
+
 // A step, the entry that offers it, and where the entries of its class start, or before.
 pub struct Offer {
     pub group: usize,
@@ -96,6 +99,11 @@ fn open_step(plan: &[u32], a: Asker, done: u64, key: u32, mask: u32, from: u32) 
     requires { ⌜ (a .state < 64) × (26112 ≤ length (now plan)) × (key < 131072) × (from ≤ 4194304) ⌝ }
     ensures { λ r. ⌜ OpenStep (now (plan .entry)) a done key mask from r ⌝ }
 {
+    if a.keeps == WHOLE {
+        if has_member(done, a.state) {
+            return NONE;
+        }
+    }
     let mut at = entry_step(key, mask, from);
     while at < NONE {
         let e = (at / 4096) as usize;

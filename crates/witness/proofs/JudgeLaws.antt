@@ -11,7 +11,7 @@ use Rattle.paths.specs.Answer.{Answer, holds, order, events}
 use Rattle.paths.proofs.Monitors.{trackerN, order-iff}
 use Rattle.paths.proofs.Verdict.{Found, Least, at, nowhere, answer, answerBy}
 use Rattle.goal_model.specs.Images.{model}
-use Rattle.search.specs.Tasks.{Task}
+use Rattle.nodes.specs.Tasks.{Task}
 
 pub one-more : {d : ℕ} → suc d ≡ d + 1
 one-more = omega arith

@@ -18,13 +18,13 @@ use Rattle.paths.specs.Paths.{IsPath}
 use Rattle.paths.specs.Slice.{contextsIn, eventsIn, Shows}
 use Rattle.paths.proofs.Monitor.{Edge, run, run-is}
 use Rattle.paths.proofs.Monitors.{order-verdict, events-verdict}
-use Rattle.search.specs.declared.monitor.Mode.{Mode}
-use Rattle.search.specs.declared.monitor.Mode.the-variants.{Order, Events}
-use Rattle.search.specs.Arrivals.{States}
-use Rattle.search.specs.Tasks.{Task, graphOf}
-use Rattle.search.specs.Graph.{Graph, Chain, Chain.root, Chain.link}
-use Rattle.search.specs.Nodes.{Watch, watchOf, monitorOf, stateOf, codeOf, states, StartAt, EdgeAt, EndAt, graph, BadStart}
-use Rattle.search.proofs.SearchLaws.{chain-bound}
+use Rattle.nodes.specs.declared.monitor.Mode.{Mode}
+use Rattle.nodes.specs.declared.monitor.Mode.the-variants.{Order, Events}
+use Rattle.nodes.specs.Arrivals.{States}
+use Rattle.nodes.specs.Tasks.{Task, graphOf}
+use Rattle.nodes.specs.Graph.{Graph, Chain, Chain.root, Chain.link}
+use Rattle.nodes.specs.Nodes.{Watch, watchOf, monitorOf, stateOf, codeOf, states, StartAt, EdgeAt, EndAt, graph, BadStart}
+use Rattle.nodes.proofs.SearchLaws.{chain-bound}
 use Rattle.search.proofs.LoopLaws.{around, at-place}
 use Rattle.search.proofs.FoundLaws.{few-types}
 use Rattle.witness.specs.Links.{Some, Linked}

@@ -35,19 +35,19 @@ use Rattle.steps.specs.declared.nearest.Offer.{Offer}
 use Rattle.steps.specs.Nearest.{Cursor}
 use Rattle.steps.specs.Steps.{Offering, Facing, NextOffer}
 use Rattle.steps.proofs.FlowLaws.{flow-held}
-use Rattle.search.specs.declared.arrival.Arrival.{Arrival}
-use Rattle.search.specs.declared.arrival.Arrival.the-variants.{Enter, Dropped, Broken}
-use Rattle.search.specs.declared.monitor.Mode.{Mode}
-use Rattle.search.specs.Nodes.{watchOf, codeAt, placeOf}
-use Rattle.search.specs.Arrivals.{States, Lands, LandsOpen, LandsGood, LandsBad, Arriving}
-use Rattle.search.specs.Tasks.{Task, Stands, graphOf}
-use Rattle.search.specs.Memory.{typeOf, keepsOf}
+use Rattle.nodes.specs.declared.arrival.Arrival.{Arrival}
+use Rattle.nodes.specs.declared.arrival.Arrival.the-variants.{Enter, Dropped, Broken}
+use Rattle.nodes.specs.declared.monitor.Mode.{Mode}
+use Rattle.nodes.specs.Nodes.{watchOf, codeAt, placeOf}
+use Rattle.nodes.specs.Arrivals.{States, Lands, LandsOpen, LandsGood, LandsBad, Arriving}
+use Rattle.nodes.specs.Tasks.{Task, Stands, typeOf, graphOf}
+use Rattle.search.specs.Memory.{keepsOf}
 use Rattle.witness.specs.Links.{Least, Linked, OfferedBetween}
-use Rattle.search.proofs.ModelLaws.{bounded}
-use Rattle.search.proofs.ArrivalLaws.{clash, later}
+use Rattle.nodes.proofs.ModelLaws.{bounded}
+use Rattle.nodes.proofs.ArrivalLaws.{clash, later}
 use Rattle.search.proofs.MemoryLaws.{AskerOf, memory-begin}
 use Rattle.search.proofs.MemoryLaws.{passed as remembered}
-use Rattle.search.proofs.LevelLaws.{place-lt, edge-flow, edge-free, edge-freeE, range-at, only-at, edge-at}
+use Rattle.nodes.proofs.LevelLaws.{place-lt, edge-flow, edge-free, edge-freeE, range-at, only-at, edge-at}
 use Rattle.search.proofs.LoopLaws.{Around, around, at-place, stand}
 
 -- what has been looked for: no step before the offer leads from u to w

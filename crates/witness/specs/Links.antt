@@ -4,8 +4,8 @@ use mathlib.Core.List.{List}
 use Rattle.policy_image.specs.declared.counts.Counts.{Counts}
 use Rattle.policy_image.specs.Policy.{policyOf}
 use Rattle.steps.specs.Steps.{Offering}
-use Rattle.search.specs.Graph.{Graph}
-use Rattle.search.specs.Memory.{typeOf}
+use Rattle.nodes.specs.Graph.{Graph}
+use Rattle.nodes.specs.Tasks.{typeOf}
 
 -- r is the least number below n of which P holds
 pub record Least (P : ℕ → Type 0) (n r : ℕ) : Type 0 where

@@ -2,19 +2,19 @@
 use crate::step::least_event;
 use context::Context;
 use goal_image::check::Legs;
+use nodes::arrival::states_of;
+use nodes::monitor::Mode;
 use policy_image::counts::Counts;
-use search::arrival::states_of;
 use search::levels::Found;
-use search::monitor::Mode;
 ghost use mathlib.Core.Path.{_≡_};
 ghost use Prim.Native.Nat.{_+_, _*_, _≤_};
 ghost use lib.ListN.{length};
 ghost use Rattle.goal_model.specs.Images.{model};
 ghost use Rattle.plan.specs.Plan.{Planned};
 ghost use Rattle.search.specs.Found.{FoundLeast};
-ghost use Rattle.search.specs.Graph.{FoundAt};
-ghost use Rattle.search.specs.Nodes.{codeOf};
-ghost use Rattle.search.specs.Tasks.{Task, graphOf};
+ghost use Rattle.nodes.specs.Graph.{FoundAt};
+ghost use Rattle.nodes.specs.Nodes.{codeOf};
+ghost use Rattle.nodes.specs.Tasks.{Task, graphOf};
 ghost use Rattle.witness.specs.Shown.{Shown, Something, stepsTo, NodeIn};
 
 // The code of a node's context.

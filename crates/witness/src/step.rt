@@ -3,13 +3,13 @@
 use base::bits::has_bit;
 use context::Context;
 use goal_image::check::Legs;
+use nodes::arrival::Arrival;
+use nodes::arrival::arrive;
+use nodes::arrival::states_of;
+use nodes::monitor::Mode;
 use plan::regions::EVENTS;
 use policy_image::counts::Counts;
-use search::arrival::Arrival;
-use search::arrival::arrive;
-use search::arrival::states_of;
 use search::memory::keeps_of;
-use search::monitor::Mode;
 use steps::nearest::Asker;
 use steps::nearest::NONE;
 use steps::offers::first_offer;
@@ -18,7 +18,7 @@ use steps::targets::is_special;
 use steps::targets::is_target;
 ghost use Rattle.base.specs.Decides.{Decides};
 ghost use Rattle.plan.specs.Plan.{Planned};
-ghost use Rattle.search.specs.Tasks.{Task, graphOf};
+ghost use Rattle.nodes.specs.Tasks.{Task, graphOf};
 ghost use Rattle.witness.specs.Links.{Least, Linked, OfferedBetween};
 
 // Whether the event, which the entry offers from u's type to w's, leads from node u to node w.

@@ -1,16 +1,16 @@
 // What the search for order and the search for events come to together.
 use goal_image::check::Legs;
+use nodes::monitor::Mode;
 use policy_image::counts::Counts;
 use search::levels::Found;
-use search::monitor::Mode;
 use search::search;
 ghost use mathlib.Core.Path.{_≡_};
 ghost use Rattle.paths.proofs.Verdict.{answer, nowhere};
 ghost use Rattle.plan.specs.Plan.{Planned};
-ghost use Rattle.search.specs.declared.monitor.Mode.the-variants.{Order};
+ghost use Rattle.nodes.specs.declared.monitor.Mode.the-variants.{Order};
 ghost use Rattle.search.specs.Found.{FoundLeast};
-ghost use Rattle.search.specs.Seeds.{Roomy};
-ghost use Rattle.search.specs.Tasks.{Task};
+ghost use Rattle.nodes.specs.Seeds.{Roomy};
+ghost use Rattle.nodes.specs.Tasks.{Task};
 ghost use Rattle.witness.specs.Shown.{reachedBy, Short, answerOf};
 
 // The answer to a goal: m is the number of steps of a shortest path that breaks it.

@@ -10,7 +10,7 @@ use Rattle.policy_image.specs.declared.counts.Counts.{Counts}
 use Rattle.paths.specs.Paths.{OrderAt, EventsAt}
 use Rattle.paths.specs.Answer.{Right}
 use Rattle.goal_model.specs.Images.{model}
-use Rattle.search.specs.declared.monitor.Mode.the-variants.{Order, Events}
+use Rattle.nodes.specs.declared.monitor.Mode.the-variants.{Order, Events}
 use Rattle.witness.specs.declared.verdict.Verdict.{Verdict}
 use Rattle.witness.specs.declared.verdict.Verdict.the-variants as verdict
 use Rattle.witness.specs.Shown.{answerOf, Something, stepsTo}

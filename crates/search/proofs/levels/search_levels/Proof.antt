@@ -1,10 +1,10 @@
 use Rattle.search.proofs.LoopLaws.{Around, Middle, Inner, around, node-below, at-place, stand, own-few, state-few, asker-of, asks-same, marks-same, middle-begin, middle-end, middle-spent, event-few, other-few, type-low, type-high, inner-begin, inner-key, inner-swept, inner-end, inner-place, inner-fits, inner-facing, inner-skip, inner-below, inner-entered, inner-seen, inner-dropped, inner-broken, inner-next}
 use Rattle.search.proofs.MemoryLaws.{memory-begin, memory-keep}
-use Rattle.search.proofs.ArrivalLaws.{later}
-use Rattle.search.proofs.SearchLaws.{enter, room, nothing, turn-chain, chain-bound}
+use Rattle.nodes.proofs.ArrivalLaws.{later}
+use Rattle.nodes.proofs.SearchLaws.{enter, room, nothing, turn-chain, chain-bound}
 use Rattle.search.specs.Memory.{keepsOf, Memory}
-use Rattle.search.specs.Tasks.{graphOf}
-use Rattle.search.specs.State.{Inv}
+use Rattle.nodes.specs.Tasks.{graphOf}
+use Rattle.nodes.specs.State.{Inv}
 use Rattle.plan.specs.Plan.{Planned}
 use lib.ListN.{length, getD, set, length-set}
 use Prim.Native.Nat.{ℕ, _+_, _-_, _*_, _/_, _%_, _≤_, _<_}

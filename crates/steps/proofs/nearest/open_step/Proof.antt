@@ -1,5 +1,5 @@
 use Prim.Native.Nat.{_-_}
-use Rattle.steps.proofs.NearestLaws.{key-few, closed-first, closed-second, Opening, open-begin, open-next, open-stop, open-end, asked-all, asked-special}
+use Rattle.steps.proofs.NearestLaws.{Opening, all-closed, open-begin, open-next, open-stop, open-end}
 use native.Mathlib.Omega.{arith}
 use borrow.Author.Needs.{needs}
 use Rattle.steps.proofs.nearest.open_step.Statement.{statement}
@@ -11,8 +11,14 @@ Inv-loop plan a done key mask from at₀ at = Opening plan a done key mask from 
 abbrev μ-loop : tie.MeasureT-loop
 μ-loop plan a done key mask from at₀ at = 4194304 - at
 
+has-member-requires : tie.Need-has-member-requires Inv-loop μ-loop
+has-member-requires c κs = c .before .before .before .pre .0
+
+returns : tie.Need-returns Inv-loop μ-loop
+returns c = all-closed (c .before .before .before .before .before .args .plan .now) (c .before .before .before .before .before .args .a) (c .before .before .before .before .before .args .done) (c .before .before .before .before .before .args .key) (c .before .before .before .before .before .args .mask) (c .before .before .before .before .before .args .from) (c .before .before .before .before .before .pre .0) (c .before .before .before .before .before .pre .3) (c .before .before .if1 .taken) (c .before .has-member .ensures) (c .if2 .taken)
+
 entry-step-requires : tie.Need-entry-step-requires Inv-loop μ-loop
-entry-step-requires c κs = (c .before .pre .2, c .before .pre .3)
+entry-step-requires c κs = (c .before .before .before .pre .2, c .before .before .before .pre .3)
 
 loop-holds : tie.Need-loop-holds Inv-loop μ-loop
 loop-holds c = open-begin (c .entry-step .ensures)
@@ -27,28 +33,28 @@ mul-is-closed : tie.Need-mul-is-closed Inv-loop μ-loop
 mul-is-closed c = omega arith
 
 shared-slice-read-is-closed : tie.Need-shared-slice-read-is-closed Inv-loop μ-loop
-shared-slice-read-is-closed c = omega (arith, c .before .before .before .before .before .pre .1)
+shared-slice-read-is-closed c = omega (arith, c .before .before .before .before .before .before .before .pre .1)
 
 is-closed-requires : tie.Need-is-closed-requires Inv-loop μ-loop
-is-closed-requires c κs = c .before .before .before .before .before .pre .0
+is-closed-requires c κs = c .before .before .before .before .before .before .before .pre .0
 
-returns : tie.Need-returns Inv-loop μ-loop
-returns c = open-stop (c .before .before .before .before .loop .inv) (c .before .is-closed .ensures) (c .if1 .taken)
+returns-2 : tie.Need-returns-2 Inv-loop μ-loop
+returns-2 c = open-stop (c .before .before .before .before .loop .inv) (c .before .is-closed .ensures) (c .if3 .taken)
 
 add-entry-step : tie.Need-add-entry-step Inv-loop μ-loop
 add-entry-step c = omega arith
 
 entry-step-requires-2 : tie.Need-entry-step-requires-2 Inv-loop μ-loop
-entry-step-requires-2 c κs = (c .before .before .before .before .before .before .before .pre .2, omega arith)
+entry-step-requires-2 c κs = (c .before .before .before .before .before .before .before .before .before .pre .2, omega arith)
 
 loop-less : tie.Need-loop-less Inv-loop μ-loop
 loop-less c = omega (arith, c .entry-step2 .ensures .low)
 
 loop-again : tie.Need-loop-again Inv-loop μ-loop
-loop-again c = open-next (c .before .before .before .before .before .loop .inv) (c .before .before .is-closed .ensures) (c .before .if1 .left) (c .entry-step2 .ensures)
+loop-again c = open-next (c .before .before .before .before .before .loop .inv) (c .before .before .is-closed .ensures) (c .before .if3 .left) (c .entry-step2 .ensures)
 
-returns-2 : tie.Need-returns-2 Inv-loop μ-loop
-returns-2 c = open-end (c .before .loop .inv) (c .loop-test .left)
+returns-3 : tie.Need-returns-3 Inv-loop μ-loop
+returns-3 c = open-end (c .before .loop .inv) (c .loop-test .left)
 
 pub open-step-spec : {M : Type 1} → statement M
 open-step-spec =
@@ -56,6 +62,8 @@ open-step-spec =
     (tie.spec
     Inv-loop
     μ-loop
+    has-member-requires
+    returns
     entry-step-requires
     loop-holds
     cast-e
@@ -63,9 +71,9 @@ open-step-spec =
     mul-is-closed
     shared-slice-read-is-closed
     is-closed-requires
-    returns
+    returns-2
     add-entry-step
     entry-step-requires-2
     loop-less
     loop-again
-    returns-2)
+    returns-3)

@@ -3,7 +3,7 @@ use native.Mathlib.Omega.{arith}
 use borrow.Author.Needs.{needs}
 use Rattle.context.specs.Codes.{contextCode}
 use Rattle.context.proofs.PlaceLaws.{at-in-range}
-use Rattle.search.specs.Nodes.{codeAt, placeOf}
+use Rattle.nodes.specs.Nodes.{codeAt, placeOf}
 use Rattle.witness.proofs.path.code_of.Statement.{statement}
 use Rattle.witness.proofs.path.code_of.Tie as tie
 

@@ -3,7 +3,7 @@ use mathlib.Core.Path.{_≡_, refl, _∙_}
 use native.Mathlib.Omega.{arith}
 use denote.Ref.{now}
 use lib.ListN.{length, length-set, set}
-use Rattle.search.proofs.SearchLaws.{chain-bound}
+use Rattle.nodes.proofs.SearchLaws.{chain-bound}
 use Rattle.witness.proofs.PathLaws.{Writing, unlink, write-begin, write-step, write-next, write-end, shown-by, node-in, node-small, code-at, rest-of}
 use Rattle.witness.proofs.path.write_path.Statement.{statement}
 use Rattle.witness.proofs.path.write_path.Tie as tie

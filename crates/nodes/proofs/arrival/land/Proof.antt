@@ -1,0 +1,60 @@
+use native.Mathlib.Omega.{arith}
+use Rattle.nodes.proofs.ArrivalLaws.{node-room, land-broken, land-dropped, land-enter}
+use borrow.Author.Needs.{needs}
+use Rattle.nodes.proofs.arrival.land.Statement.{statement}
+use Rattle.nodes.proofs.arrival.land.Tie as tie
+
+has-bit-requires : tie.Need-has-bit-requires
+has-bit-requires c κs = search needs
+
+is-bad-requires : tie.Need-is-bad-requires
+is-bad-requires c κs = search needs
+
+states-of-requires : tie.Need-states-of-requires
+states-of-requires c κs = search needs
+
+mul-t9 : tie.Need-mul-t9
+mul-t9 c = let s = c .before .before .before .before .before in omega (arith, node-room (s .args .y) (c .states-of .ensures) (s .pre .0) (s .pre .1) (s .pre .2))
+
+add-t10 : tie.Need-add-t10
+add-t10 c = let s = c .before .before .before .before .before in omega (arith, node-room (s .args .y) (c .states-of .ensures) (s .pre .0) (s .pre .1) (s .pre .2))
+
+returns : tie.Need-returns
+returns c =
+    let k = c .before .before .before .before in
+    land-broken (k .before .args .y) (c .states-of .ensures) (k .has-bit .ensures) (c .before .before .before .if1 .taken) (c .before .before .is-bad .ensures) (c .before .if2 .taken)
+
+returns-2 : tie.Need-returns-2
+returns-2 c =
+    let k = c .before .before .before in
+    land-dropped (k .has-bit .ensures) (c .before .before .if1 .taken) (c .before .is-bad .ensures) (c .if2 .left)
+
+states-of-requires-2 : tie.Need-states-of-requires-2
+states-of-requires-2 c κs = search needs
+
+mul-t12 : tie.Need-mul-t12
+mul-t12 c = let s = c .before .before .before in omega (arith, node-room (s .args .y) (c .states-of2 .ensures) (s .pre .0) (s .pre .1) (s .pre .2))
+
+add-t13 : tie.Need-add-t13
+add-t13 c = let s = c .before .before .before in omega (arith, node-room (s .args .y) (c .states-of2 .ensures) (s .pre .0) (s .pre .1) (s .pre .2))
+
+returns-3 : tie.Need-returns-3
+returns-3 c =
+    let k = c .before .before in
+    land-enter (k .before .args .y) (c .states-of2 .ensures) (k .has-bit .ensures) (c .before .if1 .left)
+
+pub land-spec : {M : Type 1} → statement M
+land-spec =
+    tie.close
+    (tie.spec
+    has-bit-requires
+    is-bad-requires
+    states-of-requires
+    mul-t9
+    add-t10
+    returns
+    returns-2
+    states-of-requires-2
+    mul-t12
+    add-t13
+    returns-3)

@@ -1,0 +1,106 @@
+// What arriving at a context comes to, and the first step that a search asks from a node.
+use crate::monitor::Mode;
+use crate::monitor::is_bad;
+use crate::monitor::step_state;
+use base::bits::has_bit;
+use context::Context;
+use goal_image::check::Legs;
+use plan::regions::CONTEXTS;
+use policy_image::counts::Counts;
+use steps::nearest::Asker;
+use steps::nearest::NONE;
+use steps::nearest::Offer;
+use steps::offers::first_offer;
+ghost use Prim.Native.Nat.{suc, _+_, _*_, _^_, _≤_, _<_};
+ghost use Rattle.policy_image.specs.Policy.{policyOf};
+ghost use Rattle.context.specs.Ranges.{ContextInRange};
+ghost use Rattle.context.specs.Places.{contextCount, contextAtIndex};
+ghost use Rattle.goal_image.specs.Goal.{goalOf};
+ghost use Rattle.plan.specs.Plan.{GoalPlan, Planned};
+ghost use Rattle.nodes.specs.Arrivals.{Given, GivenGoal, States, Arrived, Arriving};
+ghost use Rattle.nodes.specs.Blocks.{Asks, FirstStep};
+
+// A node to enter, by its number; an end that breaks nothing; or an end that breaks what is looked for.
+pub enum Arrival {
+    Enter(u32),
+    Dropped,
+    Broken(u32),
+}
+
+// The number of states of a context: 2 ^ n.
+pub fn states_of(legs: Legs) -> u32
+    requires { ⌜ legs .count ≤ 6 ⌝ }
+    ensures { λ r. ⌜ States legs r ⌝ }
+{
+    1 << legs.count
+}
+
+// What arriving at the context at place y, in the sets into, with the state comes to.
+pub fn land(mode: Mode, legs: Legs, into: u32, y: u32, state: u32) -> Arrival
+    requires { ⌜ (legs .count ≤ 6) × (y * 2 ^ (legs .count) < 2 ^ 26) × (state < 2 ^ suc (legs .count)) ⌝ }
+    ensures { λ r. ⌜ Arrived mode legs into y state r ⌝ }
+{
+    if has_bit(into, legs.count) {
+        if is_bad(mode, legs, state) {
+            return Arrival::Broken(y * states_of(legs) + state);
+        }
+        return Arrival::Dropped;
+    }
+    Arrival::Enter(y * states_of(legs) + state)
+}
+
+// What a step to the context at place y comes to, from the state, by an event in the sets by. The plan has the goal's sets.
+pub fn arrive(
+    goal: &[u8],
+    counts: Counts,
+    plan: &[u32],
+    legs: Legs,
+    mode: Mode,
+    state: u32,
+    by: u32,
+    y: u32,
+) -> Arrival
+    requires { ⌜ GivenGoal (now goal) counts legs × GoalPlan (now goal) counts (now plan) × (y < contextCount counts) ⌝ }
+    ensures { λ r. ⌜ Arriving (now (goal .entry)) counts legs mode state by y r ⌝ }
+{
+    let at = CONTEXTS + (y as usize);
+    let into = plan[at] % 32768;
+    land(mode, legs, into, y, step_state(mode, legs, state, by, into))
+}
+
+// Whether steps from the context at place y are asked at all: it is not in σe, and meets ρ and μ.
+pub fn is_asked(policy: &[u8], goal: &[u8], counts: Counts, plan: &[u32], y: u32) -> bool
+    requires { ⌜ Planned (now policy) (now goal) counts (now plan) × (y < contextCount counts) ⌝ }
+    ensures { λ r. ⌜ Asks (policyOf (now (policy .entry))) (goalOf (now (goal .entry))) (contextAtIndex counts y) r ⌝ }
+{
+    let at = CONTEXTS + (y as usize);
+    let known = plan[at];
+    if has_bit(known % 32768, 13) {
+        return false;
+    }
+    has_bit(known, 31)
+}
+
+// The first step to ask from x that is not closed.
+pub fn first_step(
+    policy: &[u8],
+    goal: &[u8],
+    counts: Counts,
+    plan: &[u32],
+    swept: &[u64; 256],
+    a: Asker,
+    x: Context,
+    asks: bool,
+) -> Offer
+    requires { ⌜ (a .state < 64) × Given (now policy) (now goal) counts × Planned (now policy) (now goal) counts (now plan) × ContextInRange counts x × Asks (policyOf (now policy)) (goalOf (now goal)) x asks ⌝ }
+    ensures { λ r. ⌜ FirstStep (policyOf (now (policy .entry))) (goalOf (now (goal .entry))) (now (plan .entry)) (now (swept .entry)) a x r ⌝ }
+{
+    if !asks {
+        return Offer {
+            group: 0,
+            entry: 0,
+            at: NONE,
+        };
+    }
+    first_offer(policy, counts, plan, swept, a, x)
+}
