@@ -1,6 +1,6 @@
 //! The cases: seeded by their numbers, so that a case that fails can be had again.
 use second_search::gen::{case, damage, Rng};
-use second_search::goal::Goal;
+use second_search::goal::{Goal, Item, SIGMA_E};
 use second_search::policy::{Policy, Record};
 
 /// The entries that the goal program lends in each work slice.
@@ -40,8 +40,10 @@ fn raised_to_limit(mut policy: Policy, goal: &Goal) -> Option<Policy> {
     fits.then_some(policy)
 }
 
-/// Many more allows among some of the types: a search that remembers where it has been has much to remember there.
-fn crowd(policy: &mut Policy, rng: &mut Rng) {
+/// Many more allows among some of the types, more users, and exceptions that some contexts of a type are in and others not: a
+/// search that remembers which types it has been through has much to get wrong there.
+fn crowd(policy: &mut Policy, goal: &mut Goal, rng: &mut Rng) {
+    policy.users = policy.users.max(rng.range(1, 3));
     let (apart, first) = (rng.range(1, 3), rng.range(1, policy.types));
     let some: Vec<u32> = (first..=policy.types).step_by(apart as usize).collect();
     for _ in 0..rng.range(5, 20 + 4 * some.len() as u32) {
@@ -50,14 +52,19 @@ fn crowd(policy: &mut Policy, rng: &mut Rng) {
         let mask = rng.pick(&[one, one, few, u32::MAX]);
         policy.records.push(Record::new(4, source, target, class, mask));
     }
+    for _ in 0..rng.range(0, 3) {
+        let (t, r, u) = (rng.range(0, policy.types), rng.range(0, policy.roles), rng.range(1, policy.users));
+        goal.items.push((SIGMA_E, Item::Sigma { t, r, u }));
+    }
+    goal.items.truncate(255);
 }
 
 /// Every sixth case is crowded. Every 500th is one of the largest that the program has room for, where its counts can be raised
 /// to that.
 fn generate(number: u64, rng: &mut Rng) -> (Policy, Goal) {
-    let (mut policy, goal) = case(rng, size(number));
+    let (mut policy, mut goal) = case(rng, size(number));
     if number % 6 == 5 {
-        crowd(&mut policy, rng);
+        crowd(&mut policy, &mut goal, rng);
     }
     if number % 500 != 7 {
         return (policy, goal);
