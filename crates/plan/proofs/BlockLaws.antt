@@ -5,11 +5,13 @@ use mathlib.Core.Bool.{Bool, true, _&&_}
 use mathlib.Core.List.{List}
 use mathlib.Core.Logic.{_⊎_, ⊎-elim}
 use native.Mathlib.Omega.{arith}
-use lib.Bits.{bitAnd}
-use lib.ListN.{length, getD}
+use lib.Bits.{bitAnd, bitOr}
+use lib.ListN.{length, getD, set}
 use Rattle.base.specs.Bits.{bit}
 use Rattle.base.specs.Ranges.{Within}
-use Rattle.base.proofs.BitLaws.{bit-and}
+use Rattle.base.proofs.BitLaws.{bit-and, bit-or}
+use Rattle.base.proofs.Numbers.{split-eq}
+use Rattle.base.proofs.UptoLaws.{or-left, or-true}
 use Rattle.policy_image.specs.declared.counts.Counts.{Counts}
 use Rattle.policy_image.specs.Policy.{Policy, policyOf}
 use Rattle.policy_image.specs.Layout.{countsOf}
@@ -25,7 +27,8 @@ use Rattle.goal_image.specs.Goal.{goalOf}
 use Rattle.goal_image.specs.Sets.{EventSets}
 use Rattle.context.specs.Codes.{eventOf}
 use Rattle.plan.specs.Fill.{Filled}
-use Rattle.plan.specs.Plan.{Ready, firstAt, keyAt, outsAt, insAt, eventsAt, contextsAt, EntryOf, OfferBlock, Blocks, BlocksPut, Tabled, TablesPut, Known, Planned}
+use Rattle.plan.proofs.FillLaws.{fill-begin, fill-more}
+use Rattle.plan.specs.Plan.{Ready, specialAt, firstAt, keyAt, outsAt, insAt, guardsAt, eventsAt, contextsAt, specialsAt, EntryOf, OfferBlock, Blocks, Tops, BlocksPut, GuardsOf, GuardsPut, Tabled, TablesPut, Known, Planned}
 
 -- ---- bounds
 module _ {s : List ℕ} {n : Counts} (R : Ready s n) where
@@ -140,32 +143,158 @@ module _ {p : Policy} {first keys ts fs write read old p1 p2 p3 plan : List ℕ}
         above = λ i h. F4 .above i (omega arith) ∙ F3 .above i (omega arith) ∙ F2 .above i (omega arith) ∙ F1 .above i (omega arith);
       }
 
+-- ---- a list that is the same below the guards has the same blocks
+module _ (p : Policy) (old new : List ℕ) (few : p .counts .types ≤ 255) (same : (i : ℕ) → i < 25088 → getD new i 0 ≡ getD old i 0) where
+  module _ (t lo hi : ℕ) (top : hi ≤ 8192) (B : OfferBlock p t old lo hi) where
+    key-kept : (j : ℕ) → j < hi → keyAt new j ≡ keyAt old j
+    key-kept j h = same (512 + j) (omega arith)
+
+    kept-block : OfferBlock p t new lo hi
+    kept-block =
+        record {
+          order = B .order;
+          rising = λ i j l k h. omega (arith, key-kept i (omega arith), key-kept j h, B .rising i j l k h);
+          ranged = λ j l h. subst (Ranged (p .counts .types)) (sym (key-kept j h)) (B .ranged j l h);
+          outs = λ j q l h lq. subst (λ (k : ℕ). bit (outsAt new j) q ≡ (α p t (k % 4096) (eventAt (k / 4096) q) && writeLike p (eventAt (k / 4096) q))) (sym (key-kept j h))
+              (ap (λ (m : ℕ). bit m q) (same (8704 + j) (omega arith)) ∙ B .outs j q l h lq);
+          ins = λ j q l h lq. subst (λ (k : ℕ). bit (insAt new j) q ≡ (α p (k % 4096) t (eventAt (k / 4096) q) && readLike p (eventAt (k / 4096) q))) (sym (key-kept j h))
+              (ap (λ (m : ℕ). bit m q) (same (16896 + j) (omega arith)) ∙ B .ins j q l h lq);
+          whole = λ c o q lc lo′ lq w.
+              let E = B .whole c o q lc lo′ lq w in
+              record { place = E .place; low = E .low; high = E .high; key = key-kept (E .place) (E .high) ∙ E .key };
+        }
+
+  first-kept : (t : ℕ) → t ≤ 256 → firstAt new t ≡ firstAt old t
+  first-kept t h = same (64 + t) (omega arith)
+
+  pub kept-blocks : Blocks p old → Blocks p new
+  kept-blocks D =
+      record {
+        blocks = λ t w.
+            let h = w .high in
+            subst (λ (k : ℕ). OfferBlock p t new k (firstAt new (t + 1))) (sym (first-kept t (omega arith)))
+            (subst (λ (k : ℕ). OfferBlock p t new (firstAt old t) k) (sym (first-kept (t + 1) (omega arith))) (kept-block t (firstAt old t) (firstAt old (t + 1)) (D .tops t w) (D .blocks t w)));
+        tops = λ t w. let h = w .high in omega (arith, first-kept (t + 1) (omega arith), D .tops t w);
+      }
+
+  pub kept-guards : Blocks p old → (t r : ℕ) → Within 1 (p .counts .types) t → GuardsOf old (firstAt old t) (firstAt old (t + 1)) r → GuardsOf new (firstAt new t) (firstAt new (t + 1)) r
+  kept-guards D t r w G =
+      let h = w .high in
+      let e : firstAt new t ≡ firstAt old t = first-kept t (omega arith) in
+      let e′ : firstAt new (t + 1) ≡ firstAt old (t + 1) = first-kept (t + 1) (omega arith) in
+      let top = D .tops t w in
+      record { at = λ j q l k b. G .at j q (omega arith) (omega arith) (subst (λ (m : ℕ). bit m q ≡ true) (specials-kept j (omega arith)) b) }
+    where
+      specials-kept : (j : ℕ) → j < 8192 → specialsAt new j ≡ specialsAt old j
+      specials-kept j h =
+          ap₂ bitAnd (ap₂ bitOr (same (8704 + j) (omega arith)) (same (16896 + j) (omega arith)))
+          (same (keyAt new j / 4096 % 32) (omega arith) ∙ ap (λ (k : ℕ). getD old (k / 4096 % 32) 0) (same (512 + j) (omega arith)))
+
+-- ---- guards, entry by entry
+pub zero-plus : (c : ℕ) → 0 + c ≡ c
+zero-plus c = omega arith
+
+pub guards-begin : (plan : List ℕ) (lo : ℕ) → GuardsOf plan lo lo 0
+guards-begin plan lo = record { at = λ j q l h b. absurd (omega arith) }
+
+pub guards-more : {plan : List ℕ} {lo j r v : ℕ} → GuardsOf plan lo j r → v ≡ specialsAt plan j → GuardsOf plan lo (j + 1) (bitOr r v)
+guards-more {plan} {lo} {j} {r} {v} G e =
+    record {
+      at = λ i q l h b. bit-or r v q
+          ∙ ⊎-elim (λ (d : i ≡ j). or-true (bit r q) (bit v q) (ap (λ (m : ℕ). bit m q) (e ∙ ap (specialsAt plan) (sym d)) ∙ b))
+          (λ (d : i ≡ j → ⊥). or-left (bit r q) (bit v q) (G .at i q l (omega (arith, d)) b)) (split-eq i j);
+    }
+
+pub guards-end : {plan : List ℕ} {lo hi j r : ℕ} → GuardsOf plan lo j r → hi ≤ j → GuardsOf plan lo hi r
+guards-end G h = record { at = λ i q l k b. G .at i q l (omega arith) b }
+
+-- the guards of the types below t are put
+pub record Guarding (types : ℕ) (old new : List ℕ) (t : ℕ) : Type 0 where
+  pub low : 1 ≤ t
+  pub high : t ≤ types + 1
+  pub few : types ≤ 255
+  pub tops : Tops types old
+  pub put : Filled (λ i v. GuardsOf old (firstAt old i) (firstAt old (i + 1)) v) old new 25088 1 t
+
+pub guarding-begin : {types : ℕ} {plan : List ℕ} → types ≤ 255 → Tops types plan → Guarding types plan plan 1
+guarding-begin few T = record { low = omega arith; high = omega arith; few = few; tops = T; put = fill-begin _ _ _ _ }
+
+-- the end of the block of t stands behind its start
+pub place-next : (l : List ℕ) (t : ℕ) → getD l (64 + t + 1) 0 ≡ firstAt l (t + 1)
+place-next l t = ap (λ (i : ℕ). getD l i 0) (let e : 64 + t + 1 ≡ 64 + (t + 1) = omega arith in e)
+
+pub guards-to : {plan : List ℕ} {lo hi hi′ r : ℕ} → GuardsOf plan lo hi r → hi ≡ hi′ → GuardsOf plan lo hi′ r
+guards-to {plan} {lo} {r = r} G e = subst (λ (k : ℕ). GuardsOf plan lo k r) e G
+
+module _ {types : ℕ} {old new : List ℕ} {t : ℕ} (G : Guarding types old new t) (h : t ≤ types) where
+  same-below : (i : ℕ) → i < 25088 → getD new i 0 ≡ getD old i 0
+  same-below i l = G .put .below i (omega arith)
+
+  pub guarding-top : firstAt new (t + 1) ≤ 8192
+  guarding-top = omega (arith, same-below (64 + (t + 1)) (omega (arith, G .few)), G .tops .at t (record { low = G .low; high = h }))
+
+  pub guarding-more : {v : ℕ} → 25344 ≤ length new → GuardsOf new (firstAt new t) (firstAt new (t + 1)) v → Guarding types old (set new (25088 + t) v) (t + 1)
+  guarding-more {v} size H =
+      record {
+        low = omega arith;
+        high = omega arith;
+        few = G .few;
+        tops = G .tops;
+        put = fill-more (λ i v. GuardsOf old (firstAt old i) (firstAt old (i + 1)) v) (G .put) (G .low) (omega (arith, G .few)) here;
+      }
+    where
+      top : firstAt old (t + 1) ≤ 8192
+      top = G .tops .at t (record { low = G .low; high = h })
+
+      specials : (j : ℕ) → j < 8192 → specialsAt new j ≡ specialsAt old j
+      specials j l =
+          ap₂ bitAnd (ap₂ bitOr (same-below (8704 + j) (omega arith)) (same-below (16896 + j) (omega arith)))
+          (same-below (keyAt new j / 4096 % 32) (omega arith) ∙ ap (λ (k : ℕ). getD old (k / 4096 % 32) 0) (same-below (512 + j) (omega arith)))
+
+      here : GuardsOf old (firstAt old t) (firstAt old (t + 1)) v
+      here =
+          let e = same-below (64 + t) (omega (arith, G .few)) in
+          let e′ = same-below (64 + (t + 1)) (omega (arith, G .few)) in
+          record { at = λ j q l k b. H .at j q (omega arith) (omega arith) (subst (λ (m : ℕ). bit m q ≡ true) (sym (specials j (omega (arith, top)))) b) }
+
+pub guarding-end : {types : ℕ} {old new : List ℕ} {t : ℕ} → Guarding types old new t → types < t → GuardsPut types old new
+guarding-end G h =
+    record {
+      guards = λ i w. G .put .here i (w .low) (let z = w .high in omega arith);
+      below = λ i l. G .put .below i (omega arith);
+      above = λ i l. G .put .above i (omega (arith, G .high, G .few));
+    }
+
 -- ---- the whole plan
-pub planned : {s g old p1 p2 p3 plan : List ℕ} {n : Counts} {classes : ℕ} → 26112 + contextCount n ≤ length plan → classes ≡ n .classes → n .classes ≤ 31
-    → Filled (λ e v. EventSets (goalOf g) (eventOf e) v) old p1 25088 32 (32 * (classes + 1))
-    → Filled (λ y v. Known (policyOf s) (goalOf g) (contextAtIndex n y) v) p1 p2 26112 0 (contextCount n)
-    → TablesPut (policyOf s) p2 p3 → BlocksPut (policyOf s) p3 plan → Planned s g n plan
-planned {s} {g} {old} {p1} {p2} {p3} {plan} {n} {classes} size same few E C A B =
+pub planned : {s g old p1 p2 p3 p4 plan : List ℕ} {n : Counts} {classes types : ℕ} → 26368 + contextCount n ≤ length plan → classes ≡ n .classes → Ready s n → types ≡ n .types
+    → Filled (λ e v. EventSets (goalOf g) (eventOf e) v) old p1 25344 32 (32 * (classes + 1))
+    → Filled (λ y v. Known (policyOf s) (goalOf g) (contextAtIndex n y) v) p1 p2 26368 0 (contextCount n)
+    → TablesPut (policyOf s) p2 p3 → BlocksPut (policyOf s) p3 p4 → GuardsPut types p4 plan → Planned s g n plan
+planned {s} {g} {old} {p1} {p2} {p3} {p4} {plan} {n} {classes} {types} size same R st E C A B D =
     record {
       policy = record {
         size = size;
         tables = record {
-          special-at = λ c q h. ap (λ (k : ℕ). bit k q) (B .below c (omega arith)) ∙ A .tables .special-at c q h;
-          change = λ r1 r2 h. ap (λ (k : ℕ). bit k r2) (B .below (32 + r1) (omega arith)) ∙ A .tables .change r1 r2 h;
+          special-at = λ c q h. ap (λ (k : ℕ). bit k q) (D .below c (omega arith) ∙ B .below c (omega arith)) ∙ A .tables .special-at c q h;
+          change = λ r1 r2 h. ap (λ (k : ℕ). bit k r2) (D .below (32 + r1) (omega arith) ∙ B .below (32 + r1) (omega arith)) ∙ A .tables .change r1 r2 h;
         };
-        index = B .blocks;
+        index = kept-blocks (policyOf s) p4 plan (all-few R) (D .below) (B .blocks);
+        guards = λ t w. kept-guards (policyOf s) p4 plan (all-few R) (D .below) (B .blocks) t (guardsAt plan t) w (D .guards t (record { low = w .low; high = omega (arith, w .high, types-same R) }));
         meets = λ y h. known y h .holds;
       };
       goal = record {
         size = size;
         events = λ e l h.
-            subst (EventSets (goalOf g) (eventOf e)) (sym (after (25088 + e) (omega arith) ∙ C .below (25088 + e) (omega arith))) (E .here e l (omega arith));
+            subst (EventSets (goalOf g) (eventOf e)) (sym (after (25344 + e) (omega arith) ∙ C .below (25344 + e) (let few = classes-few R in omega arith))) (E .here e l (omega arith));
         contexts = λ y h. known y h .sets;
       };
     }
   where
-    after : (i : ℕ) → 25088 ≤ i → getD plan i 0 ≡ getD p2 i 0
-    after i h = B .above i h ∙ A .above i (omega arith)
+    after : (i : ℕ) → 25344 ≤ i → getD plan i 0 ≡ getD p2 i 0
+    after i h = D .above i h ∙ B .above i h ∙ A .above i (omega arith)
 
     known : (y : ℕ) → y < contextCount n → Known (policyOf s) (goalOf g) (contextAtIndex n y) (contextsAt plan y)
-    known y h = subst (Known (policyOf s) (goalOf g) (contextAtIndex n y)) (sym (after (26112 + y) (omega arith))) (C .here y (omega arith) h)
+    known y h = subst (Known (policyOf s) (goalOf g) (contextAtIndex n y)) (sym (after (26368 + y) (omega arith))) (C .here y (omega arith) h)
+
+pub tops-of : {p : Policy} {old plan : List ℕ} {types : ℕ} → BlocksPut p old plan → types ≡ p .counts .types → Tops types plan
+tops-of B e = record { at = λ t w. B .blocks .tops t (record { low = w .low; high = omega (arith, w .high) }) }

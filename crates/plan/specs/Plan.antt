@@ -5,6 +5,7 @@ use mathlib.Core.Path.{_≡_}
 use mathlib.Core.Bool.{Bool, true, _&&_, _||_}
 use mathlib.Core.List.{List}
 use mathlib.Core.Logic.{_⊎_}
+use lib.Bits.{bitAnd, bitOr}
 use lib.Dec.{eqb}
 use lib.ListN.{length, getD}
 use Rattle.base.specs.Bits.{bit}
@@ -57,11 +58,14 @@ outsAt plan j = getD plan (8704 + j) 0
 abbrev pub insAt : List ℕ → ℕ → ℕ
 insAt plan j = getD plan (16896 + j) 0
 
+abbrev pub guardsAt : List ℕ → ℕ → ℕ
+guardsAt plan type = getD plan (25088 + type) 0
+
 abbrev pub eventsAt : List ℕ → ℕ → ℕ
-eventsAt plan e = getD plan (25088 + e) 0
+eventsAt plan e = getD plan (25344 + e) 0
 
 abbrev pub contextsAt : List ℕ → ℕ → ℕ
-contextsAt plan y = getD plan (26112 + y) 0
+contextsAt plan y = getD plan (26368 + y) 0
 
 -- an event whose flow depends on more than types, ρ and μ: there is a constraint on it, or it is process transition
 unfoldable pub special : Policy → Event → Bool
@@ -102,11 +106,29 @@ pub record Blocks (p : Policy) (plan : List ℕ) : Type 0 where
   pub blocks : (t : ℕ) → Within 1 (p .counts .types) t → OfferBlock p t plan (firstAt plan t) (firstAt plan (t + 1))
   pub tops : (t : ℕ) → Within 1 (p .counts .types) t → firstAt plan (t + 1) ≤ 8192
 
+-- the blocks of the types end within the regions of entries
+pub record Tops (types : ℕ) (plan : List ℕ) : Type 0 where
+  pub at : (t : ℕ) → Within 1 types t → firstAt plan (t + 1) ≤ 8192
+
 -- they are put into the list old, and leave the other regions as they were
 pub record BlocksPut (p : Policy) (old plan : List ℕ) : Type 0 where
   pub blocks : Blocks p plan
   pub below : (i : ℕ) → i < 64 → getD plan i 0 ≡ getD old i 0
-  pub above : (i : ℕ) → 25088 ≤ i → getD plan i 0 ≡ getD old i 0
+  pub above : (i : ℕ) → 25344 ≤ i → getD plan i 0 ≡ getD old i 0
+
+-- the permissions of entry j that are special for its class
+abbrev pub specialsAt : List ℕ → ℕ → ℕ
+specialsAt plan j = bitAnd (bitOr (outsAt plan j) (insAt plan j)) (specialAt plan (keyAt plan j / 4096 % 32))
+
+-- r has the special permissions of the entries from lo to below hi
+pub record GuardsOf (plan : List ℕ) (lo hi r : ℕ) : Type 0 where
+  pub at : (j q : ℕ) → lo ≤ j → j < hi → bit (specialsAt plan j) q ≡ true → bit r q ≡ true
+
+-- .. for the block of each type, put into the list old, and the other regions are as they were
+pub record GuardsPut (types : ℕ) (old plan : List ℕ) : Type 0 where
+  pub guards : (t : ℕ) → Within 1 types t → GuardsOf old (firstAt old t) (firstAt old (t + 1)) (guardsAt plan t)
+  pub below : (i : ℕ) → i < 25088 → getD plan i 0 ≡ getD old i 0
+  pub above : (i : ℕ) → 25344 ≤ i → getD plan i 0 ≡ getD old i 0
 
 -- the sets with bit 31 set where h holds
 pub record Noted (sets : ℕ) (h : Bool) (v : ℕ) : Type 0 where
@@ -119,14 +141,15 @@ pub record Known (p : Policy) (g : Goal) (x : Context) (v : ℕ) : Type 0 where
 
 -- what the plan says of the policy s, whatever the goal
 pub record PolicyPlan (s : List ℕ) (n : Counts) (plan : List ℕ) : Type 0 where
-  pub size : 26112 + contextCount n ≤ length plan
+  pub size : 26368 + contextCount n ≤ length plan
   pub tables : Tabled (policyOf s) plan
   pub index : Blocks (policyOf s) plan
+  pub guards : (t : ℕ) → Within 1 (policyOf s .counts .types) t → GuardsOf plan (firstAt plan t) (firstAt plan (t + 1)) (guardsAt plan t)
   pub meets : (y : ℕ) → y < contextCount n → bit (contextsAt plan y) 31 ≡ held (policyOf s) (contextAtIndex n y)
 
 -- .. and of the goal g, for contexts and events of a policy with the counts n
 pub record GoalPlan (g : List ℕ) (n : Counts) (plan : List ℕ) : Type 0 where
-  pub size : 26112 + contextCount n ≤ length plan
+  pub size : 26368 + contextCount n ≤ length plan
   pub events : (e : ℕ) → 32 ≤ e → e < 32 * (n .classes + 1) → EventSets (goalOf g) (eventOf e) (eventsAt plan e)
   pub contexts : (y : ℕ) → y < contextCount n → ContextSets (goalOf g) (contextAtIndex n y) (contextsAt plan y % 32768)
 

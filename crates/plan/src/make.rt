@@ -5,6 +5,7 @@ use crate::regions::CHANGES;
 use crate::regions::CONTEXTS;
 use crate::regions::EVENTS;
 use crate::regions::FIRST;
+use crate::regions::GUARDS;
 use crate::regions::INS;
 use crate::regions::KEYS;
 use crate::regions::OUTS;
@@ -41,7 +42,7 @@ ghost use Rattle.goal_model.specs.Images.{held};
 ghost use Rattle.index.specs.Meaning.{AllowIndex};
 ghost use Rattle.plan.specs.Fill.{Filled};
 ghost use Rattle.base.specs.Bits.{bit};
-ghost use Rattle.plan.specs.Plan.{Ready, Lists, TablesPut, BlocksPut, Noted, Known, Planned};
+ghost use Rattle.plan.specs.Plan.{Ready, Lists, Tops, TablesPut, BlocksPut, GuardsOf, GuardsPut, Noted, Known, Planned};
 
 // The classes' special permissions, and the roles' changes.
 fn put_tables(policy: &[u8], plan: &mut [u32])
@@ -65,7 +66,7 @@ fn put_blocks(
     from: &[u32],
     plan: &mut [u32],
 )
-    requires { ⌜ Ready (now policy) counts × AllowIndex (policyOf (now policy)) (now first) (now keys) (now towards) (now from) × Lists (now first) (now keys) (now towards) (now from) × (25088 ≤ length (now plan)) ⌝ }
+    requires { ⌜ Ready (now policy) counts × AllowIndex (policyOf (now policy)) (now first) (now keys) (now towards) (now from) × Lists (now first) (now keys) (now towards) (now from) × (25344 ≤ length (now plan)) ⌝ }
     ensures { λ _. ⌜ BlocksPut (policyOf (now (policy .entry))) (now (plan .entry)) (now (plan .exit)) ⌝ }
 {
     let last = (counts.types + 1) as usize;
@@ -80,7 +81,7 @@ fn put_blocks(
 
 // Makes the index, and puts its blocks.
 fn put_index(policy: &[u8], counts: Counts, plan: &mut [u32])
-    requires { ⌜ Ready (now policy) counts × (25088 ≤ length (now plan)) ⌝ }
+    requires { ⌜ Ready (now policy) counts × (25344 ≤ length (now plan)) ⌝ }
     ensures { λ _. ⌜ BlocksPut (policyOf (now (policy .entry))) (now (plan .entry)) (now (plan .exit)) ⌝ }
 {
     let domains = domain_table(policy);
@@ -110,10 +111,42 @@ fn put_index(policy: &[u8], counts: Counts, plan: &mut [u32])
     put_blocks(policy, counts, &first, &keys, &towards, &from, plan);
 }
 
+// The special permissions of the entries from lo to below hi, united.
+fn guards(plan: &[u32], lo: usize, hi: usize) -> u32
+    requires { ⌜ (hi ≤ 8192) × (25344 ≤ length (now plan)) ⌝ }
+    ensures { λ r. ⌜ GuardsOf (now (plan .entry)) lo hi r ⌝ }
+{
+    let mut all: u32 = 0;
+    let mut j = lo;
+    while j < hi {
+        let class = (plan[KEYS + j] / 4096 % 32) as usize;
+        all = all | ((plan[OUTS + j] | plan[INS + j]) & plan[SPECIAL + class]);
+        j += 1;
+    }
+    all
+}
+
+// The same for the block of each type.
+fn put_guards(plan: &mut [u32], types: u32)
+    requires { ⌜ (types ≤ 255) × Tops types (now plan) × (25344 ≤ length (now plan)) ⌝ }
+    ensures { λ _. ⌜ GuardsPut types (now (plan .entry)) (now (plan .exit)) ⌝ }
+{
+    let mut t: u32 = 1;
+    while t <= types {
+        let first = FIRST + (t as usize);
+        let lo = plan[first] as usize;
+        let hi = plan[first + 1] as usize;
+        let all = guards(plan, lo, hi);
+        let at = GUARDS + (t as usize);
+        plan[at] = all;
+        t += 1;
+    }
+}
+
 // The sets of the events of the policy's classes.
 fn put_events(goal: &[u8], classes: u32, plan: &mut [u32])
-    requires { ⌜ SoundGoal (now goal) × (classes ≤ 31) × (26112 ≤ length (now plan)) ⌝ }
-    ensures { λ _. ⌜ Filled (λ e v. EventSets (goalOf (now (goal .entry))) (eventOf e) v) (now (plan .entry)) (now (plan .exit)) 25088 32 (32 * (classes + 1)) ⌝ }
+    requires { ⌜ SoundGoal (now goal) × (classes ≤ 31) × (26368 ≤ length (now plan)) ⌝ }
+    ensures { λ _. ⌜ Filled (λ e v. EventSets (goalOf (now (goal .entry))) (eventOf e) v) (now (plan .entry)) (now (plan .exit)) 25344 32 (32 * (classes + 1)) ⌝ }
 {
     let end = 32 * (classes + 1);
     let mut e: u32 = 32;
@@ -146,8 +179,8 @@ fn known(sets: u32, held: bool) -> u32
 
 // The same for each context.
 fn put_contexts(policy: &[u8], goal: &[u8], counts: Counts, plan: &mut [u32])
-    requires { ⌜ Ready (now policy) counts × SoundGoal (now goal) × (26112 + contextCount counts ≤ length (now plan)) ⌝ }
-    ensures { λ _. ⌜ Filled (λ y v. Known (policyOf (now (policy .entry))) (goalOf (now (goal .entry))) (contextAtIndex counts y) v) (now (plan .entry)) (now (plan .exit)) 26112 0 (contextCount counts) ⌝ }
+    requires { ⌜ Ready (now policy) counts × SoundGoal (now goal) × (26368 + contextCount counts ≤ length (now plan)) ⌝ }
+    ensures { λ _. ⌜ Filled (λ y v. Known (policyOf (now (policy .entry))) (goalOf (now (goal .entry))) (contextAtIndex counts y) v) (now (plan .entry)) (now (plan .exit)) 26368 0 (contextCount counts) ⌝ }
 {
     let domains = domain_table(policy);
     let roles = role_table(policy, &domains);
@@ -165,11 +198,12 @@ fn put_contexts(policy: &[u8], goal: &[u8], counts: Counts, plan: &mut [u32])
 
 // Makes the plan.
 pub fn make_plan(policy: &[u8], goal: &[u8], counts: Counts, plan: &mut [u32])
-    requires { ⌜ Ready (now policy) counts × SoundGoal (now goal) × (26112 + contextCount counts ≤ length (now plan)) ⌝ }
+    requires { ⌜ Ready (now policy) counts × SoundGoal (now goal) × (26368 + contextCount counts ≤ length (now plan)) ⌝ }
     ensures { λ _. ⌜ Planned (now (policy .entry)) (now (goal .entry)) counts (now (plan .exit)) ⌝ }
 {
     put_events(goal, counts.classes, plan);
     put_contexts(policy, goal, counts, plan);
     put_tables(policy, plan);
     put_index(policy, counts, plan);
+    put_guards(plan, counts.types);
 }

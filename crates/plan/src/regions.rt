@@ -16,11 +16,14 @@ pub const OUTS: usize = 8704;
 
 pub const INS: usize = 16896;
 
+// By type: the special permissions that the entries of its block have, united.
+pub const GUARDS: usize = 25088;
+
 // By event: the γ sets that it is in.
-pub const EVENTS: usize = 25088;
+pub const EVENTS: usize = 25344;
 
 // By the place of a context: the σ sets that it is in, and in bit 31 whether it meets ρ and μ.
-pub const CONTEXTS: usize = 26112;
+pub const CONTEXTS: usize = 26368;
 
 // How many entries a plan has at most.
-pub const ENTRIES: usize = 83487;
+pub const ENTRIES: usize = 83743;

@@ -10,8 +10,8 @@ use lib.Bits.{bitOr}
 use lib.ListN.{length}
 use Rattle.base.specs.Bits.{bit}
 use Rattle.base.specs.Ranges.{Within}
-use Rattle.base.proofs.BitLaws.{bit-or}
-use Rattle.base.proofs.UptoLaws.{or-cases, or-left, or-true, and-true, and-first}
+use Rattle.base.proofs.BitLaws.{bit-and, bit-or, bit-zero}
+use Rattle.base.proofs.UptoLaws.{or-cases, or-left, or-true, and-true, and-first, true-or-false}
 use Rattle.policy_image.specs.declared.counts.Counts.{Counts}
 use Rattle.policy_image.specs.Policy.{Policy, policyOf}
 use Rattle.policy_check.specs.Sound.{Sound}
@@ -25,11 +25,12 @@ use Rattle.constraints.specs.Constraints.{constraintsHold}
 use Rattle.access.specs.Authorization.{roleRule, flow}
 use Rattle.index.specs.Index.{Ranged}
 use Rattle.goal_model.specs.Images.{held}
-use Rattle.plan.specs.Plan.{Ready, firstAt, keyAt, outsAt, insAt, special, OfferBlock, EntryOf, PolicyPlan}
+use Rattle.plan.specs.Plan.{Ready, specialAt, firstAt, keyAt, outsAt, insAt, guardsAt, special, OfferBlock, EntryOf, PolicyPlan}
 use Rattle.steps.specs.declared.nearest.Asker.{Asker}
 use Rattle.steps.specs.declared.nearest.Offer.{Offer}
 use Rattle.steps.specs.Nearest.{firstStep, maskAt, StepBy, Passed, Block, Cursor, OfferedAt, Nearest}
 use Rattle.steps.specs.Steps.{Offering, NextOffer, Facing}
+use Rattle.steps.proofs.LowestLaws.{clash}
 use Rattle.steps.proofs.FlowLaws.{alpha-defined, defined-class, flow-alpha, flow-class, flow-by, plain-conditions, conditions}
 
 module _ {s : List ℕ} {n : Counts} {plan : List ℕ} (R : Ready s n) (P : PolicyPlan s n plan) where
@@ -65,6 +66,9 @@ module _ {s : List ℕ} {n : Counts} {plan : List ℕ} (R : Ready s n) (P : Poli
   cursor-start h = record { low = omega arith; high = block-order h; passed = λ j l k. absurd (omega arith) }
 
   module _ {x : Context} (h : ContextInRange n x) where
+    h₀ : ContextInRange n x
+    h₀ = h
+
     abbrev lo : ℕ
     lo = firstAt plan (x .ty)
 
@@ -153,6 +157,34 @@ module _ {s : List ℕ} {n : Counts} {plan : List ℕ} (R : Ready s n) (P : Poli
               let e = O .by .is in
               offering-at (r .entry) (O .by .perm) (O .low) (O .high) (O .by .small) (O .by .bears) (r .at / 4096) (r .at % 4096) (omega arith) (omega arith) (omega arith);
           cursor = N .cursor;
+        }
+
+    -- no entry has a special permission, and the others are done
+    pub none-special : {swept : List ℕ} {a : Asker} {group entry : ℕ} → a .spent ≡ true → guardsAt plan (x .ty) ≡ 0 → group ≡ firstAt plan (x .ty)
+        → NextOffer p plan swept a x 0 (record { group = group; entry = entry; at = 4194304 })
+    none-special {swept} {a} e z q =
+        record {
+          low = omega arith;
+          high = omega arith;
+          none = λ i y w _ _ t.
+              let (j, l, k, key, b) = flow-entry i y w t in
+              let small : i / 32 < 32 = (let v = flow-class {s = s} (eventOf i) x y (R .sound) t .high in omega (arith, R .sound .range .classes .high)) in
+              let few : y .ty < 4096 = (let v = w .ty .high in omega (arith, R .sound .range .types .high)) in
+              let c : keyAt plan j / 4096 % 32 ≡ i / 32 = omega arith in
+              inr (
+                e,
+                ⊎-elim
+                    (λ (h : bit (specialAt plan (i / 32)) (i % 32) ≡ true).
+                    absurd (clash (P .guards (x .ty) (type-in h₀) .at j (i % 32) l k
+                    (bit-and (maskAt plan j) (specialAt plan (keyAt plan j / 4096 % 32)) (i % 32)
+                    ∙ and-true (bit (maskAt plan j) (i % 32)) (bit (specialAt plan (keyAt plan j / 4096 % 32)) (i % 32)) b (ap (λ (v : ℕ). bit (specialAt plan v) (i % 32)) c ∙ h)))
+                    (ap (λ (v : ℕ). bit v (i % 32)) z ∙ bit-zero (i % 32))))
+                    (λ f. f)
+                    (true-or-false (bit (specialAt plan (i / 32)) (i % 32))),
+              );
+          offers = λ h. absurd (omega arith);
+          unclosed = λ h. absurd (omega arith);
+          cursor = record { low = omega arith; high = omega (arith, block-order h₀); passed = λ j l k. absurd (omega arith) };
         }
 
 -- ---- whether a step that an entry offers flows

@@ -79,7 +79,7 @@ pub record Skipped (plan : List ℕ) (stop a class r : ℕ) : Type 0 where
 
 -- entries from lo to below stop, in rising order
 pub record Block (plan : List ℕ) (lo stop : ℕ) : Type 0 where
-  pub size : 26112 ≤ length plan
+  pub size : 26368 ≤ length plan
   pub high : stop ≤ 8192
   pub rising : (i j : ℕ) → lo ≤ i → i < j → j < stop → keyAt plan i < keyAt plan j
   pub small : (j : ℕ) → lo ≤ j → j < stop → keyAt plan j < 131072

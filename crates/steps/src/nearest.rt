@@ -81,7 +81,7 @@ fn entry_step(key: u32, mask: u32, from: u32) -> u32
 
 // The first entry from a on whose class is not below the class.
 fn skip(plan: &[u32], stop: usize, a: usize, class: u32) -> usize
-    requires { ⌜ (a ≤ stop) × (stop ≤ 8192) × (26112 ≤ length (now plan)) ⌝ }
+    requires { ⌜ (a ≤ stop) × (stop ≤ 8192) × (26368 ≤ length (now plan)) ⌝ }
     ensures { λ r. ⌜ Skipped (now (plan .entry)) stop a class r ⌝ }
 {
     let mut j = a;
@@ -96,7 +96,7 @@ fn skip(plan: &[u32], stop: usize, a: usize, class: u32) -> usize
 
 // The nearest step of an entry from a step on that is not closed.
 fn open_step(plan: &[u32], a: Asker, done: u64, key: u32, mask: u32, from: u32) -> u32
-    requires { ⌜ (a .state < 64) × (26112 ≤ length (now plan)) × (key < 131072) × (from ≤ 4194304) ⌝ }
+    requires { ⌜ (a .state < 64) × (26368 ≤ length (now plan)) × (key < 131072) × (from ≤ 4194304) ⌝ }
     ensures { λ r. ⌜ OpenStep (now (plan .entry)) a done key mask from r ⌝ }
 {
     if a.keeps == WHOLE {
@@ -117,7 +117,7 @@ fn open_step(plan: &[u32], a: Asker, done: u64, key: u32, mask: u32, from: u32) 
 
 // The permissions of an entry that are asked for: only those with conditions where the others are done.
 fn asked_mask(plan: &[u32], a: Asker, key: u32, mask: u32) -> u32
-    requires { ⌜ (26112 ≤ length (now plan)) × (key < 131072) ⌝ }
+    requires { ⌜ (26368 ≤ length (now plan)) × (key < 131072) ⌝ }
     ensures { λ r. ⌜ AskedMask (now (plan .entry)) a key mask r ⌝ }
 {
     if a.spent {

@@ -1,9 +1,11 @@
 // The steps that a context may take, by event and type of the target.
 use crate::nearest::Asker;
+use crate::nearest::NONE;
 use crate::nearest::Offer;
 use crate::nearest::nearest;
 use context::Context;
 use plan::regions::FIRST;
+use plan::regions::GUARDS;
 use policy_image::counts::Counts;
 ghost use Prim.Native.Nat.{_≤_, _<_};
 ghost use Rattle.policy_image.specs.Policy.{policyOf};
@@ -32,7 +34,7 @@ pub fn next_offer(
     nearest(plan, swept, a, lo, stop, group, from)
 }
 
-// The first step from x that is not closed.
+// The first step from x that is not closed: none where only special steps are asked and no entry has one.
 pub fn first_offer(
     policy: &[u8],
     counts: Counts,
@@ -46,5 +48,14 @@ pub fn first_offer(
 {
     let ty = x.ty as usize;
     let lo = plan[FIRST + ty] as usize;
+    if a.spent {
+        if plan[GUARDS + ty] == 0 {
+            return Offer {
+                group: lo,
+                entry: lo,
+                at: NONE,
+            };
+        }
+    }
     next_offer(policy, counts, plan, swept, a, x, lo, 0)
 }

@@ -1,4 +1,4 @@
-use Rattle.plan.proofs.BlockLaws.{classes-few, planned}
+use Rattle.plan.proofs.BlockLaws.{classes-few, types-few, types-same, tops-of, planned}
 use mathlib.Core.Path.{refl}
 use native.Mathlib.Omega.{arith}
 use borrow.Author.Needs.{needs}
@@ -7,7 +7,7 @@ use Rattle.plan.proofs.make.make_plan.Statement.{statement}
 use Rattle.plan.proofs.make.make_plan.Tie as tie
 
 put-events-requires : tie.Need-put-events-requires
-put-events-requires c κs = (c .before .before .before .before .pre .1, classes-few (c .before .before .before .before .pre .0), omega arith)
+put-events-requires c κs = (c .before .before .before .before .pre .1, classes-few (c .before .before .before .before .pre .0), omega (arith, c .before .before .before .before .pre .2))
 
 put-contexts-requires : tie.Need-put-contexts-requires
 put-contexts-requires c κs = search needs
@@ -18,11 +18,14 @@ put-tables-requires c κs = search needs
 put-index-requires : tie.Need-put-index-requires
 put-index-requires c κs = search needs
 
+put-guards-requires : tie.Need-put-guards-requires
+put-guards-requires c κs = (types-few (c .before .before .before .before .before .before .before .before .before .before .before .before .before .before .before .before .before .before .before .before .pre .0), tops-of (c .before .before .before .put-index .ensures) (types-same (c .before .before .before .before .before .before .before .before .before .before .before .before .before .before .before .before .before .before .before .before .pre .0)), omega (arith, c .before .before .before .before .before .before .before .before .before .before .before .before .before .before .before .before .before .before .before .before .pre .2))
+
 same-length : tie.Need-same-length
 same-length c = search needs
 
 returns : tie.Need-returns
-returns c = planned (omega (arith, c .before .before .before .before .before .before .before .before .before .before .before .before .before .before .before .before .before .before .before .pre .2)) refl (classes-few (c .before .before .before .before .before .before .before .before .before .before .before .before .before .before .before .before .before .before .before .pre .0)) (c .before .before .before .before .before .before .before .before .before .before .before .before .before .before .put-events .ensures) (c .before .before .before .before .before .before .before .before .before .before .put-contexts .ensures) (c .before .before .before .before .before .before .put-tables .ensures) (c .before .before .put-index .ensures)
+returns c = planned (omega (arith, c .before .before .before .before .before .before .before .before .before .before .before .before .before .before .before .before .before .before .before .before .before .before .before .pre .2)) refl (c .before .before .before .before .before .before .before .before .before .before .before .before .before .before .before .before .before .before .before .before .before .before .before .pre .0) refl (c .before .before .before .before .before .before .before .before .before .before .before .before .before .before .before .before .before .before .put-events .ensures) (c .before .before .before .before .before .before .before .before .before .before .before .before .before .before .put-contexts .ensures) (c .before .before .before .before .before .before .before .before .before .before .put-tables .ensures) (c .before .before .before .before .before .before .put-index .ensures) (c .before .before .put-guards .ensures)
 
 pub make-plan-spec : {M : Type 1} → statement M
 make-plan-spec =
@@ -32,5 +35,6 @@ make-plan-spec =
     put-contexts-requires
     put-tables-requires
     put-index-requires
+    put-guards-requires
     same-length
     returns)

@@ -20,7 +20,7 @@ use Rattle.plan.proofs.make.put_contexts.Statement.{statement}
 use Rattle.plan.proofs.make.put_contexts.Tie as tie
 
 abbrev Inv-loop : tie.InvT-loop
-Inv-loop policy goal counts plan₀ roles users count y₀ plan y = (count ≡ contextCount counts) × (y ≤ count) × (length plan ≡ length plan₀) × RoleTable (policyOf policy) roles × UserTable (policyOf policy) users × Ready policy counts × SoundGoal goal × Filled (λ j v. Known (policyOf policy) (goalOf goal) (contextAtIndex counts j) v) plan₀ plan 26112 0 y
+Inv-loop policy goal counts plan₀ roles users count y₀ plan y = (count ≡ contextCount counts) × (y ≤ count) × (length plan ≡ length plan₀) × RoleTable (policyOf policy) roles × UserTable (policyOf policy) users × Ready policy counts × SoundGoal goal × Filled (λ j v. Known (policyOf policy) (goalOf goal) (contextAtIndex counts j) v) plan₀ plan 26368 0 y
 
 abbrev μ-loop : tie.MeasureT-loop
 μ-loop policy goal counts plan₀ roles users count y₀ plan y = count - y

@@ -15,7 +15,7 @@ use Rattle.plan.proofs.make.put_events.Statement.{statement}
 use Rattle.plan.proofs.make.put_events.Tie as tie
 
 abbrev Inv-loop : tie.InvT-loop
-Inv-loop goal classes plan₀ end e₀ plan e = (32 ≤ e) × (e ≤ end) × (end ≡ 32 * (classes + 1)) × (length plan ≡ length plan₀) × Filled (λ j v. EventSets (goalOf goal) (eventOf j) v) plan₀ plan 25088 32 e
+Inv-loop goal classes plan₀ end e₀ plan e = (32 ≤ e) × (e ≤ end) × (end ≡ 32 * (classes + 1)) × (length plan ≡ length plan₀) × Filled (λ j v. EventSets (goalOf goal) (eventOf j) v) plan₀ plan 25344 32 e
 
 abbrev μ-loop : tie.MeasureT-loop
 μ-loop goal classes plan₀ end e₀ plan e = end - e

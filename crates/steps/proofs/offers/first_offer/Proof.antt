@@ -1,4 +1,5 @@
-use Rattle.steps.proofs.OfferLaws.{type-few, block-top, block-order, block-law, cursor-start, next-law}
+use Rattle.steps.proofs.OfferLaws.{type-few, block-top, block-order, cursor-start, none-special}
+use mathlib.Core.Path.{refl}
 use native.Mathlib.Omega.{arith}
 use borrow.Author.Needs.{needs}
 use borrow.Author.Needs.{needs}
@@ -20,13 +21,36 @@ shared-slice-read-lo c = omega (arith, type-few (c .before .before .before .befo
 cast-lo : tie.Need-cast-lo
 cast-lo c = omega (arith, block-top (c .before .before .before .before .pre .1) (c .before .before .before .before .pre .2) (c .before .before .before .before .pre .3), block-order (c .before .before .before .before .pre .1) (c .before .before .before .before .pre .2) (c .before .before .before .before .pre .3))
 
-next-offer-requires : tie.Need-next-offer-requires
-next-offer-requires c κs = (c .before .before .before .before .pre .0, c .before .before .before .before .pre .1, c .before .before .before .before .pre .2, c .before .before .before .before .pre .3, (omega arith, cursor-start (c .before .before .before .before .pre .1) (c .before .before .before .before .pre .2) (c .before .before .before .before .pre .3)))
+add-if2 : tie.Need-add-if2
+add-if2 c = search needs
+
+mul-if2 : tie.Need-mul-if2
+mul-if2 c = search needs
+
+shared-slice-read-if2 : tie.Need-shared-slice-read-if2
+shared-slice-read-if2 c = omega (arith, type-few (c .before .before .before .before .before .before .pre .1) (c .before .before .before .before .before .before .pre .2) (c .before .before .before .before .before .before .pre .3), c .before .before .before .before .before .before .pre .2 .size)
 
 returns : tie.Need-returns
-returns c = search needs
+returns c = none-special (c .before .before .before .before .before .before .before .pre .1) (c .before .before .before .before .before .before .before .pre .2) (c .before .before .before .before .before .before .before .pre .3) (c .before .before .if1 .taken) (c .if2 .taken) refl
+
+next-offer-requires : tie.Need-next-offer-requires
+next-offer-requires c κs = (c .before .before .before .before .before .pre .0, c .before .before .before .before .before .pre .1, c .before .before .before .before .before .pre .2, c .before .before .before .before .before .pre .3, (omega arith, cursor-start (c .before .before .before .before .before .pre .1) (c .before .before .before .before .before .pre .2) (c .before .before .before .before .before .pre .3)))
+
+returns-2 : tie.Need-returns-2
+returns-2 c = search needs
 
 pub first-offer-spec : {M : Type 1} → statement M
 first-offer-spec =
     tie.close
-    (tie.spec cast-ty add-lo mul-lo shared-slice-read-lo cast-lo next-offer-requires returns)
+    (tie.spec
+    cast-ty
+    add-lo
+    mul-lo
+    shared-slice-read-lo
+    cast-lo
+    add-if2
+    mul-if2
+    shared-slice-read-if2
+    returns
+    next-offer-requires
+    returns-2)
