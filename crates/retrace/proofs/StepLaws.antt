@@ -42,9 +42,9 @@ use Rattle.nodes.specs.Path.{Least, Leads}
 use Rattle.nodes.proofs.SearchLaws.{below-or}
 use Rattle.nodes.proofs.ModelLaws.{bounded}
 use Rattle.nodes.proofs.ArrivalLaws.{clash, later}
-use Rattle.nodes.proofs.LevelLaws.{edge-flow, edge-free, edge-freeE, only-at, edge-at, range-at, type-small}
-use Rattle.search.proofs.MemoryLaws.{AskerOf, memory-begin, passed}
-use Rattle.search.proofs.LoopLaws.{Around, around, at-place, stand}
+use Rattle.nodes.proofs.LevelLaws.{edge-flow, edge-free, only-at, edge-at, range-at, type-small}
+use Rattle.memory.proofs.MemoryLaws.{AskerOf, memory-begin, passed}
+use Rattle.memory.proofs.StandLaws.{Around, around, at-place, stand}
 
 module _ {s g : List ℕ} {n : Counts} {l : Legs} (A : Task s g n l) (m : Mode) {u w states : ℕ} (L : Linked (graphOf s g n m) u w) (St : States l states) where
   fixed : Around s g n l states

@@ -1,12 +1,11 @@
 use Prim.Native.Nat.{_/_}
-use Rattle.search.proofs.StepLaws.{to-below, no-flow, no-drop, no-break, decided, leads-if, leads-never, stands-at, in-range, few-events, sets-of-offer, type-of, facing}
-use borrow.Author.Tests.{eqb-true, eqb-false, not-true, not-false}
-use mathlib.Core.Path.{refl, sym, ap, _∙_}
+use Rattle.retrace.proofs.StepLaws.{to-below, no-flow, no-drop, no-break, decided, leads-if, leads-never, stands-at, in-range, few-events, sets-of-offer, type-of, facing}
+use mathlib.Core.Path.{sym, _∙_}
 use native.Mathlib.Omega.{arith}
 use borrow.Author.Needs.{needs}
 use borrow.Author.Needs.{needs}
-use Rattle.search.proofs.path.leads.Statement.{statement}
-use Rattle.search.proofs.path.leads.Tie as tie
+use Rattle.retrace.proofs.leads.Statement.{statement}
+use Rattle.retrace.proofs.leads.Tie as tie
 
 states-of-requires : tie.Need-states-of-requires
 states-of-requires c κs = c .before .before .before .pre .0 .legs .few-legs

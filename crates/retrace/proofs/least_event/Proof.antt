@@ -1,13 +1,13 @@
-use Rattle.search.proofs.StepLaws.{Seeking, from-below, none-spent, seek-from, seek-on, seek-found, seek-end}
-use Rattle.search.proofs.LoopLaws.{around, stand, state-few, asker-of}
+use Rattle.retrace.proofs.StepLaws.{Seeking, from-below, none-spent, seek-from, seek-on, seek-found, seek-end}
+use Rattle.memory.proofs.StandLaws.{around, stand, state-few, asker-of}
 use Rattle.nodes.proofs.ArrivalLaws.{later}
 use Rattle.context.specs.Places.{contextAtIndex}
-use mathlib.Core.Path.{refl, sym, ap, _∙_}
+use mathlib.Core.Path.{ap, _∙_}
 use Prim.Native.Nat.{ℕ, _-_, _/_, _%_}
 use native.Mathlib.Omega.{arith}
 use borrow.Author.Needs.{needs}
-use Rattle.search.proofs.path.least_event.Statement.{statement}
-use Rattle.search.proofs.path.least_event.Tie as tie
+use Rattle.retrace.proofs.least_event.Statement.{statement}
+use Rattle.retrace.proofs.least_event.Tie as tie
 
 abbrev Inv-loop : tie.InvT-loop
 Inv-loop policy goal counts plan legs mode u w states x nothing a offer₀ offer = Seeking policy goal counts mode plan u w x offer

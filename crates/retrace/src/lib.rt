@@ -1,7 +1,7 @@
 // The events of the path that a search's links hold: each is found again as the least that leads from a node to the next.
-use crate::memory::keeps_of;
 use context::Context;
 use goal_image::check::Legs;
+use memory::keeps_of;
 use nodes::arrival::Arrival;
 use nodes::arrival::arrive;
 use nodes::arrival::states_of;
