@@ -8,7 +8,7 @@ use native.Mathlib.Decide.{decLt}
 use native.Mathlib.Omega.{arith}
 use borrow.Author.Tests.{not-true, not-false, lt-ltb, le-ltb, ne-eqb, eq-eqb}
 use lib.Bits.{bitOr}
-use lib.Dec.{eqb, ltb}
+use lib.Dec.{eqb}
 use lib.ListN.{length, getD, set}
 use lib.Seq.{getD-set-same, getD-set-other}
 use Rattle.base.specs.Bits.{bit}
@@ -22,14 +22,13 @@ use Rattle.context.specs.Places.{contextCount, contextAtIndex}
 use Rattle.context.proofs.PlaceLaws.{at-in-range}
 use Rattle.context.specs.declared.Event.{Event}
 use Rattle.context.specs.Codes.{eventAt, isTransition}
-use Rattle.relations.specs.Relations.{ρ, μ}
 use Rattle.constraints.specs.Constraints.{constrains}
 use Rattle.goal_image.specs.Goal.{Goal, isContextChain}
 use Rattle.goal_image.specs.Sets.{contextIn, ContextSets, EventSets}
 use Rattle.goal_model.specs.Images.{held}
 use Rattle.tables.specs.Tables.{ConstraintMasks, RoleTable, UserTable, RoleChanges}
 use Rattle.plan.specs.Fill.{Filled}
-use Rattle.plan.specs.Plan.{Ready, specialAt, special, Tabled, TablesPut, Noted, Known}
+use Rattle.plan.specs.Plan.{Ready, special, TablesPut, Noted, Known}
 
 -- ---- truth values
 pub both-not : {a r : Bool} (b : Bool) → r ≡ a → not r ≡ true → false ≡ (a && b)

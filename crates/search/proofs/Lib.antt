@@ -1,4 +1,2 @@
-pub mod KeyLaws
-pub mod MemoryLaws
 pub mod LoopLaws
 pub mod FoundLaws

@@ -3,7 +3,7 @@ use Rattle.plan.specs.Plan.{outsAt, insAt, GuardsOf}
 use lib.ListN.{getD}
 use lib.Bits.{bitAnd, bitOr}
 use mathlib.Core.Path.{ap}
-use Prim.Native.Nat.{ℕ, _+_, _-_, _≤_}
+use Prim.Native.Nat.{ℕ, _-_, _≤_}
 use native.Mathlib.Omega.{arith}
 use borrow.Author.Needs.{needs}
 use Rattle.plan.proofs.make.guards.Statement.{statement}
