@@ -1,7 +1,7 @@
 -- Whether an event leads from one node to another, of which some event leads there.
 use mathlib.Core.Path.{_≡_, refl, sym, _∙_, ap, subst}
 use mathlib.Core.Logic.{⊎-elim}
-use mathlib.Core.Bool.{Bool, true, false, not, _||_}
+use mathlib.Core.Bool.{Bool, true, false, not}
 use mathlib.Core.List.{List, []}
 use Prim.Native.Nat.{ℕ, _+_, _*_, _/_, _%_, _^_, _≤_, _<_}
 use native.Mathlib.Omega.{arith}
@@ -30,6 +30,7 @@ use Rattle.steps.specs.declared.nearest.Asker.{Asker}
 use Rattle.steps.specs.declared.nearest.Offer.{Offer}
 use Rattle.steps.specs.Nearest.{Cursor, Passed}
 use Rattle.steps.specs.Steps.{Offering, NextOffer, Facing}
+use Rattle.steps.proofs.NearestLaws.{first-false}
 use Rattle.steps.proofs.FlowLaws.{flow-held}
 use Rattle.nodes.specs.declared.arrival.Arrival.{Arrival}
 use Rattle.nodes.specs.declared.arrival.Arrival.the-variants.{Enter, Dropped, Broken}
@@ -41,7 +42,8 @@ use Rattle.nodes.specs.Graph.{Graph}
 use Rattle.nodes.specs.Path.{Least, Leads}
 use Rattle.nodes.proofs.SearchLaws.{below-or}
 use Rattle.nodes.proofs.ModelLaws.{bounded}
-use Rattle.nodes.proofs.ArrivalLaws.{clash, later}
+use Rattle.steps.proofs.LowestLaws.{clash}
+use Rattle.nodes.proofs.ArrivalLaws.{later}
 use Rattle.nodes.proofs.LevelLaws.{edge-flow, edge-free, only-at, edge-at, range-at, type-small}
 use Rattle.memory.proofs.MemoryLaws.{AskerOf, memory-begin, passed}
 use Rattle.memory.proofs.StandLaws.{Around, around, at-place, stand}
@@ -124,10 +126,6 @@ module _ {s g : List ℕ} {n : Counts} {l : Legs} (A : Task s g n l) (m : Mode) 
   -- with nothing remembered, what is passed over does not lead to w
   not-passed : (j : ℕ) → graphOf s g n m .Edge u j w → Passed plan (replicate 256 0) a j (typeOf g n w) → ⊥
   not-passed j ed q = passed A m P (memory-begin s g n m plan []) S (L .from) Q (L .to) ed q .seen refl
-
-  first-false : (b c : Bool) → (b || c) ≡ false → b ≡ false
-  first-false true c h = h
-  first-false false c h = refl
 
   pub seek-from : {from : ℕ} {o : Offer} → ((j : ℕ) → 4096 * j + typeOf g n w < from → graphOf s g n m .Edge u j w → ⊥)
       → NextOffer (policyOf s) plan (replicate 256 0) a x from o → Seeking s g n m plan u w x o
