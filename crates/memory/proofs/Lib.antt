@@ -1,3 +1,4 @@
 pub mod KeyLaws
 pub mod MemoryLaws
 pub mod StandLaws
+pub mod LoopLaws

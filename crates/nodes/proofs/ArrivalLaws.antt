@@ -27,6 +27,7 @@ use Rattle.steps.specs.declared.nearest.Asker.{Asker}
 use Rattle.steps.specs.declared.nearest.Offer.{Offer}
 use Rattle.steps.specs.Nearest.{Cursor}
 use Rattle.steps.specs.Steps.{NextOffer}
+use Rattle.steps.proofs.LowestLaws.{clash}
 use Rattle.steps.proofs.FlowLaws.{flow-held}
 use Rattle.nodes.specs.declared.arrival.Arrival.{Arrival}
 use Rattle.nodes.specs.declared.arrival.Arrival.the-variants.{Enter, Dropped, Broken}
@@ -40,9 +41,6 @@ use Rattle.nodes.proofs.ModelLaws.{to-true, of-true}
 -- a cursor is one for later steps too
 pub later : {plan : List ℕ} {lo stop a from to : ℕ} → Cursor plan lo stop a from → from ≤ to → Cursor plan lo stop a to
 later C l = record { low = C .low; high = C .high; passed = λ j a b. omega (arith, C .passed j a b) }
-
-pub clash : {b : Bool} → b ≡ true → b ≡ false → ⊥
-clash p q = let z : _≡_ {A = ℕ} 0 1 = cc in omega arith
 
 -- ---- numbers of nodes
 pub states-law : (l : Legs) → l .count ≤ 6 → States l ((1 * 2 ^ (l .count)) % 2 ^ 32)

@@ -37,7 +37,8 @@ use Rattle.nodes.specs.Tasks.{typeOf, Task, graphOf, Stands, Asked, Face
 use Rattle.nodes.proofs.SearchLaws.{pass-to, visited, found, turn-chain}
 use Rattle.nodes.proofs.NodeLaws.{place-of, state-of}
 use Rattle.nodes.proofs.ModelLaws.{to-true, of-true, bounded}
-use Rattle.nodes.proofs.ArrivalLaws.{clash, code-of-place}
+use Rattle.steps.proofs.LowestLaws.{clash}
+use Rattle.nodes.proofs.ArrivalLaws.{code-of-place}
 use Rattle.nodes.proofs.TypeLaws.{type-lt, type-le, start-le}
 
 -- ---- over any graph: the targets from a to below b, of which v alone may have an edge

@@ -191,9 +191,6 @@ module _ (p : Policy) (old new : List ℕ) (few : p .counts .types ≤ 255) (sam
           (same (keyAt new j / 4096 % 32) (omega arith) ∙ ap (λ (k : ℕ). getD old (k / 4096 % 32) 0) (same (512 + j) (omega arith)))
 
 -- ---- guards, entry by entry
-pub zero-plus : (c : ℕ) → 0 + c ≡ c
-zero-plus c = omega arith
-
 pub guards-begin : (plan : List ℕ) (lo : ℕ) → GuardsOf plan lo lo 0
 guards-begin plan lo = record { at = λ j q l h b. absurd (omega arith) }
 

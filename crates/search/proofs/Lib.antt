@@ -1,2 +1,1 @@
-pub mod LoopLaws
 pub mod FoundLaws

@@ -33,6 +33,10 @@ skip-more {plan} {stop} {a} {class} {j} S h c =
 pub key-few : (a : Asker) (by : ℕ) → a .state < 64 → keyOf a by < 64
 key-few a by h = omega (arith, and-le-l (a .state) (bitOr (a .keeps) (by / 2 ^ 7)))
 
+pub first-false : (b c : Bool) → (b || c) ≡ false → b ≡ false
+first-false true c h = h
+first-false false c h = refl
+
 pub closed-first : (a : Asker) (by done : ℕ) {b : Bool} → b ≡ bit by 14 → b ≡ true → true ≡ closed a by done
 closed-first a by done p t = sym (ap (λ (z : Bool). z || bit done (keyOf a by)) (sym p ∙ t))
 

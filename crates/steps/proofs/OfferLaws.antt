@@ -203,9 +203,6 @@ module _ {p : Policy} {plan : List ℕ} {e entry : ℕ} (x y : Context) (hx : he
       (sym (bit-or (outsAt plan entry) (insAt plan entry) (e % 32)) ∙ O .some)
 
 -- ---- the conditions, one by one
-pub not-may : (m c : Bool) → not m ≡ true → false ≡ (m && c)
-not-may m c h = rw (not-true m h)
-
 module _ (p : Policy) (x y : Context) (e : ℕ) (m : Bool) {d : Event} (q : d ≡ eventOf e) (hm : not m ≡ false) (k : Bool) (hk : k ≡ constraintsHold p d x y) where
   pub not-held : not k ≡ true → false ≡ (m && conditions p (eventOf e) x y)
   not-held h =
@@ -235,9 +232,6 @@ roles-few {s} {n} {x} R h =
 
 pub event-few : {s : List ℕ} {n : Counts} {plan : List ℕ} {t e o entry : ℕ} → Ready s n → Offering (policyOf s) plan t e o entry → e < 1024
 event-few R O = omega (arith, O .event .high, R .sound .range .classes .high)
-
-pub zero-plus : (c : ℕ) → 0 + c ≡ c
-zero-plus c = omega arith
 
 module _ {p : Policy} {plan : List ℕ} {e entry : ℕ} (x y : Context) (hx : held p x ≡ true) (hy : held p y ≡ true) (O : Offering p plan (x .ty) e (y .ty) entry) where
   module _ {m r : Bool} (hm : m ≡ bit (outsAt plan entry) (e % 32)) (h : r ≡ (m && conditions p (eventOf e) x y)) where

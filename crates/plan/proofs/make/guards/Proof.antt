@@ -1,4 +1,5 @@
-use Rattle.plan.proofs.BlockLaws.{guards-begin, guards-more, guards-end, zero-plus}
+use Rattle.plan.proofs.BlockLaws.{guards-begin, guards-more, guards-end}
+use Rattle.plan.proofs.KnownLaws.{zero-plus}
 use Rattle.plan.specs.Plan.{outsAt, insAt, GuardsOf}
 use lib.ListN.{getD}
 use lib.Bits.{bitAnd, bitOr}

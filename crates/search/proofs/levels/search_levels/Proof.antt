@@ -1,5 +1,5 @@
 use Rattle.memory.proofs.StandLaws.{Around, around, at-place, stand, own-few, state-few, asker-of}
-use Rattle.search.proofs.LoopLaws.{Middle, Inner, node-below, asks-same, marks-same, middle-begin, middle-end, middle-spent, event-few, other-few, type-low, type-high, inner-begin, inner-key, inner-swept, inner-end, inner-place, inner-fits, inner-facing, inner-skip, inner-below, inner-entered, inner-seen, inner-dropped, inner-broken, inner-next}
+use Rattle.memory.proofs.LoopLaws.{Middle, Inner, node-below, asks-same, marks-same, middle-begin, middle-end, middle-spent, event-few, other-few, type-low, type-high, inner-begin, inner-key, inner-swept, inner-end, inner-place, inner-fits, inner-facing, inner-skip, inner-below, inner-entered, inner-seen, inner-dropped, inner-broken, inner-next}
 use Rattle.memory.proofs.MemoryLaws.{memory-begin, memory-keep}
 use Rattle.nodes.proofs.ArrivalLaws.{later}
 use Rattle.nodes.proofs.SearchLaws.{enter, room, nothing, turn-chain, chain-bound}

@@ -1,4 +1,4 @@
-use Rattle.steps.proofs.OfferLaws.{zero-plus}
+use Rattle.plan.proofs.KnownLaws.{zero-plus}
 use lib.ListN.{getD}
 use mathlib.Core.Path.{ap}
 use Prim.Native.Nat.{ℕ}

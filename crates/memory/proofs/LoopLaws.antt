@@ -1,6 +1,6 @@
 -- The invariants of the three loops, and how each step of the code keeps them.
-use mathlib.Core.Path.{_≡_, refl, sym, _∙_, ap, subst}
-use mathlib.Core.Bool.{Bool, true, false, not, _||_}
+use mathlib.Core.Path.{_≡_, sym, _∙_, ap, subst}
+use mathlib.Core.Bool.{Bool, true, false, not}
 use mathlib.Core.List.{List}
 use mathlib.Core.Logic.{⊎-elim}
 use Prim.Native.Nat.{ℕ, zero, _+_, _*_, _/_, _%_, _^_, _≤_, _<_}
@@ -12,7 +12,6 @@ use Rattle.base.specs.Bits.{bit}
 use Rattle.policy_image.specs.declared.counts.Counts.{Counts}
 use Rattle.policy_image.specs.Policy.{Policy, policyOf}
 use Rattle.context.specs.declared.Context.{Context}
-use Rattle.context.specs.declared.Event.{Event}
 use Rattle.context.specs.Codes.{eventOf}
 use Rattle.context.specs.Places.{contextCount, contextAtIndex}
 use Rattle.access.specs.Authorization.{flow}
@@ -26,7 +25,7 @@ use Rattle.steps.specs.declared.nearest.Asker.{Asker}
 use Rattle.steps.specs.declared.nearest.Offer.{Offer}
 use Rattle.steps.specs.Nearest.{keyOf}
 use Rattle.steps.specs.Steps.{Offering, NextOffer, Facing}
-use Rattle.steps.proofs.NearestLaws.{key-few}
+use Rattle.steps.proofs.NearestLaws.{key-few, first-false}
 use Rattle.nodes.specs.declared.arrival.Arrival.{Arrival}
 use Rattle.nodes.specs.declared.arrival.Arrival.the-variants.{Enter, Dropped, Broken}
 use Rattle.nodes.specs.declared.monitor.Mode.{Mode}
@@ -77,9 +76,6 @@ pub record Inner (s g : List ℕ) (n : Counts) (plan : List ℕ) (l : Legs) (m :
 pub node-below : {G : Graph} {back queue : List ℕ} {head tail stop depth : ℕ} → Inv G back queue head tail stop depth → head < tail → getD queue head 0 < G .k
 node-below i h =
     ⊎-elim (λ q. chain-bound (turn-chain (take-up (enter i q h) h))) (λ k. chain-bound (turn-chain (take-up i k))) (eq-or-lt-of-le (i .head-stop))
-
-pub sets-same : {g : Goal} {e f : Event} {by : ℕ} → e ≡ f → EventSets g e by → EventSets g f by
-sets-same {g} {by = by} q S = subst (λ (k : Event). EventSets g k by) q S
 
 pub asks-same : {p : Policy} {g : Goal} {x z : Context} {b : Bool} → x ≡ z → Asks p g z b → Asks p g x b
 asks-same {p} {g} {b = b} q A = subst (λ (v : Context). Asks p g v b) (sym q) A
@@ -212,10 +208,6 @@ module _ {s g : List ℕ} {n : Counts} {plan : List ℕ} {l : Legs} {m : Mode} {
 
     not-excepted : eventIn (goalOf g) γe (eventOf (o .at / 4096)) ≡ false
     not-excepted = sym (sets-at .at 14) ∙ first-false (bit (eventsAt plan (o .at / 4096)) 14) _ (I .ahead .unclosed)
-      where
-        first-false : (b c : Bool) → (b || c) ≡ false → b ≡ false
-        first-false true c h = h
-        first-false false c h = refl
 
     module _ (h : y < end) where
       pub inner-place : y < contextCount n
