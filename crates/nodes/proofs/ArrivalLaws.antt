@@ -1,42 +1,39 @@
 -- The leaves of a search: what their bits say of the model of the two images.
 use mathlib.Core.Path.{_≡_, refl, sym, _∙_, ap, subst}
-use mathlib.Core.Bool.{Bool, true, false, not, _&&_, _||_}
+use mathlib.Core.Bool.{Bool, true, false, not}
 use mathlib.Core.List.{List}
-use Prim.Native.Nat.{ℕ, zero, suc, _+_, _*_, _/_, _%_, _^_, _≤_, _<_}
+use Prim.Native.Nat.{ℕ, suc, _+_, _*_, _%_, _^_, _≤_, _<_}
 use native.Mathlib.Nat.{mul-le-mul-right}
 use native.Mathlib.Omega.{arith}
 use borrow.Author.Tests.{lt-ltb, le-leb, not-true, not-false}
-use lib.Dec.{T}
 use lib.Pow.{pow-pos, pow-lt}
 use Rattle.base.specs.Bits.{bit}
 use Rattle.policy_image.specs.declared.counts.Counts.{Counts}
 use Rattle.policy_image.specs.Policy.{Policy, policyOf}
 use Rattle.context.specs.declared.Context.{Context}
 use Rattle.context.specs.declared.Event.{Event}
-use Rattle.context.specs.Codes.{contextCode, contextOf, eventOf}
-use Rattle.context.specs.Ranges.{ContextInRange}
+use Rattle.context.specs.Codes.{contextOf, eventOf}
 use Rattle.context.specs.Places.{contextCount, contextAtIndex}
 use Rattle.context.proofs.CodeLaws.{context-of-code}
 use Rattle.context.proofs.PlaceLaws.{at-in-range}
-use Rattle.access.specs.Authorization.{flow}
 use Rattle.goal_image.specs.declared.check.Legs.{Legs}
 use Rattle.goal_image.specs.Goal.{Goal, goalOf, σe}
-use Rattle.goal_image.specs.Questions.{legsIn}
 use Rattle.goal_image.specs.Sets.{contextIn, eventIn, ContextSets, EventSets}
 use Rattle.paths.specs.Model.{Model}
 use Rattle.paths.proofs.StageLaws.{one-shl}
-use Rattle.goal_model.specs.Images.{held, model}
+use Rattle.goal_model.specs.Images.{model}
 use Rattle.plan.specs.Plan.{contextsAt, Planned}
 use Rattle.steps.specs.declared.nearest.Asker.{Asker}
 use Rattle.steps.specs.declared.nearest.Offer.{Offer}
 use Rattle.steps.specs.Nearest.{Cursor}
 use Rattle.steps.specs.Steps.{NextOffer}
+use Rattle.steps.proofs.LowestLaws.{clash}
 use Rattle.steps.proofs.FlowLaws.{flow-held}
 use Rattle.nodes.specs.declared.arrival.Arrival.{Arrival}
 use Rattle.nodes.specs.declared.arrival.Arrival.the-variants.{Enter, Dropped, Broken}
 use Rattle.nodes.specs.declared.monitor.Mode.{Mode}
 use Rattle.nodes.specs.Nodes.{watchOf, codeAt}
-use Rattle.nodes.specs.Watching.{LegsOf, Into, By, Stepped, Judged}
+use Rattle.nodes.specs.Watching.{LegsOf, By, Stepped, Judged}
 use Rattle.nodes.specs.Arrivals.{GivenGoal, States, Entered, Ended, Broke, Arrived, Lands, Arriving}
 use Rattle.nodes.specs.Blocks.{Asks, FirstStep}
 use Rattle.nodes.proofs.ModelLaws.{to-true, of-true}
@@ -44,9 +41,6 @@ use Rattle.nodes.proofs.ModelLaws.{to-true, of-true}
 -- a cursor is one for later steps too
 pub later : {plan : List ℕ} {lo stop a from to : ℕ} → Cursor plan lo stop a from → from ≤ to → Cursor plan lo stop a to
 later C l = record { low = C .low; high = C .high; passed = λ j a b. omega (arith, C .passed j a b) }
-
-pub clash : {b : Bool} → b ≡ true → b ≡ false → ⊥
-clash p q = let z : _≡_ {A = ℕ} 0 1 = cc in omega arith
 
 -- ---- numbers of nodes
 pub states-law : (l : Legs) → l .count ≤ 6 → States l ((1 * 2 ^ (l .count)) % 2 ^ 32)

@@ -1,18 +1,16 @@
 -- The loops of a search over the graph of two images: what the leaves pass over has no edge, and what each arrival comes to.
-use mathlib.Core.Path.{_≡_, refl, sym, _∙_, ap, ap₂, subst}
-use mathlib.Core.Bool.{Bool, true, false, _&&_}
+use mathlib.Core.Path.{_≡_, sym, _∙_, ap, ap₂, subst}
+use mathlib.Core.Bool.{true, false}
 use mathlib.Core.List.{List}
 use mathlib.Core.Logic.{_⊎_, ⊎-elim}
-use Prim.Native.Nat.{ℕ, zero, suc, _+_, _*_, _/_, _%_, _^_, _≤_, _<_}
-use native.Mathlib.Nat.{div-lt-iff-lt-mul, le-div-iff-mul-le, mul-le-mul-right, div-add-mod', mod-lt, add-mul, one-mul, zero-mul, eq-or-lt-of-le}
+use Prim.Native.Nat.{ℕ, _+_, _*_, _/_, _%_, _^_, _≤_, _<_}
+use native.Mathlib.Nat.{div-lt-iff-lt-mul, le-div-iff-mul-le, mul-le-mul-right, div-add-mod', add-mul, one-mul, eq-or-lt-of-le}
 use native.Mathlib.Omega.{arith}
 use lib.Arith.{digits-lt}
 use lib.Dec.{T, le→leb}
-use lib.ListN.{length, getD, set}
+use lib.ListN.{getD, set}
 use lib.Pow.{pow-pos}
-use Rattle.base.specs.Bits.{bit}
 use Rattle.base.proofs.Numbers.{split-le}
-use Rattle.base.proofs.UptoLaws.{true-or-false}
 use Rattle.policy_image.specs.declared.counts.Counts.{Counts}
 use Rattle.policy_image.specs.Layout.{countsOf}
 use Rattle.policy_image.specs.Policy.{policyOf}
@@ -24,22 +22,23 @@ use Rattle.context.proofs.PlaceLaws.{at-in-range}
 use Rattle.access.specs.Authorization.{flow}
 use Rattle.goal_image.specs.declared.check.Legs.{Legs}
 use Rattle.goal_image.specs.Goal.{goalOf, σe, γe}
-use Rattle.goal_image.specs.Sets.{contextIn, eventIn, EventSets}
+use Rattle.goal_image.specs.Sets.{contextIn, eventIn}
 use Rattle.paths.specs.Model.{Model}
 use Rattle.paths.proofs.Any.{and-T, not-true}
-use Rattle.paths.proofs.Monitor.{Start, Edge}
+use Rattle.paths.proofs.Monitor.{Edge}
 use Rattle.goal_model.specs.Images.{inRange, model}
 use Rattle.nodes.specs.declared.monitor.Mode.{Mode}
-use Rattle.nodes.specs.Graph.{Graph, Reach, Chain, Chain.root, Chain.link, Breaks, FoundAt}
-use Rattle.nodes.specs.State.{Inv, Turn, Clear, Through}
-use Rattle.nodes.specs.Nodes.{Watch, watchOf, codeAt, placeOf, stateOf, codeOf, StartAt, EdgeAt, EndAt, graph, Bounded}
+use Rattle.nodes.specs.Graph.{Graph, Chain, Chain.root, Chain.link, FoundAt}
+use Rattle.nodes.specs.State.{Turn, Clear, Through}
+use Rattle.nodes.specs.Nodes.{Watch, watchOf, codeAt, placeOf, stateOf, codeOf, Bounded}
 use Rattle.nodes.specs.Arrivals.{LandsOpen, LandsGood, LandsBad}
 use Rattle.nodes.specs.Blocks.{startOf}
 use Rattle.nodes.specs.Tasks.{typeOf, Task, graphOf, Stands, Asked, Faced}
-use Rattle.nodes.proofs.SearchLaws.{pass-to, visited, found, turn-chain, chain-bound}
+use Rattle.nodes.proofs.SearchLaws.{pass-to, visited, found, turn-chain}
 use Rattle.nodes.proofs.NodeLaws.{place-of, state-of}
 use Rattle.nodes.proofs.ModelLaws.{to-true, of-true, bounded}
-use Rattle.nodes.proofs.ArrivalLaws.{clash, code-of-place}
+use Rattle.steps.proofs.LowestLaws.{clash}
+use Rattle.nodes.proofs.ArrivalLaws.{code-of-place}
 use Rattle.nodes.proofs.TypeLaws.{type-lt, type-le, start-le}
 
 -- ---- over any graph: the targets from a to below b, of which v alone may have an edge

@@ -1,26 +1,23 @@
 -- The model of two accepted images: its contexts have places, its events codes below 1024, and 2 ^ n states are enough.
 use mathlib.Core.Path.{_≡_, refl, sym, _∙_, ap, subst}
-use mathlib.Core.Bool.{Bool, true, not, _&&_}
+use mathlib.Core.Bool.{Bool, true, not}
 use mathlib.Core.List.{List}
-use Prim.Native.Nat.{ℕ, zero, suc, _+_, _*_, _/_, _%_, _^_, _≤_, _<_}
+use Prim.Native.Nat.{ℕ, suc, _/_, _%_, _<_}
 use native.Mathlib.Omega.{arith}
 use lib.Dec.{T, leb, leb→le, T-not}
 use Rattle.base.specs.Bits.{bit}
-use Rattle.base.specs.Ranges.{Within}
 use Rattle.policy_image.specs.declared.counts.Counts.{Counts}
 use Rattle.policy_image.specs.Layout.{countsOf}
-use Rattle.policy_image.specs.Policy.{policyOf}
-use Rattle.context.specs.Codes.{contextCode, contextOf, eventOf}
+use Rattle.context.specs.Codes.{contextCode, contextOf}
 use Rattle.context.specs.Ranges.{ContextInRange}
-use Rattle.context.specs.Places.{contextCount, contextIndex, contextAtIndex}
+use Rattle.context.specs.Places.{contextCount, contextIndex}
 use Rattle.context.proofs.CodeLaws.{context-code-of}
 use Rattle.context.proofs.PlaceLaws.{at-index, index-lt}
 use Rattle.access.specs.Authorization.{flow}
-use Rattle.goal_image.specs.Goal.{goalOf}
 use Rattle.goal_image.specs.Sound.{SoundGoal}
 use Rattle.paths.specs.Model.{Model}
 use Rattle.paths.proofs.Any.{and-T, not-true}
-use Rattle.paths.proofs.Numbers.{pack, pack-lt, pack-top, bit-pack}
+use Rattle.paths.proofs.Numbers.{pack-lt, pack-top, bit-pack}
 use Rattle.paths.proofs.Events.{opens}
 use Rattle.paths.proofs.Bounds.{top, one-lt}
 use Rattle.goal_model.specs.Images.{inRange, model}
@@ -28,7 +25,7 @@ use Rattle.plan.specs.Plan.{Ready}
 use Rattle.steps.proofs.FlowLaws.{flow-code}
 use Rattle.nodes.specs.declared.monitor.Mode.{Mode}
 use Rattle.nodes.specs.declared.monitor.Mode.the-variants.{Order, Events}
-use Rattle.nodes.specs.Nodes.{Watch, watchOf, codeAt, Bounded}
+use Rattle.nodes.specs.Nodes.{watchOf, codeAt, Bounded}
 
 pub to-true : (b : Bool) → T b → b ≡ true
 to-true true t = refl

@@ -1,9 +1,7 @@
 -- What a search of the graph says of the nodes of a model: its least number of steps to a bad end.
-use mathlib.Core.Path.{_≡_, refl, sym, _∙_, ap, subst}
-use mathlib.Core.Bool.{Bool}
+use mathlib.Core.Path.{_≡_, sym, _∙_, ap, subst}
 use mathlib.Core.List.{List}
-use Prim.Native.Nat.{ℕ, zero, suc, _+_, _*_, _/_, _%_, _^_, _≤_, _<_}
-use native.Mathlib.Nat.{mod-lt}
+use Prim.Native.Nat.{ℕ, zero, suc, _+_, _*_, _≤_, _<_}
 use native.Mathlib.Omega.{arith}
 use lib.Arith.{digits-div, digits-mod, digits-lt}
 use lib.Dec.{T}
@@ -13,8 +11,8 @@ use Rattle.paths.specs.Model.{Model}
 use Rattle.paths.proofs.Monitor.{Monitor, Start, Edge, BadNode}
 use Rattle.paths.proofs.Monitor.{Reach as Reached, begin as begins, more}
 use Rattle.paths.proofs.Verdict.{Least, at, nowhere}
-use Rattle.nodes.specs.Graph.{Graph, Reach, Reach.begin, Reach.step, Breaks, FoundAt, NoneFound}
-use Rattle.nodes.specs.Nodes.{Watch, monitorOf, codeAt, placeOf, stateOf, codeOf, states, StartAt, EdgeAt, EndAt, graph, BadStart, Bounded}
+use Rattle.nodes.specs.Graph.{Reach, Reach.begin, Reach.step, Breaks, FoundAt, NoneFound}
+use Rattle.nodes.specs.Nodes.{Watch, monitorOf, codeAt, placeOf, stateOf, codeOf, states, EdgeAt, graph, BadStart, Bounded}
 
 -- ---- the number of a node
 pub place-of : {k s : ℕ} (y : ℕ) → s < k → placeOf k (y * k + s) ≡ y

@@ -3,7 +3,7 @@ use mathlib.Core.Path.{_≡_, refl, sym, _∙_, ap, subst}
 use mathlib.Core.Logic.{_⊎_, ⊎-elim}
 use mathlib.Core.List.{List}
 use Prim.Native.Nat.{ℕ, zero, suc, _+_, _≤_, _<_}
-use native.Mathlib.Nat.{eq-or-lt-of-le, le-of-suc-le-suc, le-of-lt, le-refl}
+use native.Mathlib.Nat.{eq-or-lt-of-le, le-of-suc-le-suc, le-refl}
 use native.Mathlib.Numerals.{add-one}
 use native.Mathlib.Decide.{ℕ-discrete, decLe}
 use native.Mathlib.Omega.{arith}
@@ -219,22 +219,6 @@ pass-to {g} {back} {u} {ev} {v} w t th =
     among i l (yes h) = th i h l
     among i l (no h) = t .targets i (omega arith)
 
--- the events from ev to below e have no edge from u
-pub skip-events : {g : Graph} {back queue : List ℕ} {head tail stop depth u ev : ℕ} (e : ℕ) → Turn g back queue head tail stop depth u ev 0
-    → ((i w : ℕ) → ev ≤ i → i < e → w < g .k → g .Edge u i w → ⊥) → Turn g back queue head tail stop depth u e 0
-skip-events {g} {back} {u} {ev} e t no-edge =
-    record {
-      inv = t .inv;
-      here = t .here;
-      node = t .node;
-      events = λ i w l lw. among i w l lw (decLe ev i);
-      targets = λ w l. absurd (omega arith);
-    }
-  where
-    among : (i w : ℕ) → i < e → w < g .k → Dec (ev ≤ i) → Through g back u i w
-    among i w l lw (yes h) ed = absurd (no-edge i w h l lw ed)
-    among i w l lw (no h) ed = t .events i w (omega arith) lw ed
-
 -- the target v is visited
 pub visited : {g : Graph} {back queue : List ℕ} {head tail stop depth u ev v : ℕ} → Turn g back queue head tail stop depth u ev v → ev < g .e → v < g .k → getD back v 0 ≡ 0 → g .Edge u ev v → (g .End v → ⊥) → Turn g (set back v (u + 1)) (set queue tail v) head (tail + 1) stop depth u ev (v + 1)
 visited {g} {back} {queue} {head} {tail} {stop} {depth} {u} {ev} {v} t le lv z ed ne =
@@ -253,17 +237,6 @@ visited {g} {back} {queue} {head} {tail} {stop} {depth} {u} {ev} {v} t le lv z e
 
     here : getD (set back v (u + 1)) v 0 ≡ u + 1
     here = getD-set-same back v (u + 1) 0 (omega (arith, i .back-room))
-
--- the event's targets are done
-pub next-event : {g : Graph} {back queue : List ℕ} {head tail stop depth u ev v : ℕ} → Turn g back queue head tail stop depth u ev v → g .k ≤ v → Turn g back queue head tail stop depth u (ev + 1) 0
-next-event {g} {back} {u} {ev} t l =
-    record {
-      inv = t .inv;
-      here = t .here;
-      node = t .node;
-      events = λ e w le lw. ⊎-elim (λ (q : e ≡ ev). subst (λ (n : ℕ). Through g back u n w) (sym q) (t .targets w (omega arith))) (λ (lt : e < ev). t .events e w lt lw) (below-or le);
-      targets = λ w l. absurd (omega arith);
-    }
 
 -- the node's events are done
 pub end-turn : {g : Graph} {back queue : List ℕ} {head tail stop depth u ev v : ℕ} → Turn g back queue head tail stop depth u ev v → g .e ≤ ev → Inv g back queue (head + 1) tail stop depth

@@ -1,15 +1,15 @@
 -- The starts of a search: what the context at each place comes to, and how the code keeps what is known.
-use mathlib.Core.Path.{_≡_, refl, sym, _∙_, ap, ap₂, subst}
-use mathlib.Core.Bool.{Bool, true, false, not, _&&_}
+use mathlib.Core.Path.{_≡_, sym, _∙_, ap, ap₂, subst}
+use mathlib.Core.Bool.{Bool, true, false, not}
 use mathlib.Core.List.{List}
 use mathlib.Core.Logic.{⊎-elim}
-use Prim.Native.Nat.{ℕ, zero, suc, _+_, _*_, _/_, _%_, _^_, _≤_, _<_}
+use Prim.Native.Nat.{ℕ, _+_, _*_, _^_, _≤_, _<_}
 use native.Mathlib.Nat.{mul-le-mul-right, zero-mul}
 use native.Mathlib.Omega.{arith}
 use borrow.Author.Tests.{not-true, not-false}
 use lib.Arith.{digits-lt}
 use lib.Dec.{T}
-use lib.ListN.{length, getD, set}
+use lib.ListN.{length, set}
 use lib.Pow.{pow-pos}
 use lib.Seq.{getD-set-same, getD-set-other}
 use Rattle.base.specs.Bits.{bit}
@@ -32,8 +32,8 @@ use Rattle.nodes.specs.declared.arrival.Arrival.{Arrival}
 use Rattle.nodes.specs.declared.arrival.Arrival.the-variants.{Enter, Dropped, Broken}
 use Rattle.nodes.specs.declared.monitor.Mode.{Mode}
 use Rattle.nodes.specs.Graph.{Graph}
-use Rattle.nodes.specs.State.{Inv, Seeding}
-use Rattle.nodes.specs.Nodes.{Watch, watchOf, codeAt, placeOf, stateOf, StartAt, BadStart, Bounded}
+use Rattle.nodes.specs.State.{Seeding}
+use Rattle.nodes.specs.Nodes.{Watch, watchOf, codeAt, placeOf, stateOf, BadStart, Bounded}
 use Rattle.nodes.specs.Watching.{Started}
 use Rattle.nodes.specs.Arrivals.{Arrived, Lands, States}
 use Rattle.nodes.specs.Tasks.{Task, graphOf}
@@ -41,7 +41,8 @@ use Rattle.nodes.specs.Seeds.{Cleared, Roomy, BeginsOpen, BeginsNot, Beg
 use Rattle.nodes.proofs.SearchLaws.{below-or, seed-begin, seed-pass, seed-visit, seed-end}
 use Rattle.nodes.proofs.NodeLaws.{place-of, state-of}
 use Rattle.nodes.proofs.ModelLaws.{to-true, of-true, bounded}
-use Rattle.nodes.proofs.ArrivalLaws.{clash, code-of-place, in-set, into-of, legs-of, lands, sets-at}
+use Rattle.steps.proofs.LowestLaws.{clash}
+use Rattle.nodes.proofs.ArrivalLaws.{code-of-place, in-set, into-of, legs-of, lands, sets-at}
 use Rattle.nodes.proofs.LevelLaws.{place-lt, place-le, whole, in-range-T, next-block}
 
 module _ {s g : List ℕ} {n : Counts} {l : Legs} (A : Task s g n l) (m : Mode) where

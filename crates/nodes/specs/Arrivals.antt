@@ -21,7 +21,7 @@ use Rattle.nodes.specs.declared.arrival.Arrival.{Arrival}
 use Rattle.nodes.specs.declared.arrival.Arrival.the-variants.{Enter, Dropped, Broken}
 use Rattle.nodes.specs.declared.monitor.Mode.{Mode}
 use Rattle.nodes.specs.Nodes.{Watch, watchOf, codeAt}
-use Rattle.nodes.specs.Watching.{Judged, By}
+use Rattle.nodes.specs.Watching.{Judged}
 
 -- an accepted policy with its counts, and an accepted goal
 pub record Given (s g : List ℕ) (n : Counts) : Type 0 where

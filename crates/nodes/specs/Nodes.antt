@@ -2,7 +2,7 @@
 -- is the context's place times 2 ^ n, and the state.
 use mathlib.Core.Path.{_≡_}
 use mathlib.Core.Bool.{Bool}
-use Prim.Native.Nat.{ℕ, _+_, _*_, _/_, _%_, _^_, _<_}
+use Prim.Native.Nat.{ℕ, _*_, _/_, _%_, _^_, _<_}
 use lib.Dec.{T}
 use Rattle.policy_image.specs.declared.counts.Counts.{Counts}
 use Rattle.context.specs.Codes.{contextCode}

@@ -5,7 +5,7 @@ use mathlib.Core.List.{List}
 use Prim.Native.Nat.{ℕ, _/_, _%_, _^_, _≤_, _<_}
 use Rattle.base.specs.Bits.{bit}
 use Rattle.policy_image.specs.declared.counts.Counts.{Counts}
-use Rattle.policy_image.specs.Policy.{Policy, policyOf}
+use Rattle.policy_image.specs.Policy.{Policy}
 use Rattle.context.specs.declared.Context.{Context}
 use Rattle.context.specs.Codes.{eventOf}
 use Rattle.context.specs.Ranges.{ContextInRange}
@@ -13,8 +13,8 @@ use Rattle.context.specs.Places.{contextCount, contextAtIndex}
 use Rattle.access.specs.Authorization.{flow}
 use Rattle.goal_image.specs.declared.check.Legs.{Legs}
 use Rattle.goal_image.specs.Layout.{legsOf}
-use Rattle.goal_image.specs.Goal.{Goal, goalOf, σe, γe}
-use Rattle.goal_image.specs.Sets.{contextIn, eventIn, EventSets}
+use Rattle.goal_image.specs.Goal.{Goal, σe, γe}
+use Rattle.goal_image.specs.Sets.{contextIn, eventIn}
 use Rattle.goal_model.specs.Images.{model}
 use Rattle.plan.specs.Plan.{eventsAt}
 use Rattle.steps.specs.declared.nearest.Offer.{Offer}

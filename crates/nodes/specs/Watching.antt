@@ -6,7 +6,7 @@ use Rattle.base.specs.Bits.{bit}
 use Rattle.goal_image.specs.declared.check.Legs.{Legs}
 use Rattle.paths.specs.Model.{Model}
 use Rattle.nodes.specs.declared.monitor.Mode.{Mode}
-use Rattle.nodes.specs.Nodes.{Watch, watchOf}
+use Rattle.nodes.specs.Nodes.{watchOf}
 
 -- l are the model's legs
 pub record LegsOf (M : Model) (l : Legs) : Type 0 where

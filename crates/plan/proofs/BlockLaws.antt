@@ -1,7 +1,7 @@
 -- From the index of a policy to the blocks of a plan: the regions are the index's lists, cut to what is write-like or read-like.
 use Prim.Native.Nat.{ℕ, zero, suc, _+_, _-_, _*_, _/_, _%_, _≤_, _<_}
 use mathlib.Core.Path.{_≡_, refl, sym, subst, ap, ap₂, _∙_}
-use mathlib.Core.Bool.{Bool, true, _&&_}
+use mathlib.Core.Bool.{true, _&&_}
 use mathlib.Core.List.{List}
 use mathlib.Core.Logic.{_⊎_, ⊎-elim}
 use native.Mathlib.Omega.{arith}
@@ -20,7 +20,7 @@ use Rattle.context.specs.Codes.{eventAt}
 use Rattle.context.specs.Places.{contextCount, contextAtIndex}
 use Rattle.relations.specs.Relations.{α, flowsAs, writeLike, readLike}
 use Rattle.tables.specs.Tables.{FlowMasks}
-use Rattle.index.specs.Index.{Has, Bears, Ranged}
+use Rattle.index.specs.Index.{Bears, Ranged}
 use Rattle.index.specs.Meaning.{AllowBlock, AllowIndex}
 use Rattle.index.proofs.MeaningLaws.{entry-towards, entry-from}
 use Rattle.goal_image.specs.Goal.{goalOf}
@@ -28,7 +28,7 @@ use Rattle.goal_image.specs.Sets.{EventSets}
 use Rattle.context.specs.Codes.{eventOf}
 use Rattle.plan.specs.Fill.{Filled}
 use Rattle.plan.proofs.FillLaws.{fill-begin, fill-more}
-use Rattle.plan.specs.Plan.{Ready, specialAt, firstAt, keyAt, outsAt, insAt, guardsAt, eventsAt, contextsAt, specialsAt, EntryOf, OfferBlock, Blocks, Tops, BlocksPut, GuardsOf, GuardsPut, Tabled, TablesPut, Known, Planned}
+use Rattle.plan.specs.Plan.{Ready, firstAt, keyAt, outsAt, insAt, guardsAt, contextsAt, specialsAt, EntryOf, OfferBlock, Blocks, Tops, BlocksPut, GuardsOf, GuardsPut, TablesPut, Known, Planned}
 
 -- ---- bounds
 module _ {s : List ℕ} {n : Counts} (R : Ready s n) where
@@ -191,9 +191,6 @@ module _ (p : Policy) (old new : List ℕ) (few : p .counts .types ≤ 255) (sam
           (same (keyAt new j / 4096 % 32) (omega arith) ∙ ap (λ (k : ℕ). getD old (k / 4096 % 32) 0) (same (512 + j) (omega arith)))
 
 -- ---- guards, entry by entry
-pub zero-plus : (c : ℕ) → 0 + c ≡ c
-zero-plus c = omega arith
-
 pub guards-begin : (plan : List ℕ) (lo : ℕ) → GuardsOf plan lo lo 0
 guards-begin plan lo = record { at = λ j q l h b. absurd (omega arith) }
 

@@ -8,7 +8,7 @@ use native.Mathlib.Decide.{decLt}
 use native.Mathlib.Omega.{arith}
 use borrow.Author.Tests.{not-true, not-false, lt-ltb, le-ltb, ne-eqb, eq-eqb}
 use lib.Bits.{bitOr}
-use lib.Dec.{eqb, ltb}
+use lib.Dec.{eqb}
 use lib.ListN.{length, getD, set}
 use lib.Seq.{getD-set-same, getD-set-other}
 use Rattle.base.specs.Bits.{bit}
@@ -22,14 +22,16 @@ use Rattle.context.specs.Places.{contextCount, contextAtIndex}
 use Rattle.context.proofs.PlaceLaws.{at-in-range}
 use Rattle.context.specs.declared.Event.{Event}
 use Rattle.context.specs.Codes.{eventAt, isTransition}
-use Rattle.relations.specs.Relations.{ρ, μ}
 use Rattle.constraints.specs.Constraints.{constrains}
 use Rattle.goal_image.specs.Goal.{Goal, isContextChain}
 use Rattle.goal_image.specs.Sets.{contextIn, ContextSets, EventSets}
 use Rattle.goal_model.specs.Images.{held}
 use Rattle.tables.specs.Tables.{ConstraintMasks, RoleTable, UserTable, RoleChanges}
 use Rattle.plan.specs.Fill.{Filled}
-use Rattle.plan.specs.Plan.{Ready, specialAt, special, Tabled, TablesPut, Noted, Known}
+use Rattle.plan.specs.Plan.{Ready, special, TablesPut, Noted, Known}
+
+pub zero-plus : (c : ℕ) → 0 + c ≡ c
+zero-plus c = omega arith
 
 -- ---- truth values
 pub both-not : {a r : Bool} (b : Bool) → r ≡ a → not r ≡ true → false ≡ (a && b)
@@ -96,9 +98,6 @@ in-bytes {s} {n} {y} {x} R h q =
     rw q (omega arith, omega arith, omega arith)
 
 -- ---- special events, and roles
-zero-add : (c : ℕ) → c ≡ 0 + c
-zero-add c = omega arith
-
 module _ {p : Policy} {masks : List ℕ} (C : ConstraintMasks p masks) (size : length masks ≡ 32) where
   marked : (c q : ℕ) → bit (getD (set masks 1 (bitOr (getD masks 1 0) 1)) c 0) q ≡ special p (eventAt c q)
   unfolding special
@@ -123,7 +122,7 @@ module _ {p : Policy} {masks : List ℕ} (C : ConstraintMasks p masks) (size : l
   tabled {changes} {old} {mid} {new} R A B =
       record {
         tables = record {
-          special-at = λ c q h. ap (λ (k : ℕ). bit k q) (B .below c (omega arith) ∙ ap (λ (k : ℕ). getD mid k 0) (zero-add c) ∙ A .here c (omega arith) h) ∙ marked c q;
+          special-at = λ c q h. ap (λ (k : ℕ). bit k q) (B .below c (omega arith) ∙ ap (λ (k : ℕ). getD mid k 0) (sym (zero-plus c)) ∙ A .here c (omega arith) h) ∙ marked c q;
           change = λ r1 r2 h. ap (λ (k : ℕ). bit k r2) (B .here r1 (omega arith) h) ∙ R .at r1 r2;
         };
         above = λ i h. B .above i (omega arith) ∙ A .above i (omega arith);

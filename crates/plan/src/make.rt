@@ -36,7 +36,7 @@ ghost use Rattle.policy_check.specs.Sound.{Sound};
 ghost use Rattle.context.specs.Codes.{eventOf};
 ghost use Rattle.context.specs.Places.{contextCount, contextAtIndex};
 ghost use Rattle.goal_image.specs.Goal.{goalOf};
-ghost use Rattle.goal_image.specs.Sets.{EventSets, ContextSets};
+ghost use Rattle.goal_image.specs.Sets.{EventSets};
 ghost use Rattle.goal_image.specs.Sound.{SoundGoal};
 ghost use Rattle.goal_model.specs.Images.{held};
 ghost use Rattle.index.specs.Meaning.{AllowIndex};

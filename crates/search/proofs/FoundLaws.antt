@@ -1,7 +1,7 @@
 -- What the search of the graph says of the model, and that the two images give all that a search is given.
-use mathlib.Core.Path.{_≡_, refl, sym, _∙_, ap, subst}
+use mathlib.Core.Path.{_≡_, sym, _∙_, ap, subst}
 use mathlib.Core.List.{List}
-use Prim.Native.Nat.{ℕ, zero, suc, _+_, _*_, _^_, _≤_, _<_}
+use Prim.Native.Nat.{ℕ, _*_, _^_, _≤_, _<_}
 use native.Mathlib.Nat.{mul-le-mul}
 use native.Mathlib.Omega.{arith}
 use lib.Pow.{pow-mono}
@@ -18,17 +18,14 @@ use Rattle.goal_image.specs.declared.check.Legs.{Legs}
 use Rattle.goal_image.specs.Goal.{goalOf}
 use Rattle.goal_image.specs.Questions.{legsIn}
 use Rattle.goal_image.specs.Sound.{SoundGoal}
-use Rattle.paths.proofs.Verdict.{Least, at, nowhere}
 use Rattle.goal_model.specs.Images.{model}
-use Rattle.plan.specs.Plan.{Ready}
 use Rattle.search.specs.declared.levels.Found.{Found}
 use Rattle.search.specs.declared.levels.Found.the-variants.{Nothing, Start, At}
 use Rattle.nodes.specs.declared.monitor.Mode.{Mode}
-use Rattle.nodes.specs.Nodes.{watchOf, monitorOf, codeAt, BadStart}
-use Rattle.nodes.specs.Arrivals.{Given, GivenGoal}
+use Rattle.nodes.specs.Nodes.{watchOf, codeAt, BadStart}
 use Rattle.nodes.specs.Tasks.{Task, graphOf}
 use Rattle.nodes.specs.Seeds.{SownStart}
-use Rattle.search.specs.Found.{Searched, FoundStart, FoundStep, FoundLeast}
+use Rattle.search.specs.Found.{Searched, FoundStart, FoundLeast}
 use Rattle.nodes.proofs.NodeLaws.{least-start, least-at, least-nowhere}
 use Rattle.nodes.proofs.ModelLaws.{bounded}
 

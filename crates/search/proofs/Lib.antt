@@ -1,4 +1,1 @@
-pub mod KeyLaws
-pub mod MemoryLaws
-pub mod LoopLaws
 pub mod FoundLaws

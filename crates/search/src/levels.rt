@@ -1,8 +1,8 @@
 // The search level by level: of the nodes in the queue, the events rising, and of each the types and their contexts rising.
-use crate::memory::keeps_of;
-use crate::memory::mark;
 use context::Context;
 use goal_image::check::Legs;
+use memory::keeps_of;
+use memory::mark;
 use nodes::arrival::Arrival;
 use nodes::arrival::arrive;
 use nodes::arrival::first_step;

@@ -1,6 +1,5 @@
 // The search of a goal's nodes, each a context and a monitor's state, level by level.
 pub mod levels;
-pub mod memory;
 
 use crate::levels::Found;
 use crate::levels::search_levels;
@@ -15,8 +14,8 @@ ghost use Rattle.search.specs.Found.{FoundLeast};
 ghost use Rattle.nodes.specs.Seeds.{Roomy};
 ghost use Rattle.nodes.specs.Tasks.{Task};
 
-// The least number of steps to a bad end, for a mode. The plan is made once of the policy and the goal. The slices hold an entry for each node; back then leads from the node that
-// is found to a start.
+// The least number of steps to a bad end, for a mode. The plan is made once of the policy and the goal, and serves every search of
+// them. The slices hold an entry for each node; back then leads from the node that is found to a start.
 pub fn search(
     policy: &[u8],
     goal: &[u8],

@@ -11,7 +11,7 @@ use borrow.Author.Tests.{eq-eqb}
 use Rattle.base.specs.Bits.{bit}
 use Rattle.base.proofs.BitLaws.{bit-above, bit-shl-low, bit-shr, bit-zero}
 use Rattle.base.proofs.Numbers.{split-le}
-use Rattle.steps.specs.Nearest.{Lowest, firstStep, StepBy, LowestStep, EntryStep}
+use Rattle.steps.specs.Nearest.{Lowest, firstStep, LowestStep, EntryStep}
 
 tz-odd : (d q : ℕ) → 0 < q → q < 2 ^ d → q / 2 ^ trailingZeros d q % 2 ≡ 1
 unfolding trailingZeros

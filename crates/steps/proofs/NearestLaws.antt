@@ -13,9 +13,8 @@ use Rattle.base.specs.Bits.{bit}
 use Rattle.base.proofs.BitLaws.{bit-and, bit-or, bit-ext}
 use Rattle.base.proofs.UptoLaws.{and-true, and-first, or-true, true-or-false}
 use Rattle.base.proofs.Numbers.{split-le, split-eq}
-use Rattle.plan.specs.Plan.{specialAt, keyAt, outsAt, insAt, eventsAt}
+use Rattle.plan.specs.Plan.{specialAt, keyAt, eventsAt}
 use Rattle.steps.specs.declared.nearest.Asker.{Asker}
-use Rattle.steps.specs.declared.nearest.Offer.{Offer}
 use Rattle.steps.specs.Nearest.{firstStep, maskAt, keyOf, closed, StepBy, EntryStep, OpenStep, AskedMask, Passed, Skipped, Block, Cursor, OfferedAt, Nearest}
 
 pub skip-begin : (plan : List ℕ) (stop a class : ℕ) → a ≤ stop → Skipped plan stop a class a
@@ -33,6 +32,10 @@ skip-more {plan} {stop} {a} {class} {j} S h c =
 -- ---- closed steps
 pub key-few : (a : Asker) (by : ℕ) → a .state < 64 → keyOf a by < 64
 key-few a by h = omega (arith, and-le-l (a .state) (bitOr (a .keeps) (by / 2 ^ 7)))
+
+pub first-false : (b c : Bool) → (b || c) ≡ false → b ≡ false
+first-false true c h = h
+first-false false c h = refl
 
 pub closed-first : (a : Asker) (by done : ℕ) {b : Bool} → b ≡ bit by 14 → b ≡ true → true ≡ closed a by done
 closed-first a by done p t = sym (ap (λ (z : Bool). z || bit done (keyOf a by)) (sym p ∙ t))

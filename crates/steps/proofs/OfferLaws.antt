@@ -3,33 +3,28 @@ use Prim.Native.Nat.{ℕ, _+_, _*_, _/_, _%_, _≤_, _<_}
 use mathlib.Core.Bool.{Bool, true, false, not, _&&_, _||_}
 use mathlib.Core.List.{List}
 use mathlib.Core.Logic.{_⊎_, inl, inr, ⊎-elim}
-use mathlib.Core.Path.{_≡_, refl, sym, ap, ap₂, subst, _∙_}
+use mathlib.Core.Path.{_≡_, sym, ap, ap₂, subst, _∙_}
 use native.Mathlib.Omega.{arith}
 use borrow.Author.Tests.{not-true, not-false}
-use lib.Bits.{bitOr}
-use lib.ListN.{length}
 use Rattle.base.specs.Bits.{bit}
 use Rattle.base.specs.Ranges.{Within}
 use Rattle.base.proofs.BitLaws.{bit-and, bit-or, bit-zero}
 use Rattle.base.proofs.UptoLaws.{or-cases, or-left, or-true, and-true, and-first, true-or-false}
 use Rattle.policy_image.specs.declared.counts.Counts.{Counts}
 use Rattle.policy_image.specs.Policy.{Policy, policyOf}
-use Rattle.policy_check.specs.Sound.{Sound}
 use Rattle.context.specs.declared.Context.{Context}
 use Rattle.context.specs.declared.Event.{Event}
 use Rattle.context.specs.Codes.{eventAt, eventOf, isTransition}
 use Rattle.context.specs.Ranges.{ContextInRange}
-use Rattle.context.specs.Places.{contextCount}
 use Rattle.relations.specs.Relations.{α, roleChange, writeLike, readLike}
 use Rattle.constraints.specs.Constraints.{constraintsHold}
 use Rattle.access.specs.Authorization.{roleRule, flow}
-use Rattle.index.specs.Index.{Ranged}
 use Rattle.goal_model.specs.Images.{held}
-use Rattle.plan.specs.Plan.{Ready, specialAt, firstAt, keyAt, outsAt, insAt, guardsAt, special, OfferBlock, EntryOf, PolicyPlan}
+use Rattle.plan.specs.Plan.{Ready, specialAt, firstAt, keyAt, outsAt, insAt, guardsAt, special, OfferBlock, PolicyPlan}
 use Rattle.steps.specs.declared.nearest.Asker.{Asker}
 use Rattle.steps.specs.declared.nearest.Offer.{Offer}
-use Rattle.steps.specs.Nearest.{firstStep, maskAt, StepBy, Passed, Block, Cursor, OfferedAt, Nearest}
-use Rattle.steps.specs.Steps.{Offering, NextOffer, Facing}
+use Rattle.steps.specs.Nearest.{firstStep, maskAt, Passed, Block, Cursor, Nearest}
+use Rattle.steps.specs.Steps.{Offering, NextOffer}
 use Rattle.steps.proofs.LowestLaws.{clash}
 use Rattle.steps.proofs.FlowLaws.{alpha-defined, defined-class, flow-alpha, flow-class, flow-by, plain-conditions, conditions}
 
@@ -208,9 +203,6 @@ module _ {p : Policy} {plan : List ℕ} {e entry : ℕ} (x y : Context) (hx : he
       (sym (bit-or (outsAt plan entry) (insAt plan entry) (e % 32)) ∙ O .some)
 
 -- ---- the conditions, one by one
-pub not-may : (m c : Bool) → not m ≡ true → false ≡ (m && c)
-not-may m c h = rw (not-true m h)
-
 module _ (p : Policy) (x y : Context) (e : ℕ) (m : Bool) {d : Event} (q : d ≡ eventOf e) (hm : not m ≡ false) (k : Bool) (hk : k ≡ constraintsHold p d x y) where
   pub not-held : not k ≡ true → false ≡ (m && conditions p (eventOf e) x y)
   not-held h =
@@ -240,9 +232,6 @@ roles-few {s} {n} {x} R h =
 
 pub event-few : {s : List ℕ} {n : Counts} {plan : List ℕ} {t e o entry : ℕ} → Ready s n → Offering (policyOf s) plan t e o entry → e < 1024
 event-few R O = omega (arith, O .event .high, R .sound .range .classes .high)
-
-pub zero-plus : (c : ℕ) → 0 + c ≡ c
-zero-plus c = omega arith
 
 module _ {p : Policy} {plan : List ℕ} {e entry : ℕ} (x y : Context) (hx : held p x ≡ true) (hy : held p y ≡ true) (O : Offering p plan (x .ty) e (y .ty) entry) where
   module _ {m r : Bool} (hm : m ≡ bit (outsAt plan entry) (e % 32)) (h : r ≡ (m && conditions p (eventOf e) x y)) where

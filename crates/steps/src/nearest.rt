@@ -10,7 +10,6 @@ use plan::regions::OUTS;
 use plan::regions::SPECIAL;
 ghost use mathlib.Core.Path.{_≡_};
 ghost use Prim.Native.Nat.{_/_, _≤_, _<_};
-ghost use lib.Bits.{bitOr};
 ghost use lib.ListN.{length};
 ghost use Rattle.steps.specs.Nearest.{keyOf, closed, LowestStep, EntryStep, OpenStep, AskedMask, Skipped, Block, Cursor, Nearest};
 

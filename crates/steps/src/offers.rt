@@ -7,7 +7,7 @@ use context::Context;
 use plan::regions::FIRST;
 use plan::regions::GUARDS;
 use policy_image::counts::Counts;
-ghost use Prim.Native.Nat.{_≤_, _<_};
+ghost use Prim.Native.Nat.{_<_};
 ghost use Rattle.policy_image.specs.Policy.{policyOf};
 ghost use Rattle.context.specs.Ranges.{ContextInRange};
 ghost use Rattle.plan.specs.Plan.{Ready, PolicyPlan};

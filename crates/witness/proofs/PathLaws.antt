@@ -25,7 +25,7 @@ use Rattle.nodes.specs.Tasks.{Task, graphOf}
 use Rattle.nodes.specs.Graph.{Graph, Chain, Chain.root, Chain.link}
 use Rattle.nodes.specs.Nodes.{Watch, watchOf, monitorOf, stateOf, codeOf, states, StartAt, EdgeAt, EndAt, graph, BadStart}
 use Rattle.nodes.proofs.SearchLaws.{chain-bound}
-use Rattle.search.proofs.LoopLaws.{around, at-place}
+use Rattle.memory.proofs.StandLaws.{around, at-place}
 use Rattle.search.proofs.FoundLaws.{few-types}
 use Rattle.witness.specs.Links.{Some, Linked}
 use Rattle.witness.specs.Shown.{BreaksBy, Shown, NodeIn}

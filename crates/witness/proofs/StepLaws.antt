@@ -41,14 +41,14 @@ use Rattle.nodes.specs.declared.monitor.Mode.{Mode}
 use Rattle.nodes.specs.Nodes.{watchOf, codeAt, placeOf}
 use Rattle.nodes.specs.Arrivals.{States, Lands, LandsOpen, LandsGood, LandsBad, Arriving}
 use Rattle.nodes.specs.Tasks.{Task, Stands, typeOf, graphOf}
-use Rattle.search.specs.Memory.{keepsOf}
+use Rattle.memory.specs.Memory.{keepsOf}
 use Rattle.witness.specs.Links.{Least, Linked, OfferedBetween}
 use Rattle.nodes.proofs.ModelLaws.{bounded}
 use Rattle.nodes.proofs.ArrivalLaws.{clash, later}
-use Rattle.search.proofs.MemoryLaws.{AskerOf, memory-begin}
-use Rattle.search.proofs.MemoryLaws.{passed as remembered}
+use Rattle.memory.proofs.MemoryLaws.{AskerOf, memory-begin}
+use Rattle.memory.proofs.MemoryLaws.{passed as remembered}
 use Rattle.nodes.proofs.LevelLaws.{place-lt, edge-flow, edge-free, edge-freeE, range-at, only-at, edge-at}
-use Rattle.search.proofs.LoopLaws.{Around, around, at-place, stand}
+use Rattle.memory.proofs.StandLaws.{Around, around, at-place, stand}
 
 -- what has been looked for: no step before the offer leads from u to w
 pub record Looking (s g : List ℕ) (n : Counts) (plan : List ℕ) (m : Mode) (u w : ℕ) (x : Context) (o : Offer) : Type 0 where

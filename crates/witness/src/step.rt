@@ -3,13 +3,13 @@
 use base::bits::has_bit;
 use context::Context;
 use goal_image::check::Legs;
+use memory::keeps_of;
 use nodes::arrival::Arrival;
 use nodes::arrival::arrive;
 use nodes::arrival::states_of;
 use nodes::monitor::Mode;
 use plan::regions::EVENTS;
 use policy_image::counts::Counts;
-use search::memory::keeps_of;
 use steps::nearest::Asker;
 use steps::nearest::NONE;
 use steps::offers::first_offer;

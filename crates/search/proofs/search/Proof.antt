@@ -1,5 +1,4 @@
 use Rattle.search.proofs.FoundLaws.{coded, found-start, found-least}
-use native.Mathlib.Omega.{arith}
 use borrow.Author.Needs.{needs}
 use borrow.Author.Needs.{needs}
 use Rattle.search.proofs.search.Statement.{statement}

@@ -1,7 +1,5 @@
 use Rattle.nodes.proofs.ArrivalLaws.{place-room, arriving}
 use native.Mathlib.Omega.{arith}
-use borrow.Author.Needs.{needs}
-use borrow.Author.Needs.{needs}
 use Rattle.nodes.proofs.arrival.arrive.Statement.{statement}
 use Rattle.nodes.proofs.arrival.arrive.Tie as tie
 

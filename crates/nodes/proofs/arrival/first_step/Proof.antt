@@ -1,7 +1,4 @@
 use Rattle.nodes.proofs.ArrivalLaws.{no-step, some-step}
-use native.Mathlib.Omega.{arith}
-use borrow.Author.Needs.{needs}
-use borrow.Author.Needs.{needs}
 use Rattle.nodes.proofs.arrival.first_step.Statement.{statement}
 use Rattle.nodes.proofs.arrival.first_step.Tie as tie
 

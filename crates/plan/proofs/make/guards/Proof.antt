@@ -1,9 +1,10 @@
-use Rattle.plan.proofs.BlockLaws.{guards-begin, guards-more, guards-end, zero-plus}
+use Rattle.plan.proofs.BlockLaws.{guards-begin, guards-more, guards-end}
+use Rattle.plan.proofs.KnownLaws.{zero-plus}
 use Rattle.plan.specs.Plan.{outsAt, insAt, GuardsOf}
 use lib.ListN.{getD}
 use lib.Bits.{bitAnd, bitOr}
 use mathlib.Core.Path.{ap}
-use Prim.Native.Nat.{ℕ, _+_, _-_, _≤_}
+use Prim.Native.Nat.{ℕ, _-_, _≤_}
 use native.Mathlib.Omega.{arith}
 use borrow.Author.Needs.{needs}
 use Rattle.plan.proofs.make.guards.Statement.{statement}

@@ -1,5 +1,4 @@
 use Rattle.plan.proofs.KnownLaws.{both-not, both-then}
-use native.Mathlib.Omega.{arith}
 use borrow.Author.Needs.{needs}
 use borrow.Author.Needs.{needs}
 use Rattle.plan.proofs.make.is_held.Statement.{statement}

@@ -1,6 +1,4 @@
 use Rattle.plan.proofs.KnownLaws.{noted-held, noted-not}
-use native.Mathlib.Omega.{arith}
-use borrow.Author.Needs.{needs}
 use Rattle.plan.proofs.make.known.Statement.{statement}
 use Rattle.plan.proofs.make.known.Tie as tie
 

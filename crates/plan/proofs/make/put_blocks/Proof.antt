@@ -1,4 +1,4 @@
-use Rattle.plan.proofs.BlockLaws.{types-few, counted, last-few, all-few, all-some, types-same, blocks-put}
+use Rattle.plan.proofs.BlockLaws.{types-few, last-few, all-few, all-some, types-same, blocks-put}
 use mathlib.Core.Path.{refl}
 use native.Mathlib.Omega.{arith}
 use borrow.Author.Needs.{needs}

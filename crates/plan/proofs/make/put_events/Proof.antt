@@ -1,11 +1,10 @@
 use Rattle.plan.proofs.KnownLaws.{event-same}
 use Rattle.plan.proofs.FillLaws.{fill-end}
-use Prim.Native.Nat.{ℕ, _+_, _-_, _*_, _/_, _%_, _≤_, _<_}
-use mathlib.Core.Path.{_≡_, refl, sym, ap, subst, _∙_}
-use lib.ListN.{length, getD, set, length-set}
+use Prim.Native.Nat.{_+_, _-_, _*_, _≤_}
+use mathlib.Core.Path.{_≡_, refl}
+use lib.ListN.{length, length-set}
 use Rattle.plan.specs.Fill.{Filled}
 use Rattle.plan.proofs.FillLaws.{fill-begin, fill-more}
-use Rattle.context.specs.declared.Event.{Event}
 use Rattle.context.specs.Codes.{eventOf}
 use Rattle.goal_image.specs.Goal.{goalOf}
 use Rattle.goal_image.specs.Sets.{EventSets}

@@ -1,7 +1,7 @@
 use Rattle.plan.proofs.BlockLaws.{Guarding, guarding-begin, guarding-top, guarding-more, guarding-end, place-next, guards-to}
 use lib.ListN.{length, length-set}
 use mathlib.Core.Path.{_≡_, refl}
-use Prim.Native.Nat.{ℕ, _+_, _-_, _≤_}
+use Prim.Native.Nat.{_+_, _-_}
 use native.Mathlib.Omega.{arith}
 use borrow.Author.Needs.{needs}
 use Rattle.plan.proofs.make.put_guards.Statement.{statement}

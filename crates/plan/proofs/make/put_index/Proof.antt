@@ -1,5 +1,4 @@
-use Rattle.plan.proofs.BlockLaws.{types-few, counted, last-few, all-few, all-some, types-same, blocks-put}
-use mathlib.Core.Path.{refl}
+use Rattle.plan.proofs.BlockLaws.{types-few, counted}
 use native.Mathlib.Omega.{arith}
 use borrow.Author.Needs.{needs}
 use borrow.Author.Needs.{needs}

@@ -1,15 +1,16 @@
-use Rattle.search.proofs.LoopLaws.{Around, Middle, Inner, around, node-below, at-place, stand, own-few, state-few, asker-of, asks-same, marks-same, middle-begin, middle-end, middle-spent, event-few, other-few, type-low, type-high, inner-begin, inner-key, inner-swept, inner-end, inner-place, inner-fits, inner-facing, inner-skip, inner-below, inner-entered, inner-seen, inner-dropped, inner-broken, inner-next}
-use Rattle.search.proofs.MemoryLaws.{memory-begin, memory-keep}
+use Rattle.memory.proofs.StandLaws.{Around, around, at-place, stand, own-few, state-few, asker-of}
+use Rattle.memory.proofs.LoopLaws.{Middle, Inner, node-below, asks-same, marks-same, middle-begin, middle-end, middle-spent, event-few, other-few, type-low, type-high, inner-begin, inner-key, inner-swept, inner-end, inner-place, inner-fits, inner-facing, inner-skip, inner-below, inner-entered, inner-seen, inner-dropped, inner-broken, inner-next}
+use Rattle.memory.proofs.MemoryLaws.{memory-begin, memory-keep}
 use Rattle.nodes.proofs.ArrivalLaws.{later}
 use Rattle.nodes.proofs.SearchLaws.{enter, room, nothing, turn-chain, chain-bound}
-use Rattle.search.specs.Memory.{keepsOf, Memory}
+use Rattle.memory.specs.Memory.{keepsOf, Memory}
 use Rattle.nodes.specs.Tasks.{graphOf}
 use Rattle.nodes.specs.State.{Inv}
 use Rattle.plan.specs.Plan.{Planned}
-use lib.ListN.{length, getD, set, length-set}
-use Prim.Native.Nat.{ℕ, _+_, _-_, _*_, _/_, _%_, _≤_, _<_}
+use lib.ListN.{length, length-set}
+use Prim.Native.Nat.{_-_}
 use mathlib.Core.Logic.{⊎-elim}
-use mathlib.Core.Path.{_≡_, refl, sym, _∙_, ap, subst}
+use mathlib.Core.Path.{_≡_, refl, _∙_}
 use native.Mathlib.Omega.{arith}
 use borrow.Author.Needs.{needs}
 use Rattle.search.proofs.levels.search_levels.Statement.{statement}

@@ -1,6 +1,5 @@
 use lib.Bits.{and-mask}
 use Rattle.base.specs.Bits.{bit}
-use native.Mathlib.Omega.{arith}
 use borrow.Author.Needs.{needs}
 use borrow.Author.Needs.{needs}
 use Rattle.steps.proofs.bits.has_member.Statement.{statement}

@@ -1,6 +1,4 @@
-use Rattle.steps.proofs.LowestLaws.{lowest-law, no-perm, none-left, lowest-left, from-first, from-later}
-use native.Mathlib.Omega.{arith}
-use borrow.Author.Needs.{needs}
+use Rattle.steps.proofs.LowestLaws.{lowest-law}
 use Rattle.steps.proofs.bits.lowest.Statement.{statement}
 use Rattle.steps.proofs.bits.lowest.Tie as tie
 

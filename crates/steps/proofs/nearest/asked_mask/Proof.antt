@@ -1,8 +1,8 @@
-use Rattle.steps.proofs.OfferLaws.{zero-plus}
+use Rattle.plan.proofs.KnownLaws.{zero-plus}
 use lib.ListN.{getD}
 use mathlib.Core.Path.{ap}
 use Prim.Native.Nat.{ℕ}
-use Rattle.steps.proofs.NearestLaws.{key-few, closed-first, closed-second, Opening, open-begin, open-next, open-stop, open-end, asked-all, asked-special}
+use Rattle.steps.proofs.NearestLaws.{asked-all, asked-special}
 use native.Mathlib.Omega.{arith}
 use borrow.Author.Needs.{needs}
 use borrow.Author.Needs.{needs}

@@ -1,5 +1,4 @@
-use Rattle.steps.proofs.LowestLaws.{lowest-law, no-perm, none-left, lowest-left, from-first, from-later}
-use native.Mathlib.Omega.{arith}
+use Rattle.steps.proofs.LowestLaws.{from-first, from-later}
 use borrow.Author.Needs.{needs}
 use borrow.Author.Needs.{needs}
 use Rattle.steps.proofs.nearest.entry_step.Statement.{statement}

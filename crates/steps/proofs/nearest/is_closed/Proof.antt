@@ -1,5 +1,4 @@
-use Rattle.steps.proofs.NearestLaws.{key-few, closed-first, closed-second, Opening, open-begin, open-next, open-stop, open-end, asked-all, asked-special}
-use native.Mathlib.Omega.{arith}
+use Rattle.steps.proofs.NearestLaws.{key-few, closed-first, closed-second}
 use borrow.Author.Needs.{needs}
 use borrow.Author.Needs.{needs}
 use Rattle.steps.proofs.nearest.is_closed.Statement.{statement}

@@ -1,4 +1,4 @@
-use Rattle.steps.proofs.LowestLaws.{lowest-law, no-perm, none-left, lowest-left, from-first, from-later}
+use Rattle.steps.proofs.LowestLaws.{no-perm, none-left, lowest-left}
 use native.Mathlib.Omega.{arith}
 use borrow.Author.Needs.{needs}
 use borrow.Author.Needs.{needs}

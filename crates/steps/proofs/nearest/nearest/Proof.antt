@@ -1,5 +1,5 @@
 use Rattle.steps.proofs.NearestLaws.{Looking, look-begin, look-small, look-other, look-nearer, look-on, look-end, look-stop}
-use Prim.Native.Nat.{ℕ, _+_, _-_, _≤_, _<_}
+use Prim.Native.Nat.{_-_}
 use mathlib.Core.Logic.{⊎-elim}
 use native.Mathlib.Omega.{arith}
 use borrow.Author.Needs.{needs}

@@ -1,7 +1,6 @@
 use Prim.Native.Nat.{_-_}
 use Rattle.steps.proofs.NearestLaws.{Opening, all-closed, open-begin, open-next, open-stop, open-end}
 use native.Mathlib.Omega.{arith}
-use borrow.Author.Needs.{needs}
 use Rattle.steps.proofs.nearest.open_step.Statement.{statement}
 use Rattle.steps.proofs.nearest.open_step.Tie as tie
 

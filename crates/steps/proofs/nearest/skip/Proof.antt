@@ -1,7 +1,6 @@
-use Prim.Native.Nat.{ℕ, _+_, _-_, _≤_, _<_}
+use Prim.Native.Nat.{_-_}
 use Rattle.steps.specs.Nearest.{Skipped}
-use Rattle.steps.proofs.NearestLaws.{skip-begin, skip-more, Looking, look-begin, look-small, look-nearer, look-on, look-end, look-stop}
-use native.Mathlib.Omega.{arith}
+use Rattle.steps.proofs.NearestLaws.{skip-begin, skip-more}
 use borrow.Author.Needs.{needs}
 use Rattle.steps.proofs.nearest.skip.Statement.{statement}
 use Rattle.steps.proofs.nearest.skip.Tie as tie

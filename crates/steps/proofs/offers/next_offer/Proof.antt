@@ -1,4 +1,4 @@
-use Rattle.steps.proofs.OfferLaws.{type-few, block-top, block-order, block-law, cursor-start, next-law}
+use Rattle.steps.proofs.OfferLaws.{type-few, block-top, block-order, block-law, next-law}
 use native.Mathlib.Omega.{arith}
 use borrow.Author.Needs.{needs}
 use borrow.Author.Needs.{needs}

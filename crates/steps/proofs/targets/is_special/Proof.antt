@@ -1,4 +1,4 @@
-use Rattle.steps.proofs.OfferLaws.{zero-plus}
+use Rattle.plan.proofs.KnownLaws.{zero-plus}
 use Rattle.base.specs.Bits.{bit}
 use lib.ListN.{getD}
 use mathlib.Core.Path.{ap, _∙_}

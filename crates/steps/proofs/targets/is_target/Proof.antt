@@ -1,6 +1,6 @@
 use mathlib.Core.Path.{sym, ap, _∙_}
 use Rattle.policy_image.specs.Policy.{policyOf}
-use Rattle.steps.proofs.OfferLaws.{not-may, not-held, no-rule, by-rule, roles-few, event-few, flow-of, plain-flow}
+use Rattle.steps.proofs.OfferLaws.{plain-flow}
 use Rattle.steps.proofs.FlowLaws.{no-flow}
 use Rattle.access.specs.Authorization.{flow}
 use Rattle.context.proofs.PlaceLaws.{at-in-range}

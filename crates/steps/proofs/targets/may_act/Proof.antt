@@ -1,8 +1,8 @@
 use borrow.Author.Tests.{not-true}
 use Rattle.context.proofs.CodeLaws.{coded-of}
-use mathlib.Core.Path.{sym, ap, _∙_}
+use mathlib.Core.Path.{_∙_}
 use Rattle.policy_image.specs.Policy.{policyOf}
-use Rattle.steps.proofs.OfferLaws.{not-may, not-held, no-rule, by-rule, roles-few, event-few, flow-of, plain-flow}
+use Rattle.steps.proofs.OfferLaws.{not-held, no-rule, by-rule}
 use native.Mathlib.Omega.{arith}
 use borrow.Author.Needs.{needs}
 use borrow.Author.Needs.{needs}

@@ -1,13 +1,12 @@
 -- The state after a step depends on what the event keeps of the state, and on the target alone.
-use mathlib.Core.Path.{_≡_, refl, sym, _∙_, ap, ap₂, subst}
+use mathlib.Core.Path.{_≡_, refl, sym, _∙_, ap, ap₂}
 use mathlib.Core.Bool.{Bool, true, false, _&&_, _||_}
-use mathlib.Core.List.{List}
 use Prim.Native.Nat.{ℕ, zero, suc, _+_, _*_, _/_, _%_, _^_, _≤_, _<_}
 use native.Mathlib.Decide.{decLt}
 use native.Mathlib.Nat.{one-mul, mod-eq-of-lt}
 use lib.Pow.{pow-lt}
 use native.Mathlib.Omega.{arith}
-use borrow.Author.Tests.{lt-ltb, le-ltb, eqb-true}
+use borrow.Author.Tests.{le-ltb, eqb-true}
 use lib.Bits.{bitAnd, bitOr}
 use lib.Dec.{ltb}
 use Rattle.base.specs.Bits.{bit}
@@ -20,7 +19,7 @@ use Rattle.nodes.specs.declared.monitor.Mode.{Mode}
 use Rattle.nodes.specs.declared.monitor.Mode.the-variants.{Order, Events}
 use Rattle.nodes.specs.Nodes.{watchOf}
 use Rattle.nodes.specs.Watching.{By}
-use Rattle.search.specs.Memory.{keepsOf, Marks}
+use Rattle.memory.specs.Memory.{keepsOf, Marks}
 
 -- what an event in the sets by keeps of a state
 abbrev pub kept : Mode → ℕ → ℕ → ℕ

@@ -1,9 +1,8 @@
-use Rattle.search.proofs.KeyLaws.{mark-one, mark-none, shl-64}
-use native.Mathlib.Omega.{arith}
+use Rattle.memory.proofs.KeyLaws.{mark-one, mark-none, shl-64}
 use borrow.Author.Needs.{needs}
 use borrow.Author.Needs.{needs}
-use Rattle.search.proofs.memory.mark.Statement.{statement}
-use Rattle.search.proofs.memory.mark.Tie as tie
+use Rattle.memory.proofs.mark.Statement.{statement}
+use Rattle.memory.proofs.mark.Tie as tie
 
 shl-result : tie.Need-shl-result
 shl-result c = search needs

@@ -1,6 +1,6 @@
 -- What a search remembers stays true, and what it passes over by it leads to nodes that are entered.
 use mathlib.Core.Path.{_≡_, refl, sym, _∙_, ap, ap₂, subst}
-use mathlib.Core.Bool.{Bool, true, false, not, _&&_, _||_}
+use mathlib.Core.Bool.{Bool, true, false, not}
 use mathlib.Core.List.{List}
 use mathlib.Core.Logic.{_⊎_, inl, inr, ⊎-elim}
 use Prim.Native.Nat.{ℕ, _+_, _-_, _*_, _/_, _%_, _^_, _≤_, _<_}
@@ -29,25 +29,27 @@ use Rattle.goal_image.specs.Goal.{goalOf, σe, γe}
 use Rattle.goal_image.specs.Sets.{contextIn, eventIn}
 use Rattle.paths.specs.Model.{Model}
 use Rattle.goal_model.specs.Images.{held, model}
-use Rattle.plan.specs.Plan.{specialAt, eventsAt, special, Planned}
+use Rattle.plan.specs.Plan.{eventsAt, special, Planned}
 use Rattle.steps.specs.declared.nearest.Asker.{Asker}
 use Rattle.steps.specs.declared.nearest.Offer.{Offer}
-use Rattle.steps.specs.Nearest.{keyOf, closed, Passed}
+use Rattle.steps.specs.Nearest.{keyOf, Passed}
 use Rattle.steps.specs.Steps.{Offering}
+use Rattle.steps.proofs.NearestLaws.{first-false}
 use Rattle.steps.proofs.FlowLaws.{flow-class, flow-held, plain-same}
 use Rattle.steps.proofs.OfferLaws.{plain-flow}
 use Rattle.nodes.specs.declared.monitor.Mode.{Mode}
 use Rattle.nodes.specs.Graph.{Graph}
 use Rattle.nodes.specs.State.{Turn, Clear}
-use Rattle.nodes.specs.Nodes.{Watch, watchOf, codeAt, placeOf, stateOf, codeOf}
+use Rattle.nodes.specs.Nodes.{Watch, watchOf, placeOf, stateOf, codeOf}
 use Rattle.nodes.specs.Watching.{By}
 use Rattle.nodes.specs.Tasks.{typeOf, Task, graphOf, Stands}
 use Rattle.nodes.specs.Blocks.{startOf, Asks, Ahead}
-use Rattle.search.specs.Memory.{keepsOf, stateKey, Marks, Memory}
-use Rattle.nodes.proofs.SearchLaws.{clear-keep, turn-chain, chain-bound}
-use Rattle.nodes.proofs.ArrivalLaws.{clash, by-of}
-use Rattle.nodes.proofs.TypeLaws.{type-lt, type-le}
-use Rattle.search.proofs.KeyLaws.{kept, step-by-key}
+use Rattle.memory.specs.Memory.{keepsOf, stateKey, Marks, Memory}
+use Rattle.nodes.proofs.SearchLaws.{clear-keep, turn-chain}
+use Rattle.steps.proofs.LowestLaws.{clash}
+use Rattle.nodes.proofs.ArrivalLaws.{by-of}
+use Rattle.nodes.proofs.TypeLaws.{type-le}
+use Rattle.memory.proofs.KeyLaws.{kept, step-by-key}
 use Rattle.nodes.proofs.LevelLaws.{place-lt, place-le, whole, chain-open, edge-flow, edge-freeE, edge-at, types-few, same-counts}
 
 -- nothing is remembered at first
@@ -183,10 +185,6 @@ module _ {s g : List ℕ} {n : Counts} {l : Legs} (A : Task s g n l) (m : Mode) 
 
       not-excepted : eventIn (goalOf g) γe (eventOf e₀) ≡ false
       not-excepted = sym (P .goal .events e₀ e₀-low e₀-high .at 14) ∙ first-false (bit (eventsAt plan e₀) 14) (bit (getD swept (o .at % 4096) 0) (keyOf a (eventsAt plan e₀))) (O .unclosed)
-        where
-          first-false : (b c : Bool) → (b || c) ≡ false → b ≡ false
-          first-false true c h = h
-          first-false false c h = refl
 
       -- another edge with the same key to the type is one from u
       swept-edge : special (policyOf s) (eventOf e₀) ≡ false → (u′ e w : ℕ) → u′ < G .k → w < G .k → G .Edge u′ e w → typeOf g n w ≡ o .at % 4096

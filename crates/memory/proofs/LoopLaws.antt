@@ -1,22 +1,19 @@
 -- The invariants of the three loops, and how each step of the code keeps them.
-use mathlib.Core.Path.{_≡_, refl, sym, _∙_, ap, subst}
-use mathlib.Core.Bool.{Bool, true, false, not, _||_}
+use mathlib.Core.Path.{_≡_, sym, _∙_, ap, subst}
+use mathlib.Core.Bool.{Bool, true, false, not}
 use mathlib.Core.List.{List}
 use mathlib.Core.Logic.{⊎-elim}
-use Prim.Native.Nat.{ℕ, zero, suc, _+_, _*_, _/_, _%_, _^_, _≤_, _<_}
-use native.Mathlib.Nat.{eq-or-lt-of-le, div-lt-iff-lt-mul, mul-le-mul-right, zero-mul}
+use Prim.Native.Nat.{ℕ, zero, _+_, _*_, _/_, _%_, _^_, _≤_, _<_}
+use native.Mathlib.Nat.{eq-or-lt-of-le, zero-mul}
 use native.Mathlib.Omega.{arith}
 use lib.Bits.{bitOr}
-use lib.ListN.{length, getD, set}
-use lib.Pow.{pow-pos}
+use lib.ListN.{getD, set}
 use Rattle.base.specs.Bits.{bit}
 use Rattle.policy_image.specs.declared.counts.Counts.{Counts}
 use Rattle.policy_image.specs.Policy.{Policy, policyOf}
 use Rattle.context.specs.declared.Context.{Context}
-use Rattle.context.specs.declared.Event.{Event}
 use Rattle.context.specs.Codes.{eventOf}
 use Rattle.context.specs.Places.{contextCount, contextAtIndex}
-use Rattle.context.proofs.PlaceLaws.{at-in-range}
 use Rattle.access.specs.Authorization.{flow}
 use Rattle.goal_image.specs.declared.check.Legs.{Legs}
 use Rattle.goal_image.specs.Layout.{legsOf}
@@ -26,42 +23,25 @@ use Rattle.goal_model.specs.Images.{model}
 use Rattle.plan.specs.Plan.{eventsAt, special, Planned}
 use Rattle.steps.specs.declared.nearest.Asker.{Asker}
 use Rattle.steps.specs.declared.nearest.Offer.{Offer}
-use Rattle.steps.specs.Nearest.{keyOf, closed}
+use Rattle.steps.specs.Nearest.{keyOf}
 use Rattle.steps.specs.Steps.{Offering, NextOffer, Facing}
-use Rattle.steps.proofs.NearestLaws.{key-few}
+use Rattle.steps.proofs.NearestLaws.{key-few, first-false}
 use Rattle.nodes.specs.declared.arrival.Arrival.{Arrival}
 use Rattle.nodes.specs.declared.arrival.Arrival.the-variants.{Enter, Dropped, Broken}
 use Rattle.nodes.specs.declared.monitor.Mode.{Mode}
-use Rattle.nodes.specs.Graph.{Graph, FoundAt, NoneFound}
+use Rattle.nodes.specs.Graph.{Graph, FoundAt}
 use Rattle.nodes.specs.State.{Inv, Turn}
-use Rattle.nodes.specs.Nodes.{watchOf, codeAt, placeOf, stateOf}
-use Rattle.nodes.specs.Arrivals.{States, Lands, LandsOpen, LandsGood, LandsBad, Arriving}
+use Rattle.nodes.specs.Nodes.{watchOf, codeAt}
+use Rattle.nodes.specs.Arrivals.{Lands, LandsOpen, LandsGood, LandsBad, Arriving}
 use Rattle.nodes.specs.Blocks.{startOf, Asks, Ahead, FirstStep}
-use Rattle.search.specs.Memory.{keepsOf, Marks, Memory}
-use Rattle.nodes.specs.Tasks.{typeOf, Task, graphOf, Stands, Asked, Faced}
-use Rattle.nodes.proofs.SearchLaws.{enter, take-up, turn-chain, chain-bound, end-turn, nothing}
+use Rattle.memory.specs.Memory.{Marks, Memory}
+use Rattle.nodes.specs.Tasks.{Task, graphOf, Stands, Asked, Faced}
+use Rattle.nodes.proofs.SearchLaws.{enter, take-up, turn-chain, chain-bound, end-turn}
 use Rattle.nodes.proofs.ArrivalLaws.{later}
 use Rattle.nodes.proofs.TypeLaws.{type-is, start-le, start-next}
 use Rattle.nodes.proofs.LevelLaws.{step-on, few-types, range-at, edge-free, edge-flow, not-target, swept-to, dropped, enter-below, entered, seen, broken}
-use Rattle.search.proofs.MemoryLaws.{AskerOf, memory-keep, passed, memory-swept, memory-spent, state-small}
-
--- what does not change
-pub record Around (s g : List ℕ) (n : Counts) (l : Legs) (states : ℕ) : Type 0 where
-  pub task : Task s g n l
-  pub states-are : states ≡ 2 ^ legsOf g
-  pub some-state : 0 < states
-  pub nodes : contextCount n * 2 ^ legsOf g < 2 ^ 26
-  pub fewer : contextCount n < 2 ^ 26
-
-pub around : {s g : List ℕ} {n : Counts} {l : Legs} {states : ℕ} → Task s g n l → States l states → Around s g n l states
-around {s} {g} {n} {l} {states} A S =
-    record {
-      task = A;
-      states-are = S .same ∙ ap (λ (k : ℕ). 2 ^ k) (A .legs .count);
-      some-state = S .some;
-      nodes = subst (λ (k : ℕ). contextCount n * 2 ^ k < 2 ^ 26) (A .legs .count) (A .legs .nodes);
-      fewer = A .legs .countable .few;
-    }
+use Rattle.memory.proofs.StandLaws.{Around}
+use Rattle.memory.proofs.MemoryLaws.{AskerOf, passed, memory-swept, memory-spent}
 
 -- in the turn of u, which stands at x: the steps before the offer are done
 pub record Middle (s g : List ℕ) (n : Counts) (plan : List ℕ) (l : Legs) (m : Mode) (states : ℕ) (back queue : List ℕ) (head tail stop depth u : ℕ) (x : Context) (state : ℕ)
@@ -96,38 +76,6 @@ pub record Inner (s g : List ℕ) (n : Counts) (plan : List ℕ) (l : Legs) (m :
 pub node-below : {G : Graph} {back queue : List ℕ} {head tail stop depth : ℕ} → Inv G back queue head tail stop depth → head < tail → getD queue head 0 < G .k
 node-below i h =
     ⊎-elim (λ q. chain-bound (turn-chain (take-up (enter i q h) h))) (λ k. chain-bound (turn-chain (take-up i k))) (eq-or-lt-of-le (i .head-stop))
-
-pub sets-same : {g : Goal} {e f : Event} {by : ℕ} → e ≡ f → EventSets g e by → EventSets g f by
-sets-same {g} {by = by} q S = subst (λ (k : Event). EventSets g k by) q S
-
-pub at-place : {s g : List ℕ} {n : Counts} {l : Legs} {states : ℕ} (u : ℕ) → Around s g n l states → u < contextCount n * 2 ^ legsOf g → u / states < contextCount n
-at-place {g = g} u R h = rw (R .states-are) (div-lt-iff-lt-mul (pow-pos (legsOf g)) .1 h)
-
-pub stand : {s g : List ℕ} {n : Counts} {l : Legs} {states : ℕ} {x : Context} (u : ℕ) → Around s g n l states → u < contextCount n * 2 ^ legsOf g
-    → x ≡ contextAtIndex n (u / states) → Stands g n u x (u % states)
-unfolding placeOf stateOf
-stand {s} {g} {n} {l} {states} {x} u R h q =
-    let k : u / states < contextCount n = at-place u R h in
-    let C = R .task .legs .countable in
-    record {
-      below = rw (R .states-are) at k;
-      place = q ∙ ap (λ (i : ℕ). contextAtIndex n (u / i)) (R .states-are);
-      range = rw q (at-in-range n (u / states) (C .roles) (C .users) k);
-      at = ap (λ (i : ℕ). u % i) (R .states-are);
-    }
-
--- ---- the asker
-module _ {s g : List ℕ} {n : Counts} {l : Legs} {states u : ℕ} {x : Context} {state : ℕ} (R : Around s g n l states) (S : Stands g n u x state) where
-  pub own-few : x .ty < 256
-  own-few = omega (arith, S .range .ty .high, subst (λ (c : Counts). c .types ≤ 255) (sym (R .task .given .ready .same)) (R .task .given .ready .sound .range .types .high))
-
-  module _ (m : Mode) {plan : List ℕ} (P : Planned s g n plan) where
-    pub state-few : state < 64
-    state-few = subst (λ (k : ℕ). k < 64) (sym (S .at)) (state-small (R .task) m P u)
-
-    pub asker-of : {spent : List ℕ} {keeps : ℕ} {b : Bool} → keeps ≡ keepsOf m → b ≡ bit (getD spent (x .ty) 0) state
-        → AskerOf m spent x state (record { state = state; keeps = keeps; spent = b })
-    asker-of q e = record { state-is = refl; keeps-are = q; spent-is = e; few = state-few }
 
 pub asks-same : {p : Policy} {g : Goal} {x z : Context} {b : Bool} → x ≡ z → Asks p g z b → Asks p g x b
 asks-same {p} {g} {b = b} q A = subst (λ (v : Context). Asks p g v b) (sym q) A
@@ -260,10 +208,6 @@ module _ {s g : List ℕ} {n : Counts} {plan : List ℕ} {l : Legs} {m : Mode} {
 
     not-excepted : eventIn (goalOf g) γe (eventOf (o .at / 4096)) ≡ false
     not-excepted = sym (sets-at .at 14) ∙ first-false (bit (eventsAt plan (o .at / 4096)) 14) _ (I .ahead .unclosed)
-      where
-        first-false : (b c : Bool) → (b || c) ≡ false → b ≡ false
-        first-false true c h = h
-        first-false false c h = refl
 
     module _ (h : y < end) where
       pub inner-place : y < contextCount n

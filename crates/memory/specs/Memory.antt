@@ -13,7 +13,6 @@ use Rattle.goal_image.specs.Layout.{legsOf}
 use Rattle.plan.specs.Plan.{eventsAt, special}
 use Rattle.nodes.specs.declared.monitor.Mode.{Mode}
 use Rattle.nodes.specs.declared.monitor.Mode.the-variants.{Order, Events}
-use Rattle.nodes.specs.Graph.{Graph}
 use Rattle.nodes.specs.State.{Clear}
 use Rattle.nodes.specs.Nodes.{stateOf}
 use Rattle.nodes.specs.Tasks.{graphOf, typeOf}

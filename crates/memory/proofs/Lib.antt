@@ -1,0 +1,4 @@
+pub mod KeyLaws
+pub mod MemoryLaws
+pub mod StandLaws
+pub mod LoopLaws
