@@ -233,15 +233,7 @@ module _ {s g : List ℕ} {n : Counts} {plan : List ℕ} {l : Legs} {m : Mode} {
           → Turn (graphOf s g n m) back queue head tail stop depth u (o .at / 4096) ((y + 1) * 2 ^ legsOf g)
       inner-skip p f = not-target (I .fixed .task) m (I .stands) (I .turn) inner-place (sym p ∙ f)
 
-      module _ {r : Arrival} {b : Bool} (p : b ≡ flow (policyOf s) (eventOf (o .at / 4096)) x (contextAtIndex n y)) (t : b ≡ true) (Z : Arriving g n l m state (eventsAt plan (o .at / 4096)) y r) where
-        faced : Faced (policyOf s) (goalOf g) n x (o .at / 4096) y
-        faced =
-            record {
-              high = let k = inner-place in omega arith;
-              free = λ _. not-excepted;
-              flows = λ _. sym p ∙ t;
-            }
-
+      module _ {r : Arrival} (Z : Arriving g n l m state (eventsAt plan (o .at / 4096)) y r) where
         abbrev goes : ℕ
         goes = watchOf m (model s g) .step state (o .at / 4096) (codeAt n y)
 
@@ -257,24 +249,34 @@ module _ {s g : List ℕ} {n : Counts} {plan : List ℕ} {l : Legs} {m : Mode} {
         bad-at : {v : ℕ} → r ≡ Broken v → LandsBad (model s g) n (watchOf m (model s g)) y goes v
         bad-at q = subst (Lands (model s g) n (watchOf m (model s g)) y goes) q lands
 
-        few : o .at / 4096 < 1024
-        few = event-few (I .fixed) (I .ahead)
-
         pub inner-below : {v : ℕ} → r ≡ Enter v → v < contextCount n * 2 ^ legsOf g
-        inner-below q = enter-below (I .fixed .task) m (I .stands) (I .turn) few asked faced inner-place (open-at q)
-
-        pub inner-entered : {v : ℕ} → r ≡ Enter v → getD back v 0 ≡ 0
-            → Turn (graphOf s g n m) (set back v (u + 1)) (set queue tail v) head (tail + 1) stop depth u (o .at / 4096) ((y + 1) * 2 ^ legsOf g)
-        inner-entered q z = entered (I .fixed .task) m (I .stands) (I .turn) few asked faced inner-place (open-at q) z
+        inner-below q = enter-below (I .fixed .task) m (I .stands) (I .turn) inner-place (open-at q)
 
         pub inner-seen : {v : ℕ} → r ≡ Enter v → (getD back v 0 ≡ 0 → ⊥) → Turn (graphOf s g n m) back queue head tail stop depth u (o .at / 4096) ((y + 1) * 2 ^ legsOf g)
-        inner-seen q z = seen (I .fixed .task) m (I .stands) (I .turn) few asked faced inner-place (open-at q) z
+        inner-seen q z = seen (I .fixed .task) m (I .stands) (I .turn) inner-place (open-at q) z
 
         pub inner-dropped : r ≡ Dropped → Turn (graphOf s g n m) back queue head tail stop depth u (o .at / 4096) ((y + 1) * 2 ^ legsOf g)
-        inner-dropped q = dropped (I .fixed .task) m (I .stands) (I .turn) few asked faced inner-place (good-at q)
+        inner-dropped q = dropped (I .fixed .task) m (I .stands) (I .turn) inner-place (good-at q)
 
-        pub inner-broken : {v : ℕ} → r ≡ Broken v → FoundAt (graphOf s g n m) back u (o .at / 4096) v depth
-        inner-broken q = broken (I .fixed .task) m (I .stands) (I .turn) few asked faced inner-place (bad-at q)
+        -- where the context is a target
+        module _ {b : Bool} (p : b ≡ flow (policyOf s) (eventOf (o .at / 4096)) x (contextAtIndex n y)) (t : b ≡ true) where
+          faced : Faced (policyOf s) (goalOf g) n x (o .at / 4096) y
+          faced =
+              record {
+                high = let k = inner-place in omega arith;
+                free = λ _. not-excepted;
+                flows = λ _. sym p ∙ t;
+              }
+
+          few : o .at / 4096 < 1024
+          few = event-few (I .fixed) (I .ahead)
+
+          pub inner-entered : {v : ℕ} → r ≡ Enter v → getD back v 0 ≡ 0
+              → Turn (graphOf s g n m) (set back v (u + 1)) (set queue tail v) head (tail + 1) stop depth u (o .at / 4096) ((y + 1) * 2 ^ legsOf g)
+          inner-entered q z = entered (I .fixed .task) m (I .stands) (I .turn) inner-place few asked faced (open-at q) z
+
+          pub inner-broken : {v : ℕ} → r ≡ Broken v → FoundAt (graphOf s g n m) back u (o .at / 4096) v depth
+          inner-broken q = broken (I .fixed .task) m (I .stands) (I .turn) inner-place few asked faced (bad-at q)
 
       pub inner-next : {back′ queue′ : List ℕ} {tail′ : ℕ} → Memory s g n m plan back′ swept spent
           → Turn (graphOf s g n m) back′ queue′ head tail′ stop depth u (o .at / 4096) ((y + 1) * 2 ^ legsOf g)

@@ -277,12 +277,8 @@ module _ {s g : List ℕ} {n : Counts} {l : Legs} (A : Task s g n l) (m : Mode) 
           let o : (at + 1) % 4096 ≡ at % 4096 + 1 = omega arith in
           rw (e, o) t
 
-      -- ---- what an arrival at place y comes to
-      module _ {e y : ℕ} (t : Turn G back queue head tail stop depth u e (y * K)) (le : e < 1024) (Q : Asked (goalOf g) x e)
-          (F : Faced (policyOf s) (goalOf g) n x e y) (h : y < contextCount n) where
-        to-node : {v : ℕ} → v ≡ y * K + dest e y → dest e y < K → (T (M .σ (M .legs) (codeAt n y)) → T (W .bad (dest e y))) → G .Edge u e v
-        to-node q small k = edge-at e y h q small (chain-open (turn-chain t)) (Q .free le) (F .free h) (F .flows h) k
-
+      -- ---- what an arrival at place y comes to, whether or not it is a target
+      module _ {e y : ℕ} (t : Turn G back queue head tail stop depth u e (y * K)) (h : y < contextCount n) where
         pub dropped : LandsGood M n W y (dest e y) → Turn G back queue head tail stop depth u e ((y + 1) * K)
         dropped L = pass-to ((y + 1) * K) t (λ w lo hi ed. absurd (L .good (bad-of e y (L .arrives) w lo hi ed)))
 
@@ -293,27 +289,31 @@ module _ {s g : List ℕ} {n : Counts} {l : Legs} (A : Task s g n l) (m : Mode) 
           pub enter-below : v < G .k
           enter-below = below e y h (L .node) small
 
-          enter-edge : G .Edge u e v
-          enter-edge = to-node (L .node) small (λ z. absurd (L .outside z))
-
           enter-open : G .End v → ⊥
           enter-open d = L .outside (end-at e y h (L .node) small d)
-
-          pub entered : getD back v 0 ≡ 0 → Turn G (set back v (u + 1)) (set queue tail v) head (tail + 1) stop depth u e ((y + 1) * K)
-          entered z =
-              block-visit ((y + 1) * K) t (inside e y h (L .node) small) (only-v e y h (L .node) small) (omega (arith, L .node)) le enter-below z enter-edge enter-open
 
           pub seen : (getD back v 0 ≡ 0 → ⊥) → Turn G back queue head tail stop depth u e ((y + 1) * K)
           seen z = block-pass ((y + 1) * K) t (only-v e y h (L .node) small) (record { open-end = enter-open; seen = z })
 
-        pub broken : {v : ℕ} → LandsBad M n W y (dest e y) v → FoundAt G back u e v depth
-        broken {v} L =
-            found t (record {
-              event = le;
-              target = below e y h (L .node) small;
-              edge = to-node (L .node) small (λ _. L .verdict);
-              ends = record { arrives = subst (λ (i : ℕ). T (M .σ (M .legs) (codeAt n i))) (sym (at-v e y h (L .node) small)) (L .arrives) };
-            })
-          where
-            small : dest e y < K
-            small = B .bads state e (codeAt n y) (L .verdict)
+        -- .. and where it is
+        module _ (le : e < 1024) (Q : Asked (goalOf g) x e) (F : Faced (policyOf s) (goalOf g) n x e y) where
+          to-node : {v : ℕ} → v ≡ y * K + dest e y → dest e y < K → (T (M .σ (M .legs) (codeAt n y)) → T (W .bad (dest e y))) → G .Edge u e v
+          to-node q few k = edge-at e y h q few (chain-open (turn-chain t)) (Q .free le) (F .free h) (F .flows h) k
+
+          pub entered : {v : ℕ} → LandsOpen M n W y (dest e y) v → getD back v 0 ≡ 0
+              → Turn G (set back v (u + 1)) (set queue tail v) head (tail + 1) stop depth u e ((y + 1) * K)
+          entered L z =
+              block-visit ((y + 1) * K) t (inside e y h (L .node) (small L)) (only-v e y h (L .node) (small L)) (omega (arith, L .node)) le (enter-below L) z
+              (to-node (L .node) (small L) (λ k. absurd (L .outside k))) (enter-open L)
+
+          pub broken : {v : ℕ} → LandsBad M n W y (dest e y) v → FoundAt G back u e v depth
+          broken {v} L =
+              found t (record {
+                event = le;
+                target = below e y h (L .node) few;
+                edge = to-node (L .node) few (λ _. L .verdict);
+                ends = record { arrives = subst (λ (i : ℕ). T (M .σ (M .legs) (codeAt n i))) (sym (at-v e y h (L .node) few)) (L .arrives) };
+              })
+            where
+              few : dest e y < K
+              few = B .bads state e (codeAt n y) (L .verdict)

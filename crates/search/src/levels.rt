@@ -87,15 +87,18 @@ pub fn search_levels(
             let end = first_place(counts, ty + 1);
             let mut y = first_place(counts, ty);
             while y < end {
-                if is_target(policy, counts, plan, x, e, offer.entry, guarded, y) {
-                    match arrive(goal, counts, plan, legs, mode, state, by, y) {
-                        Arrival::Broken(v) => {
+                // The conditions of a target are asked last: only where it would be a node that is new.
+                match arrive(goal, counts, plan, legs, mode, state, by, y) {
+                    Arrival::Broken(v) => {
+                        if is_target(policy, counts, plan, x, e, offer.entry, guarded, y) {
                             break 'search Found::At(u, e, v, depth);
                         }
-                        Arrival::Dropped => {}
-                        Arrival::Enter(v) => {
-                            let at = v as usize;
-                            if back[at] == 0 {
+                    }
+                    Arrival::Dropped => {}
+                    Arrival::Enter(v) => {
+                        let at = v as usize;
+                        if back[at] == 0 {
+                            if is_target(policy, counts, plan, x, e, offer.entry, guarded, y) {
                                 back[at] = u + 1;
                                 queue[tail] = v;
                                 tail += 1;

@@ -1,5 +1,5 @@
-use Rattle.memory.proofs.StandLaws.{Around, around, at-place, stand, own-few, state-few, asker-of}
 use Rattle.memory.proofs.LoopLaws.{Middle, Inner, node-below, asks-same, marks-same, middle-begin, middle-end, middle-spent, event-few, other-few, type-low, type-high, inner-begin, inner-key, inner-swept, inner-end, inner-place, inner-fits, inner-facing, inner-skip, inner-below, inner-entered, inner-seen, inner-dropped, inner-broken, inner-next}
+use Rattle.memory.proofs.StandLaws.{Around, around, at-place, stand, own-few, state-few, asker-of}
 use Rattle.memory.proofs.MemoryLaws.{memory-begin, memory-keep}
 use Rattle.nodes.proofs.ArrivalLaws.{later}
 use Rattle.nodes.proofs.SearchLaws.{enter, room, nothing, turn-chain, chain-bound}
@@ -129,15 +129,15 @@ first-place-requires-2 c κs = let I = c .before .before .before .before .before
 loop2-holds : tie.Need-loop2-holds Inv-loop2 μ-loop2 Inv-loop μ-loop Inv-search μ-search
 loop2-holds c = (refl, refl, inner-begin (c .before .before .before .before .before .before .before .before .loop .inv .2) (c .before .before .before .before .before .before .if3 .taken) (c .before .before .is-special .ensures) (c .before .first-place .ensures) (c .first-place2 .ensures))
 
-is-target-requires :
-    tie.Need-is-target-requires Inv-loop2 μ-loop2 Inv-loop μ-loop Inv-search μ-search
-is-target-requires c κs = let I = c .before .loop2 .inv .2 in let h = c .loop2-test .taken in (I .fixed .task .given .ready, I .planned .policy, I .stands .range, inner-place I h, inner-facing I h)
-
 arrive-requires : tie.Need-arrive-requires Inv-loop2 μ-loop2 Inv-loop μ-loop Inv-search μ-search
-arrive-requires c κs = let I = c .before .before .before .loop2 .inv .2 in (I .fixed .task .legs, I .planned .goal, inner-place I (c .before .before .loop2-test .taken))
+arrive-requires c κs = let I = c .before .loop2 .inv .2 in (I .fixed .task .legs, I .planned .goal, inner-place I (c .loop2-test .taken))
 
 enum-known-v : tie.Need-enum-known-v Inv-loop2 μ-loop2 Inv-loop μ-loop Inv-search μ-search
 enum-known-v c = search needs
+
+is-target-requires :
+    tie.Need-is-target-requires Inv-loop2 μ-loop2 Inv-loop μ-loop Inv-search μ-search
+is-target-requires c κs = let I = c .before .before .before .before .before .loop2 .inv .2 in let h = c .before .before .before .before .loop2-test .taken in (I .fixed .task .given .ready, I .planned .policy, I .stands .range, inner-place I h, inner-facing I h)
 
 enum-told : tie.Need-enum-told Inv-loop2 μ-loop2 Inv-loop μ-loop Inv-search μ-search
 enum-told c = search needs
@@ -152,7 +152,11 @@ mul-if5 : tie.Need-mul-if5 Inv-loop2 μ-loop2 Inv-loop μ-loop Inv-search μ-sea
 mul-if5 c = omega arith
 
 slice-read-if5 : tie.Need-slice-read-if5 Inv-loop2 μ-loop2 Inv-loop μ-loop Inv-search μ-search
-slice-read-if5 c = omega (arith, inner-below (c .before .before .before .before .before .before .before .before .loop2 .inv .2) (c .before .before .before .before .before .before .before .loop2-test .taken) (c .before .before .before .before .before .before .is-target .ensures) (c .before .before .before .before .before .if4 .taken) (c .before .before .before .before .arrive .ensures) (c .before .before .v2 .given .1), c .before .before .before .before .before .before .before .before .loop2 .inv .2 .turn .inv .back-room)
+slice-read-if5 c = omega (arith, inner-below (c .before .before .before .before .before .before .loop2 .inv .2) (c .before .before .before .before .before .loop2-test .taken) (c .before .before .before .before .arrive .ensures) (c .before .before .v2 .given .1), c .before .before .before .before .before .before .loop2 .inv .2 .turn .inv .back-room)
+
+is-target-requires-2 :
+    tie.Need-is-target-requires-2 Inv-loop2 μ-loop2 Inv-loop μ-loop Inv-search μ-search
+is-target-requires-2 c κs = let I = c .before .before .before .before .before .before .before .loop2 .inv .2 in let h = c .before .before .before .before .before .before .loop2-test .taken in (I .fixed .task .given .ready, I .planned .policy, I .stands .range, inner-place I h, inner-facing I h)
 
 add-back : tie.Need-add-back Inv-loop2 μ-loop2 Inv-loop μ-loop Inv-search μ-search
 add-back c = let I = c .before .before .before .before .before .before .before .before .before .loop2 .inv .2 in omega (arith, chain-bound (turn-chain (I .turn)), I .fixed .nodes)
@@ -161,14 +165,14 @@ mul-back : tie.Need-mul-back Inv-loop2 μ-loop2 Inv-loop μ-loop Inv-search μ-s
 mul-back c = omega arith
 
 slice-write-back : tie.Need-slice-write-back Inv-loop2 μ-loop2 Inv-loop μ-loop Inv-search μ-search
-slice-write-back c = omega (arith, inner-below (c .before .before .before .before .before .before .before .before .before .loop2 .inv .2) (c .before .before .before .before .before .before .before .before .loop2-test .taken) (c .before .before .before .before .before .before .before .is-target .ensures) (c .before .before .before .before .before .before .if4 .taken) (c .before .before .before .before .before .arrive .ensures) (c .before .before .before .v2 .given .1), c .before .before .before .before .before .before .before .before .before .loop2 .inv .2 .turn .inv .back-room)
+slice-write-back c = omega (arith, inner-below (c .before .before .before .before .before .before .before .before .before .loop2 .inv .2) (c .before .before .before .before .before .before .before .before .loop2-test .taken) (c .before .before .before .before .before .before .before .arrive .ensures) (c .before .before .before .before .before .v2 .given .1), c .before .before .before .before .before .before .before .before .before .loop2 .inv .2 .turn .inv .back-room)
 
 mul-queue : tie.Need-mul-queue Inv-loop2 μ-loop2 Inv-loop μ-loop Inv-search μ-search
 mul-queue c = omega arith
 
 slice-write-queue :
     tie.Need-slice-write-queue Inv-loop2 μ-loop2 Inv-loop μ-loop Inv-search μ-search
-slice-write-queue c = let I = c .before .before .before .before .before .before .before .before .before .loop2 .inv .2 in omega (arith, room (I .turn .inv) (inner-below (c .before .before .before .before .before .before .before .before .before .loop2 .inv .2) (c .before .before .before .before .before .before .before .before .loop2-test .taken) (c .before .before .before .before .before .before .before .is-target .ensures) (c .before .before .before .before .before .before .if4 .taken) (c .before .before .before .before .before .arrive .ensures) (c .before .before .before .v2 .given .1)) (c .if5 .taken), I .turn .inv .queue-room)
+slice-write-queue c = let I = c .before .before .before .before .before .before .before .before .before .loop2 .inv .2 in omega (arith, room (I .turn .inv) (inner-below (c .before .before .before .before .before .before .before .before .before .loop2 .inv .2) (c .before .before .before .before .before .before .before .before .loop2-test .taken) (c .before .before .before .before .before .before .before .arrive .ensures) (c .before .before .before .before .before .v2 .given .1)) (c .before .before .if5 .taken), I .turn .inv .queue-room)
 
 add-tail : tie.Need-add-tail Inv-loop2 μ-loop2 Inv-loop μ-loop Inv-search μ-search
 add-tail c = let I = c .before .before .before .before .before .before .before .before .before .loop2 .inv .2 in omega (arith, I .turn .inv .full, I .fixed .nodes)
@@ -182,16 +186,18 @@ loop2-less c = omega arith
 loop2-again : tie.Need-loop2-again Inv-loop2 μ-loop2 Inv-loop μ-loop Inv-search μ-search
 loop2-again c = let i = c .before .before .before .loop2 .inv in
     let h = c .before .before .loop2-test .taken in
-    let f = c .before .is-target .ensures in
+    let z = c .before .arrive .ensures in
     let N = i .2 .memory in
     ⊎-elim
-    (λ w. rw (w .4, w .5, w .6) (i .0, i .1, inner-next (i .2) h N (inner-dropped (i .2) h f (w .0 .taken) (w .1 .ensures) (w .3 .given .1))))
+    (λ w. rw (w .5, w .6, w .7) (i .0, i .1, inner-next (i .2) h N (inner-skip (i .2) h (w .3 .ensures) (w .4 .left))))
     (⊎-elim
-    (λ w. rw (w .7, w .8, w .9) (simp length-set (i .0), simp length-set (i .1), inner-next (i .2) h (memory-keep _ _ (w .6 .taken) N) (inner-entered (i .2) h f (w .0 .taken) (w .1 .ensures) (w .3 .given .1) (w .6 .taken))))
+    (λ w. rw (w .2, w .3, w .4) (i .0, i .1, inner-next (i .2) h N (inner-dropped (i .2) h z (w .1 .given .1))))
     (⊎-elim
-    (λ w. rw (w .7, w .8, w .9) (i .0, i .1, inner-next (i .2) h N (inner-seen (i .2) h f (w .0 .taken) (w .1 .ensures) (w .3 .given .1) (w .6 .left))))
-    (λ w. rw (w .1, w .2, w .3) (i .0, i .1, inner-next (i .2) h N (inner-skip (i .2) h f (w .0 .left))))))
-    (c .if4 .came)
+    (λ w. rw (w .7, w .8, w .9) (simp length-set (i .0), simp length-set (i .1), inner-next (i .2) h (memory-keep _ _ (w .4 .taken) N) (inner-entered (i .2) h z (w .5 .ensures) (w .6 .taken) (w .1 .given .1) (w .4 .taken))))
+    (⊎-elim
+    (λ w. rw (w .7, w .8, w .9) (i .0, i .1, inner-next (i .2) h N (inner-skip (i .2) h (w .5 .ensures) (w .6 .left))))
+    (λ w. rw (w .5, w .6, w .7) (i .0, i .1, inner-next (i .2) h N (inner-seen (i .2) h z (w .1 .given .1) (w .4 .left)))))))
+    (c .match .came)
 
 cast-other : tie.Need-cast-other Inv-loop2 μ-loop2 Inv-loop μ-loop Inv-search μ-search
 cast-other c = omega arith
@@ -269,7 +275,7 @@ same-length-4 : tie.Need-same-length-4 Inv-loop2 μ-loop2 Inv-loop μ-loop Inv-s
 same-length-4 c = omega (arith, c .before .before .before .before .before .before .before .loop2 .inv .1, c .before .before .before .before .before .before .before .before .before .before .before .before .before .before .before .before .loop .inv .1, c .before .before .before .before .before .before .before .before .before .before .before .before .before .before .before .before .before .before .before .before .before .before .before .before .before .before .search .inv .1)
 
 returns-2 : tie.Need-returns-2 Inv-loop2 μ-loop2 Inv-loop μ-loop Inv-search μ-search
-returns-2 c = inner-broken (c .before .before .before .before .before .before .before .loop2 .inv .2) (c .before .before .before .before .before .before .loop2-test .taken) (c .before .before .before .before .before .is-target .ensures) (c .before .before .before .before .if4 .taken) (c .before .before .before .arrive .ensures) (c .before .v .given .1)
+returns-2 c = inner-broken (c .before .before .before .before .before .before .before .loop2 .inv .2) (c .before .before .before .before .before .before .loop2-test .taken) (c .before .before .before .before .before .arrive .ensures) (c .before .is-target .ensures) (c .if4 .taken) (c .before .before .before .v .given .1)
 
 pub search-levels-spec : {M : Type 1} → statement M
 search-levels-spec =
@@ -306,14 +312,15 @@ search-levels-spec =
     first-place-requires
     first-place-requires-2
     loop2-holds
-    is-target-requires
     arrive-requires
     enum-known-v
+    is-target-requires
     enum-told
     enum-known-v-2
     cast-at
     mul-if5
     slice-read-if5
+    is-target-requires-2
     add-back
     mul-back
     slice-write-back
