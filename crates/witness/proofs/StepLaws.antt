@@ -44,7 +44,8 @@ use Rattle.nodes.specs.Tasks.{Task, Stands, typeOf, graphOf}
 use Rattle.memory.specs.Memory.{keepsOf}
 use Rattle.witness.specs.Links.{Least, Linked, OfferedBetween}
 use Rattle.nodes.proofs.ModelLaws.{bounded}
-use Rattle.nodes.proofs.ArrivalLaws.{clash, later}
+use Rattle.index.proofs.MaskLaws.{clash}
+use Rattle.nodes.proofs.ArrivalLaws.{later}
 use Rattle.memory.proofs.MemoryLaws.{AskerOf, memory-begin}
 use Rattle.memory.proofs.MemoryLaws.{passed as remembered}
 use Rattle.nodes.proofs.LevelLaws.{place-lt, edge-flow, edge-free, edge-freeE, range-at, only-at, edge-at}
