@@ -132,7 +132,7 @@ not-no-goal work before after p =
     let h = a .0 .whole in
     omega arith
 
--- the numbers that C gets for the five sorts of answer: two answers never share one, and 12 has its m
+-- the numbers that C gets for the five sorts of answer; 12 has its m
 pub number-holds : outcomeNumber outcome.Holds ≡ 0
 number-holds = refl
 
@@ -147,3 +147,38 @@ number-refused = refl
 
 pub number-no-room : outcomeNumber (outcome.NoRoom 3) ≡ 819
 number-no-room = refl
+
+-- two answers never share a number: what C gets tells which it was. A refusal of a list of questions has a number up to 11
+abbrev UpTo11 : Outcome → Type 0
+UpTo11 outcome.Holds = Unit
+UpTo11 (outcome.Order m) = Unit
+UpTo11 (outcome.Events m) = Unit
+UpTo11 (outcome.Refused i) = i ≤ 11
+UpTo11 (outcome.NoRoom m) = Unit
+
+pub number-tells : (q r : Outcome) → UpTo11 q → UpTo11 r → outcomeNumber q ≡ outcomeNumber r → q ≡ r
+number-tells outcome.Holds outcome.Holds h k e = refl
+number-tells outcome.Holds (outcome.Order m′) h k e = absurd (omega arith)
+number-tells outcome.Holds (outcome.Events m′) h k e = absurd (omega arith)
+number-tells outcome.Holds (outcome.Refused i′) h k e = absurd (omega arith)
+number-tells outcome.Holds (outcome.NoRoom m′) h k e = absurd (omega arith)
+number-tells (outcome.Order m) outcome.Holds h k e = absurd (omega arith)
+number-tells (outcome.Order m) (outcome.Order m′) h k e = ap outcome.Order (omega arith)
+number-tells (outcome.Order m) (outcome.Events m′) h k e = absurd (omega arith)
+number-tells (outcome.Order m) (outcome.Refused i′) h k e = absurd (omega arith)
+number-tells (outcome.Order m) (outcome.NoRoom m′) h k e = absurd (omega arith)
+number-tells (outcome.Events m) outcome.Holds h k e = absurd (omega arith)
+number-tells (outcome.Events m) (outcome.Order m′) h k e = absurd (omega arith)
+number-tells (outcome.Events m) (outcome.Events m′) h k e = ap outcome.Events (omega arith)
+number-tells (outcome.Events m) (outcome.Refused i′) h k e = absurd (omega arith)
+number-tells (outcome.Events m) (outcome.NoRoom m′) h k e = absurd (omega arith)
+number-tells (outcome.Refused i) outcome.Holds h k e = absurd (omega arith)
+number-tells (outcome.Refused i) (outcome.Order m′) h k e = absurd (omega arith)
+number-tells (outcome.Refused i) (outcome.Events m′) h k e = absurd (omega arith)
+number-tells (outcome.Refused i) (outcome.Refused i′) h k e = ap outcome.Refused (omega arith)
+number-tells (outcome.Refused i) (outcome.NoRoom m′) h k e = absurd (omega arith)
+number-tells (outcome.NoRoom m) outcome.Holds h k e = absurd (omega arith)
+number-tells (outcome.NoRoom m) (outcome.Order m′) h k e = absurd (omega arith)
+number-tells (outcome.NoRoom m) (outcome.Events m′) h k e = absurd (omega arith)
+number-tells (outcome.NoRoom m) (outcome.Refused i′) h k e = absurd (omega arith)
+number-tells (outcome.NoRoom m) (outcome.NoRoom m′) h k e = ap outcome.NoRoom (omega arith)
