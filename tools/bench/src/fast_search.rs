@@ -3,14 +3,14 @@
 // usage: fast_search policy.img goal.img [repeats]   prints the answer, m, nodes entered, and ns per run.
 use std::time::Instant;
 
-fn u16at(b: &[u8], i: usize) -> usize { b[i] as usize | (b[i + 1] as usize) << 8 }
-fn u32at(b: &[u8], i: usize) -> u32 { u32::from_le_bytes([b[i], b[i + 1], b[i + 2], b[i + 3]]) }
+pub fn u16at(b: &[u8], i: usize) -> usize { b[i] as usize | (b[i + 1] as usize) << 8 }
+pub fn u32at(b: &[u8], i: usize) -> u32 { u32::from_le_bytes([b[i], b[i + 1], b[i + 2], b[i + 3]]) }
 
-struct Rec { kind: u8, a: usize, b: usize, c: usize, d: usize, e: usize, mask: u32 }
-struct Pol { t: usize, r: usize, u: usize, c: usize, recs: Vec<Rec>, dom: Vec<bool>,
-    rho: Vec<Vec<bool>>, mu: Vec<Vec<bool>>, trans: Vec<Vec<bool>>, cons: Vec<Vec<(u32, usize)>> }
+pub struct Rec { pub kind: u8, pub a: usize, pub b: usize, pub c: usize, d: usize, e: usize, pub mask: u32 }
+pub struct Pol { pub t: usize, pub r: usize, pub u: usize, pub c: usize, pub recs: Vec<Rec>, pub dom: Vec<bool>,
+    pub rho: Vec<Vec<bool>>, pub mu: Vec<Vec<bool>>, trans: Vec<Vec<bool>>, pub cons: Vec<Vec<(u32, usize)>> }
 
-fn load(b: &[u8]) -> Pol {
+pub fn load(b: &[u8]) -> Pol {
     let (t, r, u, c) = (b[0] as usize, b[1] as usize, b[2] as usize, b[3] as usize);
     let n = u16at(b, 4);
     let mut recs = vec![Rec { kind: 0, a: 0, b: 0, c: 0, d: 0, e: 0, mask: 0 }];
@@ -26,13 +26,13 @@ fn load(b: &[u8]) -> Pol {
     for us in 1..=u { p.mu[us][1] = true; }
     p
 }
-type Ctx = (usize, usize, usize);
+pub type Ctx = (usize, usize, usize);
 fn eval(p: &Pol, k: usize, x: Ctx, y: Ctx) -> bool {
     let q = &p.recs[k]; let (l, r) = ((q.mask & 0xffff) as usize, (q.mask >> 16) as usize);
     match q.a { 1 => !eval(p, l, x, y), 2 => eval(p, l, x, y) && eval(p, r, x, y), 3 => eval(p, l, x, y) || eval(p, r, x, y),
         4 => x.0 == y.0, 5 => x.1 == y.1, 6 => x.2 == y.2, 7 => x.0 == q.b, 8 => y.0 == q.b, 9 => x.1 == q.b, 10 => y.1 == q.b, 11 => x.2 == q.b, _ => y.2 == q.b }
 }
-fn allowed(p: &Pol, c: usize, mut m: u32, x: Ctx, y: Ctx) -> u32 {
+pub fn allowed(p: &Pol, c: usize, mut m: u32, x: Ctx, y: Ctx) -> u32 {
     for &(cm, root) in &p.cons[c] { if m & cm != 0 && !eval(p, root, x, y) { m &= !cm; } }
     if c == 1 && m & 1 != 0 && !p.trans[x.1][y.1] { m &= !1; }
     m
@@ -50,6 +50,7 @@ fn main() {
     let ns = start.elapsed().as_nanos() / reps as u128;
     println!("{} m={} nodes={} ns={}", ["holds", "order", "events"][out.0 as usize], out.1, out.2, ns);
 }
+#[inline(never)]
 pub fn run(pb: &[u8], gb: &[u8]) -> (u8, usize, usize) {
     let p = load(pb);
     let (n, rep) = (gb[0] as usize, gb[1] as u32);

@@ -1,8 +1,9 @@
-//! `./bench`: the goal question through the static library against a plain program (`fast_search.rs`: unproved, on the heap,
-//! with adjacency lists), on the same images, in one run.
+//! `./bench`: the goal question through the static library against two plain programs on the same images, in one run. Both are
+//! unproved and on the heap: `fast_search.rs` with adjacency lists, `memory_search.rs` with what the proved search remembers too.
 #[allow(clippy::all)]
 #[rustfmt::skip]
 mod fast_search;
+mod memory_search;
 mod sizes;
 
 use sizes::{Goals, Masks, Size};
@@ -85,7 +86,12 @@ impl Ours {
         Ours { work: [vec![0; nodes], vec![0; nodes]], path: vec![0; 2 * nodes + 1] }
     }
     fn ask(&mut self, policy: &[u8], goal: &[u8]) -> (String, u64) {
-        let [work1, work2] = &mut self.work;
+        let nodes = self.work[0].len();
+        self.ask_with(policy, goal, nodes)
+    }
+    /// The call with so many entries of each work slice.
+    fn ask_with(&mut self, policy: &[u8], goal: &[u8], entries: usize) -> (String, u64) {
+        let [work1, work2] = self.work.each_mut().map(|work| &mut work[..entries]);
         // SAFETY: each pointer leads to as many entries as its length says, and no two of them to the same ones.
         let number = unsafe {
             flowgoal_check(
@@ -115,13 +121,13 @@ fn round(call: &mut dyn FnMut(), calls: usize) -> f64 {
     start.elapsed().as_secs_f64() / calls as f64
 }
 
-/// The least times of two calls: rounds of as many calls as fill a round, in turn, so that what else the machine does meets both.
-fn least_times(calls: [&mut dyn FnMut(); 2]) -> [f64; 2] {
+/// The least times of the calls: rounds of as many calls as fill a round, in turn, so that what else the machine does meets all.
+fn least_times<const N: usize>(calls: [&mut dyn FnMut(); N]) -> [f64; N] {
     let mut timed = calls.map(|call| (round(call, 1), call));
-    // where one call takes many rounds' time, it is not repeated
-    if timed.iter().all(|(first, _)| *first < 10.0 * ROUND_SECONDS) {
-        for _ in 0..ROUNDS {
-            for (best, call) in &mut timed {
+    for _ in 0..ROUNDS {
+        for (best, call) in &mut timed {
+            // a call that takes many rounds' time is not repeated
+            if *best < 10.0 * ROUND_SECONDS {
                 let calls = (ROUND_SECONDS / *best).ceil().max(1.0) as usize;
                 *best = best.min(round(*call, calls));
             }
@@ -130,84 +136,144 @@ fn least_times(calls: [&mut dyn FnMut(); 2]) -> [f64; 2] {
     timed.map(|(best, _)| best)
 }
 
-/// One line of the table; false where the two answers differ.
+/// The answer, the steps and the nodes that a plain program entered, where all three programs agree.
+fn agree(name: &str, policy: &[u8], goal: &[u8], ours: &mut Ours) -> Option<(String, u64, usize)> {
+    let (answer, m) = ours.ask(policy, goal);
+    let plain = fast_search::run(policy, goal);
+    let memory = memory_search::run(policy, goal);
+    let (plain_answer, plain_m, entered) = plain;
+    if (answer.as_str(), m) == (ANSWERS[plain_answer as usize], plain_m as u64) && memory == plain {
+        return Some((answer, m, entered));
+    }
+    println!("{name}: the library says {answer} {m}, the plain program {plain:?}, with memory {memory:?}");
+    None
+}
+
+/// One line of the table; false where the answers differ.
 fn measure(name: &str, size: &Size) -> bool {
     let (policy, goal) = size.images(42);
     let mut ours = Ours::new(size.nodes());
-    let (answer, m) = ours.ask(&policy, &goal);
-    let (plain_answer, plain_m, entered) = fast_search::run(&policy, &goal);
-    let plain_answer = ANSWERS[plain_answer as usize];
-    if (answer.as_str(), m) != (plain_answer, plain_m as u64) {
-        println!("{name}: the library says {answer} {m}, the plain program {plain_answer} {plain_m}");
-        return false;
-    }
-    let [proved, plain] = least_times([
+    let Some((answer, m, entered)) = agree(name, &policy, &goal, &mut ours) else { return false };
+    // one entry too few is refused last, after every check of policy and goal
+    let (refusal, _) = ours.ask_with(&policy, &goal, size.nodes() - 1);
+    assert_eq!(refusal, "refused 11");
+    let mut checked = Ours::new(size.nodes());
+    let [proved, checks, plain, memory] = least_times([
         &mut || {
             std::hint::black_box(ours.ask(&policy, &goal));
         },
         &mut || {
+            std::hint::black_box(checked.ask_with(&policy, &goal, size.nodes() - 1));
+        },
+        &mut || {
             std::hint::black_box(fast_search::run(&policy, &goal));
+        },
+        &mut || {
+            std::hint::black_box(memory_search::run(&policy, &goal));
         },
     ]);
     let Size { types, roles, users, classes, allows, legs, .. } = size;
     println!(
-        "{name:34} {:14} {allows:6} {legs:4} {:9} {entered:9} {:10} {:11.3} {:11.3} {:8.3}",
+        "{name:34} {:14} {allows:6} {legs:4} {:9} {entered:9} {:10} {:10.3} {:9.3} {:10.3} {:8.3} {:10.3} {:8.3}",
         format!("{types} {roles} {users} {classes}"),
         size.nodes(),
         if m > 0 { format!("{answer} {m}") } else { answer },
         proved * 1e3,
+        checks * 1e3,
         plain * 1e3,
-        proved / plain
+        proved / plain,
+        memory * 1e3,
+        proved / memory
     );
     true
 }
 
-const USAGE: &str = "usage: ./bench [--list] [--only TEXT].. [--leave-out TEXT]..
-TEXT is a part of a case's name; --list prints the names.";
+/// Each program is asked once; false where the answers differ.
+fn ask_once(name: &str, size: &Size) -> bool {
+    let (policy, goal) = size.images(42);
+    let agreed = agree(name, &policy, &goal, &mut Ours::new(size.nodes()));
+    if let Some((answer, m, entered)) = &agreed {
+        println!("{name}: {answer} {m}, {entered} nodes entered");
+    }
+    agreed.is_some()
+}
+
+const USAGE: &str = "usage: ./bench [--list] [--once] [--only TEXT].. [--leave-out TEXT]..
+TEXT is a part of a case's name; --list prints the names; --once asks each program once and times nothing.";
 
 fn usage() -> ! {
     eprintln!("{USAGE}");
     std::process::exit(2)
 }
 
-/// The parts of names after each `--only` and each `--leave-out`.
-fn options(mut args: std::env::Args) -> (Vec<String>, Vec<String>, bool) {
-    let (mut only, mut left_out, mut list) = (vec![], vec![], false);
+#[derive(Default)]
+struct Options {
+    /// Parts of names.
+    only: Vec<String>,
+    left_out: Vec<String>,
+    list: bool,
+    /// For a tool that counts instructions: no rounds.
+    once: bool,
+}
+
+fn options(mut args: std::env::Args) -> Options {
+    let mut options = Options::default();
     args.next();
     while let Some(word) = args.next() {
+        let mut part = || args.next().unwrap_or_else(|| usage());
         match word.as_str() {
-            "--list" => list = true,
-            "--only" => only.push(args.next().unwrap_or_else(|| usage())),
-            "--leave-out" => left_out.push(args.next().unwrap_or_else(|| usage())),
+            "--list" => options.list = true,
+            "--once" => options.once = true,
+            "--only" => options.only.push(part()),
+            "--leave-out" => options.left_out.push(part()),
             _ => usage(),
         }
     }
-    (only, left_out, list)
+    options
 }
 
+const NOTE: &str =
+    "entered: nodes that the plain programs' two searches entered; checks: the part of the proved time up to the search;
+memory: the plain program with the memory of the proved search; ratio: proved / plain, below 1 the proved one is faster";
+
 fn main() {
-    let (only, left_out, list) = options(std::env::args());
+    let Options { only, left_out, list, once } = options(std::env::args());
     let names_one = |parts: &[String], name: &str| parts.iter().any(|part| name.contains(part.as_str()));
     if list {
         return cases().iter().for_each(|(name, _)| println!("{name}"));
     }
-    println!(
-        "{:34} {:14} {:>6} {:>4} {:>9} {:>9} {:10} {:>11} {:>11} {:>8}",
-        "case", "T R U C", "allows", "legs", "nodes", "entered", "answer", "proved ms", "plain ms", "ratio"
-    );
+    if !once {
+        println!(
+            "{:34} {:14} {:>6} {:>4} {:>9} {:>9} {:10} {:>10} {:>9} {:>10} {:>8} {:>10} {:>8}",
+            "case",
+            "T R U C",
+            "allows",
+            "legs",
+            "nodes",
+            "entered",
+            "answer",
+            "proved ms",
+            "checks ms",
+            "plain ms",
+            "ratio",
+            "memory ms",
+            "ratio"
+        );
+    }
     let mut agreed = true;
     let (asked, others): (Vec<_>, Vec<_>) = cases().into_iter().partition(|(name, _)| only.is_empty() || names_one(&only, name));
     for (name, size) in asked {
         match names_one(&left_out, &name) {
             true => println!("{name:34} left out, as asked"),
+            false if once => agreed &= ask_once(&name, &size),
             false => agreed &= measure(&name, &size),
         }
     }
     if !others.is_empty() {
         println!("{} other cases left out, as asked", others.len());
     }
-    println!(
-        "entered: nodes that the plain program's two searches entered; ratio: proved / plain, below 1 the proved one is faster"
-    );
+    if !once {
+        println!("{NOTE}");
+    }
     std::process::exit(!agreed as i32);
 }
