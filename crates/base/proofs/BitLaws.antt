@@ -2,15 +2,15 @@
 use mathlib.Core.Path.{_≡_, refl, sym, ap, ap₂, _∙_}
 use mathlib.Core.Bool.{Bool, true, false, not, _&&_, _||_}
 use Prim.Native.Nat.{ℕ, zero, suc, _+_, _-_, _*_, _/_, _%_, _^_, _≤_, _<_}
-use native.Mathlib.Nat.{mod-lt, div-eq-of-lt, lt-of-lt-of-le, one-mul, pow-suc, mul-assoc, mul-mod-left, zero-mul, add-zero}
+use native.Mathlib.Nat.{mod-lt, mod-eq-of-lt, div-eq-of-lt, lt-of-lt-of-le, one-mul, pow-suc, mul-assoc, mul-mod-left, zero-mul, add-zero}
 use native.Mathlib.Decide.{decLt}
 use native.Mathlib.Omega.{arith}
 use lib.Dec.{eqb, ltb, lit<}
 use lib.Pow.{pow-pos, pow-mono, pow-lt, pow-add, shr-shr, shl-shr, split, field, mod-mod-pow}
-use lib.Bits.{bitAnd, bitOr, and-shr, or-shr, and-mod, or-mod, and-mask, and-block, and-zero-r}
+use lib.Bits.{bitAnd, bitOr, bitXor, and-shr, or-shr, xor-shr, and-mod, or-mod, xor-mod, and-le-l, and-mask, and-block, and-zero-r}
 use borrow.Author.Tests.{lt-ltb, le-ltb, eq-eqb, ne-eqb}
 use native.Mathlib.Numerals.{one-add}
-use Rattle.base.specs.Bits.{bit}
+use Rattle.base.specs.Bits.{bit, With, Without}
 
 -- an operation on digits that acts on each digit apart
 module _ (op : ℕ → ℕ → ℕ) (f : Bool → Bool → Bool)
@@ -37,11 +37,39 @@ digit-or (suc zero) (suc zero) hx hy = refl
 digit-or (suc zero) (suc (suc y)) hx hy = absurd (omega arith)
 digit-or (suc (suc x)) y hx hy = absurd (omega arith)
 
+-- one bit or the other, and not both
+abbrev differs : Bool → Bool → Bool
+differs true b = not b
+differs false b = b
+
+digit-xor : (x y : ℕ) → x < 2 → y < 2 → eqb (bitXor x y) 1 ≡ differs (eqb x 1) (eqb y 1)
+digit-xor zero zero hx hy = refl
+digit-xor zero (suc zero) hx hy = refl
+digit-xor (suc zero) zero hx hy = refl
+digit-xor (suc zero) (suc zero) hx hy = refl
+digit-xor zero (suc (suc y)) hx hy = absurd (omega arith)
+digit-xor (suc zero) (suc (suc y)) hx hy = absurd (omega arith)
+digit-xor (suc (suc x)) y hx hy = absurd (omega arith)
+
 pub bit-and : (a b p : ℕ) → bit (bitAnd a b) p ≡ (bit a p && bit b p)
 bit-and = bit-op bitAnd _&&_ and-shr and-mod digit-and
 
 pub bit-or : (a b p : ℕ) → bit (bitOr a b) p ≡ (bit a p || bit b p)
 bit-or = bit-op bitOr _||_ or-shr or-mod digit-or
+
+bit-xor : (a b p : ℕ) → bit (bitXor a b) p ≡ differs (bit a p) (bit b p)
+bit-xor = bit-op bitXor differs xor-shr xor-mod digit-xor
+
+only-first : (a b : Bool) → (a && differs a b) ≡ (a && not b)
+only-first true b = refl
+only-first false b = refl
+
+pub without-law : (a b : ℕ) → Without a b (bitAnd a (bitXor a b))
+without-law a b =
+    record {
+      at = λ p. bit-and a (bitXor a b) p ∙ ap (λ (d : Bool). bit a p && d) (bit-xor a b p) ∙ only-first (bit a p) (bit b p);
+      most = and-le-l a (bitXor a b);
+    }
 
 -- a number has no bit from its length on
 pub bit-above : {m k : ℕ} (p : ℕ) → m < 2 ^ k → k ≤ p → bit m p ≡ false
@@ -134,3 +162,9 @@ bit-test m p =
     ∙ ap₂ (λ (x y : ℕ). x * 2 ^ p + y) (and-mask (m / 2 ^ p) 1) (and-zero-r (m % 2 ^ p))
     ∙ add-zero (m / 2 ^ p % 2 * 2 ^ p))
     ∙ digit-test (m / 2 ^ p % 2) p (omega arith)
+
+-- `1 << p` in 32 bits
+pub with-law : (m p : ℕ) → p < 32 → With m p (bitOr m (1 * 2 ^ p % 2 ^ 32))
+with-law m p h =
+    let e : 1 * 2 ^ p % 2 ^ 32 ≡ 2 ^ p = ap (λ (x : ℕ). x % 2 ^ 32) (one-mul (2 ^ p)) ∙ mod-eq-of-lt (pow-lt h) in
+    record { at = λ q. bit-or m (1 * 2 ^ p % 2 ^ 32) q ∙ ap (λ (x : ℕ). bit m q || bit x q) e ∙ ap (λ (b : Bool). bit m q || b) (bit-pow p q) }

@@ -4,3 +4,5 @@ pub mod Decide
 pub mod QuestionLaws
 pub mod ChainLaws
 pub mod BitLaws
+pub mod LowestLaws
+pub mod FillLaws

@@ -16,6 +16,13 @@ pub or-left : (a b : Bool) → a ≡ true → (a || b) ≡ true
 or-left true b e = refl
 or-left false b e = let z : _≡_ {A = ℕ} 0 1 = cc in absurd (omega arith)
 
+pub clash : {b : Bool} → b ≡ true → b ≡ false → ⊥
+clash p q = let z : _≡_ {A = ℕ} 0 1 = cc in omega arith
+
+pub first-false : (b c : Bool) → (b || c) ≡ false → b ≡ false
+first-false true c h = h
+first-false false c h = refl
+
 pub or-false : (a b : Bool) → a ≡ false → b ≡ false → (a || b) ≡ false
 or-false true b e f = e
 or-false false b e f = f

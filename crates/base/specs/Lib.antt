@@ -5,3 +5,4 @@ pub mod Ranges
 pub mod Upto
 pub mod Questions
 pub mod Chain
+pub mod Fill

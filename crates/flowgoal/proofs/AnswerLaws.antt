@@ -84,7 +84,7 @@ module _ {s g : List ℕ} {n : Counts} {l : Legs} {work1 work2 : ℕ} (P : Passe
   passed-task = task-of policy-sound (P .counts) sound-goal (P .legs)
 
   -- a plan has room for what is said of each context
-  pub plan-room : 26368 + contextCount n ≤ 83743
+  pub plan-room : 34560 + contextCount n ≤ 91935
   plan-room =
       let r = subst CountsInRange (sym (P .counts)) (policy-sound .range) in
       let h : contextCount n ≤ 57375

@@ -25,7 +25,8 @@ use Rattle.steps.specs.declared.nearest.Asker.{Asker}
 use Rattle.steps.specs.declared.nearest.Offer.{Offer}
 use Rattle.steps.specs.Nearest.{keyOf}
 use Rattle.steps.specs.Steps.{Offering, NextOffer, Facing}
-use Rattle.steps.proofs.NearestLaws.{key-few, first-false}
+use Rattle.base.proofs.UptoLaws.{first-false}
+use Rattle.steps.proofs.NearestLaws.{key-few}
 use Rattle.nodes.specs.declared.arrival.Arrival.{Arrival}
 use Rattle.nodes.specs.declared.arrival.Arrival.the-variants.{Enter, Dropped, Broken}
 use Rattle.nodes.specs.declared.monitor.Mode.{Mode}
@@ -39,9 +40,9 @@ use Rattle.nodes.specs.Tasks.{Task, graphOf, Stands, Asked, Faced}
 use Rattle.nodes.proofs.SearchLaws.{enter, take-up, turn-chain, chain-bound, end-turn}
 use Rattle.nodes.proofs.ArrivalLaws.{later}
 use Rattle.nodes.proofs.TypeLaws.{type-is, start-le, start-next}
-use Rattle.nodes.proofs.LevelLaws.{step-on, few-types, range-at, edge-free, edge-flow, not-target, swept-to, dropped, enter-below, entered, seen, broken}
+use Rattle.nodes.proofs.LevelLaws.{step-on, step-past, few-types, range-at, chain-open, edge-free, edge-flow, not-target, swept-to, dropped, enter-below, entered, seen, broken}
 use Rattle.memory.proofs.StandLaws.{Around}
-use Rattle.memory.proofs.MemoryLaws.{AskerOf, passed, memory-swept, memory-spent}
+use Rattle.memory.proofs.MemoryLaws.{AskerOf, passed, edge-like, memory-swept, memory-spent}
 
 -- in the turn of u, which stands at x: the steps before the offer are done
 pub record Middle (s g : List ℕ) (n : Counts) (plan : List ℕ) (l : Legs) (m : Mode) (states : ℕ) (back queue : List ℕ) (head tail stop depth u : ℕ) (x : Context) (state : ℕ)
@@ -194,13 +195,20 @@ module _ {s g : List ℕ} {n : Counts} {plan : List ℕ} {l : Legs} {m : Mode} {
           asker = I .asker;
           high = O .high;
           ahead = λ k. record { free = I .ahead .free; meets = I .ahead .meets; offering = O .offers k; unclosed = O .unclosed k; cursor = later (O .cursor) (O .low) };
-          turn = step-on A m (I .stands) (o .at + 1) (r .at) (swept-to A m (I .stands) (o .at) (type-high (I .fixed) (I .ahead)) (all-done h)) (O .low)
+          turn = step-on A m (I .stands) (o .at + 1) (r .at) here (O .low)
               (few-types A m (r .at) (O .high) (λ k. O .offers k .other .high))
-              (λ j w lw d b ed. passed A m (I .planned) N (I .stands) node-in (I .asker) lw ed (O .none j _ (range-at A m (I .stands) lw) d b (edge-flow A m (I .stands) lw ed)));
+              (λ j w lw d b ed.
+              ⊎-elim (passed A m (I .planned) N (I .stands) node-in (I .asker) lw ed)
+              (λ E. step-past A m (I .stands) (o .at + 1) here (E .at) w lw (E .before)
+              (edge-like A m (I .planned) N (I .stands) node-in (I .asker) (chain-open A m (turn-chain (I .turn))) lw ed (E .sets) (E .flows)))
+              (O .none j _ (range-at A m (I .stands) lw) d b (edge-flow A m (I .stands) lw ed)));
         }
       where
         A : Task s g n l
         A = I .fixed .task
+
+        here : Turn (graphOf s g n m) back queue head tail stop depth u ((o .at + 1) / 4096) (startOf n ((o .at + 1) % 4096) * 2 ^ legsOf g)
+        here = swept-to A m (I .stands) (o .at) (type-high (I .fixed) (I .ahead)) (all-done h)
 
     -- the event's sets
     pub sets-at : EventSets (goalOf g) (eventOf (o .at / 4096)) (eventsAt plan (o .at / 4096))

@@ -15,7 +15,7 @@ use lib.Seq.{getD-set-same, getD-set-other}
 use Rattle.base.specs.Bits.{bit}
 use Rattle.base.proofs.BitLaws.{bit-or, bit-zero}
 use Rattle.base.proofs.Numbers.{split-eq, split-le, zeros}
-use Rattle.base.proofs.UptoLaws.{or-cases}
+use Rattle.base.proofs.UptoLaws.{or-cases, first-false, clash}
 use Rattle.policy_image.specs.declared.counts.Counts.{Counts}
 use Rattle.policy_image.specs.Policy.{policyOf}
 use Rattle.context.specs.declared.Context.{Context}
@@ -34,7 +34,6 @@ use Rattle.steps.specs.declared.nearest.Asker.{Asker}
 use Rattle.steps.specs.declared.nearest.Offer.{Offer}
 use Rattle.steps.specs.Nearest.{keyOf, Passed}
 use Rattle.steps.specs.Steps.{Offering}
-use Rattle.steps.proofs.NearestLaws.{first-false}
 use Rattle.steps.proofs.FlowLaws.{flow-class, flow-held, plain-same}
 use Rattle.steps.proofs.OfferLaws.{plain-flow}
 use Rattle.nodes.specs.declared.monitor.Mode.{Mode}
@@ -46,11 +45,10 @@ use Rattle.nodes.specs.Tasks.{typeOf, Task, graphOf, Stands}
 use Rattle.nodes.specs.Blocks.{startOf, Asks, Ahead}
 use Rattle.memory.specs.Memory.{keepsOf, stateKey, Marks, Memory}
 use Rattle.nodes.proofs.SearchLaws.{clear-keep, turn-chain}
-use Rattle.steps.proofs.LowestLaws.{clash}
 use Rattle.nodes.proofs.ArrivalLaws.{by-of}
 use Rattle.nodes.proofs.TypeLaws.{type-le}
 use Rattle.memory.proofs.KeyLaws.{kept, step-by-key}
-use Rattle.nodes.proofs.LevelLaws.{place-lt, place-le, whole, chain-open, edge-flow, edge-freeE, edge-at, types-few, same-counts}
+use Rattle.nodes.proofs.LevelLaws.{place-lt, place-le, whole, chain-open, edge-flow, edge-free, edge-freeE, edge-at, types-few, same-counts}
 
 -- nothing is remembered at first
 pub memory-begin : (s g : List ℕ) (n : Counts) (m : Mode) (plan back : List ℕ) → Memory s g n m plan back (replicate 256 0) (replicate 256 0)
@@ -167,6 +165,19 @@ module _ {s g : List ℕ} {n : Counts} {l : Legs} (A : Task s g n l) (m : Mode) 
         let few : i / 32 < 32 = (let h = r .1 in let k = A .given .ready .sound .range .classes .high in let q = classes-same in omega arith) in
         N .over u i w lu lw ed (sym (P .policy .tables .special-at (i / 32) (i % 32) few) ∙ c .1)
         (ap₂ (λ (t k : ℕ). bit (getD spent t 0) k) (sym own-type) (sym (S .at)) ∙ sym (Q .spent-is) ∙ c .0)
+
+    -- an event in the same sets that flows to the same context leads to the same node
+    pub edge-like : ¬ T (M .σ (M .legs) (codeOf n K u)) → {i e w : ℕ} → w < G .k → G .Edge u i w → eventsAt plan e ≡ eventsAt plan i
+        → flow (policyOf s) (eventOf e) x (contextAtIndex n (placeOf K w)) ≡ true → G .Edge u e w
+    edge-like first {i} {e} {w} lw ed q f =
+        let y : Context = contextAtIndex n (placeOf K w) in
+        let r = sets-of i x y (edge-flow A m S lw ed) in
+        let r′ = sets-of e x y f in
+        let few : state < 64 = subst (λ (k : ℕ). k < 64) (Q .state-is) (Q .few) in
+        let free : eventIn (goalOf g) γe (eventOf e) ≡ false = sym (P .goal .events e (r′ .0) (r′ .1) .at 14) ∙ ap (λ (k : ℕ). bit k 14) q ∙ P .goal .events i (r .0) (r .1) .at 14 ∙ edge-freeE A m S ed in
+        edge-from S first (edge-free A m S ed) u i e w lw ed free f
+        (ap (λ (k : ℕ). W .step k i (codeOf n K w)) (sym (S .at))
+        ∙ step-by-key m state state (codeOf n K w) few few (by-at i (r .0) (r .1)) (by-at e (r′ .0) (r′ .1)) (ap (λ (k : ℕ). kept m state k) (sym q)))
 
     -- ---- the contexts of a type are swept
     module _ {queue : List ℕ} {head tail stop depth : ℕ} {o : Offer} (O : Ahead (policyOf s) (goalOf g) plan swept a x o)

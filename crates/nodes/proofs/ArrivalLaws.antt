@@ -2,6 +2,7 @@
 use mathlib.Core.Path.{_≡_, refl, sym, _∙_, ap, subst}
 use mathlib.Core.Bool.{Bool, true, false, not}
 use mathlib.Core.List.{List}
+use mathlib.Core.Logic.{⊎-elim}
 use Prim.Native.Nat.{ℕ, suc, _+_, _*_, _%_, _^_, _≤_, _<_}
 use native.Mathlib.Nat.{mul-le-mul-right}
 use native.Mathlib.Omega.{arith}
@@ -27,7 +28,7 @@ use Rattle.steps.specs.declared.nearest.Asker.{Asker}
 use Rattle.steps.specs.declared.nearest.Offer.{Offer}
 use Rattle.steps.specs.Nearest.{Cursor}
 use Rattle.steps.specs.Steps.{NextOffer}
-use Rattle.steps.proofs.LowestLaws.{clash}
+use Rattle.base.proofs.UptoLaws.{clash}
 use Rattle.steps.proofs.FlowLaws.{flow-held}
 use Rattle.nodes.specs.declared.arrival.Arrival.{Arrival}
 use Rattle.nodes.specs.declared.arrival.Arrival.the-variants.{Enter, Dropped, Broken}
@@ -179,5 +180,6 @@ module _ {p : Policy} {g : Goal} {plan swept : List ℕ} {a : Asker} {x : Contex
           unclosed = N .unclosed l;
           cursor = later (N .cursor) (omega arith);
         };
-        none = λ i z w l _ k. N .none i z w (omega arith) l k;
+        -- nothing was asked before the first step
+        none = λ i z w l _ k. ⊎-elim (λ h. h) (λ E. absurd (let h = E .before in omega arith)) (N .none i z w (omega arith) l k);
       }

@@ -37,7 +37,7 @@ use Rattle.nodes.specs.Tasks.{typeOf, Task, graphOf, Stands, Asked, Face
 use Rattle.nodes.proofs.SearchLaws.{pass-to, visited, found, turn-chain}
 use Rattle.nodes.proofs.NodeLaws.{place-of, state-of}
 use Rattle.nodes.proofs.ModelLaws.{to-true, of-true, bounded}
-use Rattle.steps.proofs.LowestLaws.{clash}
+use Rattle.base.proofs.UptoLaws.{clash}
 use Rattle.nodes.proofs.ArrivalLaws.{code-of-place}
 use Rattle.nodes.proofs.TypeLaws.{type-lt, type-le, start-le}
 
@@ -260,6 +260,21 @@ module _ {s g : List ℕ} {n : Counts} {l : Legs} (A : Task s g n l) (m : Mode) 
 
           bound : (w : ℕ) → w < startOf n (to % 4096) * K → w < G .k
           bound w h = room (startOf n (to % 4096)) w (start-le C (to % 4096) few) h
+
+      -- the steps before one are done
+      pub step-past : (at : ℕ) → Turn G back queue head tail stop depth u (at / 4096) (startOf n (at % 4096) * K) → (i w : ℕ) → w < G .k → 4096 * i + typeOf g n w < at → Through G back u i w
+      step-past at t i w lw h =
+          ⊎-elim
+          (λ (q : i ≡ at / 4096). subst (λ (k : ℕ). Through G back u k w) (sym q) (t .targets w (under q)))
+          (λ (k : i < at / 4096). t .events i w k lw)
+          (eq-or-lt-of-le (let z = type-small lw in let k : i ≤ at / 4096 = omega arith in k))
+        where
+          under : i ≡ at / 4096 → w < startOf n (at % 4096) * K
+          under q =
+              ⊎-elim
+              (λ (k : startOf n (at % 4096) * K ≤ w). absurd (let z = type-le C (at % 4096) (placeOf K w) (place-le (pow-pos (M .legs)) k) in omega arith))
+              (λ k. k)
+              (split-le (startOf n (at % 4096) * K) w)
 
       -- the context at place y is no target
       pub not-target : {e y : ℕ} → Turn G back queue head tail stop depth u e (y * K) → y < contextCount n

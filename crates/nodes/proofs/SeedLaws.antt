@@ -41,7 +41,7 @@ use Rattle.nodes.specs.Seeds.{Cleared, Roomy, BeginsOpen, BeginsNot, Beg
 use Rattle.nodes.proofs.SearchLaws.{below-or, seed-begin, seed-pass, seed-visit, seed-end}
 use Rattle.nodes.proofs.NodeLaws.{place-of, state-of}
 use Rattle.nodes.proofs.ModelLaws.{to-true, of-true, bounded}
-use Rattle.steps.proofs.LowestLaws.{clash}
+use Rattle.base.proofs.UptoLaws.{clash}
 use Rattle.nodes.proofs.ArrivalLaws.{code-of-place, in-set, into-of, legs-of, lands, sets-at}
 use Rattle.nodes.proofs.LevelLaws.{place-lt, place-le, whole, in-range-T, next-block}
 

@@ -26,9 +26,10 @@ use Rattle.index.proofs.MeaningLaws.{entry-towards, entry-from}
 use Rattle.goal_image.specs.Goal.{goalOf}
 use Rattle.goal_image.specs.Sets.{EventSets}
 use Rattle.context.specs.Codes.{eventOf}
-use Rattle.plan.specs.Fill.{Filled}
-use Rattle.plan.proofs.FillLaws.{fill-begin, fill-more}
-use Rattle.plan.specs.Plan.{Ready, firstAt, keyAt, outsAt, insAt, guardsAt, contextsAt, specialsAt, EntryOf, OfferBlock, Blocks, Tops, BlocksPut, GuardsOf, GuardsPut, TablesPut, Known, Planned}
+use Rattle.base.specs.Fill.{Filled}
+use Rattle.base.proofs.FillLaws.{fill-begin, fill-more}
+use Rattle.plan.proofs.LeadLaws.{last-first}
+use Rattle.plan.specs.Plan.{Ready, firstAt, keyAt, outsAt, insAt, guardsAt, contextsAt, specialsAt, EntryOf, OfferBlock, Blocks, Tops, BlocksPut, GuardsOf, GuardsPut, LeadsPut, TablesPut, Known, Planned}
 
 -- ---- bounds
 module _ {s : List ℕ} {n : Counts} (R : Ready s n) where
@@ -263,35 +264,61 @@ guarding-end G h =
     }
 
 -- ---- the whole plan
-pub planned : {s g old p1 p2 p3 p4 plan : List ℕ} {n : Counts} {classes types : ℕ} → 26368 + contextCount n ≤ length plan → classes ≡ n .classes → Ready s n → types ≡ n .types
+pub planned : {s g old p1 p2 p3 p4 p5 plan : List ℕ} {n : Counts} {classes types : ℕ} → 34560 + contextCount n ≤ length plan → classes ≡ n .classes → Ready s n → types ≡ n .types
     → Filled (λ e v. EventSets (goalOf g) (eventOf e) v) old p1 25344 32 (32 * (classes + 1))
-    → Filled (λ y v. Known (policyOf s) (goalOf g) (contextAtIndex n y) v) p1 p2 26368 0 (contextCount n)
-    → TablesPut (policyOf s) p2 p3 → BlocksPut (policyOf s) p3 p4 → GuardsPut types p4 plan → Planned s g n plan
-planned {s} {g} {old} {p1} {p2} {p3} {p4} {plan} {n} {classes} {types} size same R st E C A B D =
+    → Filled (λ y v. Known (policyOf s) (goalOf g) (contextAtIndex n y) v) p1 p2 34560 0 (contextCount n)
+    → TablesPut (policyOf s) p2 p3 → BlocksPut (policyOf s) p3 p4 → GuardsPut types p4 p5 → LeadsPut (policyOf s) types p5 plan → Planned s g n plan
+planned {s} {g} {old} {p1} {p2} {p3} {p4} {p5} {plan} {n} {classes} {types} size same R st E C A B D L =
     record {
       policy = record {
         size = size;
         tables = record {
-          special-at = λ c q h. ap (λ (k : ℕ). bit k q) (D .below c (omega arith) ∙ B .below c (omega arith)) ∙ A .tables .special-at c q h;
-          change = λ r1 r2 h. ap (λ (k : ℕ). bit k r2) (D .below (32 + r1) (omega arith) ∙ B .below (32 + r1) (omega arith)) ∙ A .tables .change r1 r2 h;
+          special-at = λ c q h. ap (λ (k : ℕ). bit k q) (to-four c (omega arith) ∙ B .below c (omega arith)) ∙ A .tables .special-at c q h;
+          change = λ r1 r2 h. ap (λ (k : ℕ). bit k r2) (to-four (32 + r1) (omega arith) ∙ B .below (32 + r1) (omega arith)) ∙ A .tables .change r1 r2 h;
         };
-        index = kept-blocks (policyOf s) p4 plan (all-few R) (D .below) (B .blocks);
-        guards = λ t w. kept-guards (policyOf s) p4 plan (all-few R) (D .below) (B .blocks) t (guardsAt plan t) w (D .guards t (record { low = w .low; high = omega (arith, w .high, types-same R) }));
+        index = blocks;
+        guards = λ t w. kept-guards (policyOf s) p4 plan (all-few R) to-four (B .blocks) t (guardsAt plan t) w
+            (subst (GuardsOf p4 (firstAt p4 t) (firstAt p4 (t + 1))) (sym (L .below (25088 + t) (let h = w .high in let k = all-few R in omega arith)))
+            (D .guards t (record { low = w .low; high = omega (arith, w .high, types-same R) })));
+        leads = λ t j w lo hi.
+            let k = last-first blocks t w in
+            let few = all-few R in
+            let top = blocks .tops t w in
+            let e : types ≡ policyOf s .counts .types = omega (arith, types-same R) in
+            let f : firstAt plan (types + 1) ≡ firstAt p5 (types + 1) = L .below (64 + (types + 1)) (omega arith) in
+            let g : firstAt plan (types + 1) ≡ firstAt plan (policyOf s .counts .types + 1) = ap (λ (i : ℕ). firstAt plan (i + 1)) e in
+            let key : keyAt plan j ≡ keyAt p5 j = L .below (512 + j) (omega arith) in
+            L .leads j (omega arith) (let z = blocks .blocks t w .ranged j lo hi .class .high in omega arith);
         meets = λ y h. known y h .holds;
       };
       goal = record {
         size = size;
         events = λ e l h.
-            subst (EventSets (goalOf g) (eventOf e)) (sym (after (25344 + e) (omega arith) ∙ C .below (25344 + e) (let few = classes-few R in omega arith))) (E .here e l (omega arith));
+            subst (EventSets (goalOf g) (eventOf e))
+            (sym (L .below (25344 + e) (let few = classes-few R in omega arith) ∙ after (25344 + e) (omega arith) ∙ C .below (25344 + e) (let few = classes-few R in omega arith))) (E .here e l (omega arith));
         contexts = λ y h. known y h .sets;
       };
     }
   where
-    after : (i : ℕ) → 25344 ≤ i → getD plan i 0 ≡ getD p2 i 0
+    to-four : (i : ℕ) → i < 25088 → getD plan i 0 ≡ getD p4 i 0
+    to-four i h = L .below i (omega arith) ∙ D .below i h
+
+    blocks : Blocks (policyOf s) plan
+    blocks = kept-blocks (policyOf s) p4 plan (all-few R) to-four (B .blocks)
+
+    after : (i : ℕ) → 25344 ≤ i → getD p5 i 0 ≡ getD p2 i 0
     after i h = D .above i h ∙ B .above i h ∙ A .above i (omega arith)
 
     known : (y : ℕ) → y < contextCount n → Known (policyOf s) (goalOf g) (contextAtIndex n y) (contextsAt plan y)
-    known y h = subst (Known (policyOf s) (goalOf g) (contextAtIndex n y)) (sym (after (26368 + y) (omega arith))) (C .here y (omega arith) h)
+    known y h = subst (Known (policyOf s) (goalOf g) (contextAtIndex n y)) (sym (L .above (34560 + y) (omega arith) ∙ after (34560 + y) (omega arith))) (C .here y (omega arith) h)
+
+-- the last block's end
+pub last-top : {s : List ℕ} {n : Counts} {plan : List ℕ} → Ready s n → Tops (n .types) plan → firstAt plan (n .types + 1) ≤ 8192
+last-top {n = n} R T = T .at (n .types) (record { low = omega (arith, types-same R, all-some R); high = omega arith })
+
+-- the guards leave the blocks' ends
+pub tops-after : {types : ℕ} {old plan : List ℕ} → types ≤ 255 → GuardsPut types old plan → Tops types old → Tops types plan
+tops-after few D T = record { at = λ t w. let h = w .high in omega (arith, T .at t w, D .below (64 + (t + 1)) (omega arith)) }
 
 pub tops-of : {p : Policy} {old plan : List ℕ} {types : ℕ} → BlocksPut p old plan → types ≡ p .counts .types → Tops types plan
 tops-of B e = record { at = λ t w. B .blocks .tops t (record { low = w .low; high = omega (arith, w .high) }) }

@@ -27,7 +27,7 @@ use Rattle.goal_image.specs.Goal.{Goal, isContextChain}
 use Rattle.goal_image.specs.Sets.{contextIn, ContextSets, EventSets}
 use Rattle.goal_model.specs.Images.{held}
 use Rattle.tables.specs.Tables.{ConstraintMasks, RoleTable, UserTable, RoleChanges}
-use Rattle.plan.specs.Fill.{Filled}
+use Rattle.base.specs.Fill.{Filled}
 use Rattle.plan.specs.Plan.{Ready, special, TablesPut, Noted, Known}
 
 pub zero-plus : (c : ℕ) → 0 + c ≡ c

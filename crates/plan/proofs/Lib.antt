@@ -1,3 +1,3 @@
-pub mod FillLaws
 pub mod KnownLaws
 pub mod BlockLaws
+pub mod LeadLaws

@@ -1,2 +1,2 @@
-pub mod Fill
 pub mod Plan
+pub mod Leads

@@ -64,8 +64,11 @@ guardsAt plan type = getD plan (25088 + type) 0
 abbrev pub eventsAt : List ℕ → ℕ → ℕ
 eventsAt plan e = getD plan (25344 + e) 0
 
+abbrev pub leadsAt : List ℕ → ℕ → ℕ
+leadsAt plan j = getD plan (26368 + j) 0
+
 abbrev pub contextsAt : List ℕ → ℕ → ℕ
-contextsAt plan y = getD plan (26368 + y) 0
+contextsAt plan y = getD plan (34560 + y) 0
 
 -- an event whose flow depends on more than types, ρ and μ: there is a constraint on it, or it is process transition
 unfoldable pub special : Policy → Event → Bool
@@ -130,6 +133,33 @@ pub record GuardsPut (types : ℕ) (old plan : List ℕ) : Type 0 where
   pub below : (i : ℕ) → i < 25088 → getD plan i 0 ≡ getD old i 0
   pub above : (i : ℕ) → 25344 ≤ i → getD plan i 0 ≡ getD old i 0
 
+-- two events that a search cannot tell apart: in the same sets of the goal, by the plan, under the same constraints, and process
+-- transition both or neither
+pub record Alike (p : Policy) (plan : List ℕ) (e f : ℕ) : Type 0 where
+  pub sets : eventsAt plan e ≡ eventsAt plan f
+  pub constrained : (j : ℕ) → 1 ≤ j → j ≤ p .size → p .rec j .kind ≡ 8 → constrains (p .rec j) (eventOf e) ≡ constrains (p .rec j) (eventOf f)
+  pub transition : isTransition (eventOf e) ≡ isTransition (eventOf f)
+
+-- of the permissions of class c in the mask, one that is among the leads stands for q: it is like q, and q or below it
+pub record Leader (p : Policy) (plan : List ℕ) (c mask leads q : ℕ) : Type 0 where
+  pub perm : ℕ
+  pub low : perm ≤ q
+  pub bears : bit mask perm ≡ true
+  pub leading : bit leads perm ≡ true
+  pub alike : Alike p plan (32 * c + perm) (32 * c + q)
+
+-- the leads of entry j are some of its permissions, and for each of its permissions one of them stands that goes the same way
+pub record Leads (p : Policy) (plan : List ℕ) (j : ℕ) : Type 0 where
+  pub among : (q : ℕ) → bit (leadsAt plan j) q ≡ true → bit (bitOr (outsAt plan j) (insAt plan j)) q ≡ true
+  pub outs : (q : ℕ) → q < 32 → bit (outsAt plan j) q ≡ true → Leader p plan (keyAt plan j / 4096) (outsAt plan j) (leadsAt plan j) q
+  pub ins : (q : ℕ) → q < 32 → bit (insAt plan j) q ≡ true → Leader p plan (keyAt plan j / 4096) (insAt plan j) (leadsAt plan j) q
+
+-- .. of every entry, put into the list old, and the other regions are as they were
+pub record LeadsPut (p : Policy) (types : ℕ) (old plan : List ℕ) : Type 0 where
+  pub leads : (j : ℕ) → j < firstAt old (types + 1) → keyAt old j / 4096 < 32 → Leads p plan j
+  pub below : (i : ℕ) → i < 26368 → getD plan i 0 ≡ getD old i 0
+  pub above : (i : ℕ) → 34560 ≤ i → getD plan i 0 ≡ getD old i 0
+
 -- the sets with bit 31 set where h holds
 pub record Noted (sets : ℕ) (h : Bool) (v : ℕ) : Type 0 where
   pub at : (i : ℕ) → bit v i ≡ (bit sets i || (h && eqb 31 i))
@@ -141,15 +171,16 @@ pub record Known (p : Policy) (g : Goal) (x : Context) (v : ℕ) : Type 0 where
 
 -- what the plan says of the policy s, whatever the goal
 pub record PolicyPlan (s : List ℕ) (n : Counts) (plan : List ℕ) : Type 0 where
-  pub size : 26368 + contextCount n ≤ length plan
+  pub size : 34560 + contextCount n ≤ length plan
   pub tables : Tabled (policyOf s) plan
   pub index : Blocks (policyOf s) plan
   pub guards : (t : ℕ) → Within 1 (policyOf s .counts .types) t → GuardsOf plan (firstAt plan t) (firstAt plan (t + 1)) (guardsAt plan t)
+  pub leads : (t j : ℕ) → Within 1 (policyOf s .counts .types) t → firstAt plan t ≤ j → j < firstAt plan (t + 1) → Leads (policyOf s) plan j
   pub meets : (y : ℕ) → y < contextCount n → bit (contextsAt plan y) 31 ≡ held (policyOf s) (contextAtIndex n y)
 
 -- .. and of the goal g, for contexts and events of a policy with the counts n
 pub record GoalPlan (g : List ℕ) (n : Counts) (plan : List ℕ) : Type 0 where
-  pub size : 26368 + contextCount n ≤ length plan
+  pub size : 34560 + contextCount n ≤ length plan
   pub events : (e : ℕ) → 32 ≤ e → e < 32 * (n .classes + 1) → EventSets (goalOf g) (eventOf e) (eventsAt plan e)
   pub contexts : (y : ℕ) → y < contextCount n → ContextSets (goalOf g) (contextAtIndex n y) (contextsAt plan y % 32768)
 

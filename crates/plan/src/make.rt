@@ -1,6 +1,7 @@
 // The plan of a policy and a goal.
 use crate::fill::put;
 use crate::fill::put_cut;
+use crate::leads::put_leads;
 use crate::regions::CHANGES;
 use crate::regions::CONTEXTS;
 use crate::regions::EVENTS;
@@ -40,7 +41,7 @@ ghost use Rattle.goal_image.specs.Sets.{EventSets};
 ghost use Rattle.goal_image.specs.Sound.{SoundGoal};
 ghost use Rattle.goal_model.specs.Images.{held};
 ghost use Rattle.index.specs.Meaning.{AllowIndex};
-ghost use Rattle.plan.specs.Fill.{Filled};
+ghost use Rattle.base.specs.Fill.{Filled};
 ghost use Rattle.base.specs.Bits.{bit};
 ghost use Rattle.plan.specs.Plan.{Ready, Lists, Tops, TablesPut, BlocksPut, GuardsOf, GuardsPut, Noted, Known, Planned};
 
@@ -179,8 +180,8 @@ fn known(sets: u32, held: bool) -> u32
 
 // The same for each context.
 fn put_contexts(policy: &[u8], goal: &[u8], counts: Counts, plan: &mut [u32])
-    requires { ⌜ Ready (now policy) counts × SoundGoal (now goal) × (26368 + contextCount counts ≤ length (now plan)) ⌝ }
-    ensures { λ _. ⌜ Filled (λ y v. Known (policyOf (now (policy .entry))) (goalOf (now (goal .entry))) (contextAtIndex counts y) v) (now (plan .entry)) (now (plan .exit)) 26368 0 (contextCount counts) ⌝ }
+    requires { ⌜ Ready (now policy) counts × SoundGoal (now goal) × (34560 + contextCount counts ≤ length (now plan)) ⌝ }
+    ensures { λ _. ⌜ Filled (λ y v. Known (policyOf (now (policy .entry))) (goalOf (now (goal .entry))) (contextAtIndex counts y) v) (now (plan .entry)) (now (plan .exit)) 34560 0 (contextCount counts) ⌝ }
 {
     let domains = domain_table(policy);
     let roles = role_table(policy, &domains);
@@ -198,7 +199,7 @@ fn put_contexts(policy: &[u8], goal: &[u8], counts: Counts, plan: &mut [u32])
 
 // Makes the plan.
 pub fn make_plan(policy: &[u8], goal: &[u8], counts: Counts, plan: &mut [u32])
-    requires { ⌜ Ready (now policy) counts × SoundGoal (now goal) × (26368 + contextCount counts ≤ length (now plan)) ⌝ }
+    requires { ⌜ Ready (now policy) counts × SoundGoal (now goal) × (34560 + contextCount counts ≤ length (now plan)) ⌝ }
     ensures { λ _. ⌜ Planned (now (policy .entry)) (now (goal .entry)) counts (now (plan .exit)) ⌝ }
 {
     put_events(goal, counts.classes, plan);
@@ -206,4 +207,5 @@ pub fn make_plan(policy: &[u8], goal: &[u8], counts: Counts, plan: &mut [u32])
     put_tables(policy, plan);
     put_index(policy, counts, plan);
     put_guards(plan, counts.types);
+    put_leads(policy, counts, plan);
 }

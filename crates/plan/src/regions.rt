@@ -22,8 +22,11 @@ pub const GUARDS: usize = 25088;
 // By event: the γ sets that it is in.
 pub const EVENTS: usize = 25344;
 
+// By entry: of its permissions, both ways, those that stand for the others.
+pub const LEADS: usize = 26368;
+
 // By the place of a context: the σ sets that it is in, and in bit 31 whether it meets ρ and μ.
-pub const CONTEXTS: usize = 26368;
+pub const CONTEXTS: usize = 34560;
 
 // How many entries a plan has at most.
-pub const ENTRIES: usize = 83743;
+pub const ENTRIES: usize = 91935;

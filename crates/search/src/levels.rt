@@ -1,4 +1,5 @@
 // The search level by level: of the nodes in the queue, the events rising, and of each the types and their contexts rising.
+use base::bits::has_member;
 use context::Context;
 use goal_image::check::Legs;
 use memory::keeps_of;
@@ -12,7 +13,6 @@ use nodes::monitor::Mode;
 use nodes::places::first_place;
 use plan::regions::EVENTS;
 use policy_image::counts::Counts;
-use steps::bits::has_member;
 use steps::nearest::Asker;
 use steps::nearest::NONE;
 use steps::nearest::key_of;

@@ -9,7 +9,7 @@ use borrow.Author.Tests.{eqb-true}
 use lib.Dec.{eqb}
 use Rattle.base.specs.Bits.{bit}
 use Rattle.base.specs.Ranges.{Within}
-use Rattle.base.proofs.UptoLaws.{or-cases, or-left, or-true, and-true, and-first, and-second, true-or-false}
+use Rattle.base.proofs.UptoLaws.{or-cases, or-left, or-true, and-true, and-first, and-second, true-or-false, clash}
 use Rattle.policy_image.specs.Layout.{rootOf}
 use Rattle.policy_image.specs.Policy.{Policy, policyOf}
 use Rattle.policy_image.specs.OfKind.{some}
@@ -25,7 +25,6 @@ use Rattle.constraints.specs.Eval.{evalNode}
 use Rattle.access.specs.Authorization.{χ, roleRule, authorized, flow}
 use Rattle.goal_model.specs.Images.{held}
 use Rattle.plan.specs.Plan.{special}
-use Rattle.steps.proofs.LowestLaws.{clash}
 
 module _ (p : Policy) (e : Event) where
   pub alpha-defined : (t o : ℕ) → α p t o e ≡ true → Γ p e ≡ true

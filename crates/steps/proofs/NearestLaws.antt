@@ -13,9 +13,9 @@ use Rattle.base.specs.Bits.{bit}
 use Rattle.base.proofs.BitLaws.{bit-and, bit-or, bit-ext}
 use Rattle.base.proofs.UptoLaws.{and-true, and-first, or-true, true-or-false}
 use Rattle.base.proofs.Numbers.{split-le, split-eq}
-use Rattle.plan.specs.Plan.{specialAt, keyAt, eventsAt}
+use Rattle.plan.specs.Plan.{specialAt, keyAt, eventsAt, leadsAt}
 use Rattle.steps.specs.declared.nearest.Asker.{Asker}
-use Rattle.steps.specs.Nearest.{firstStep, maskAt, keyOf, closed, StepBy, EntryStep, OpenStep, AskedMask, Passed, Skipped, Block, Cursor, OfferedAt, Nearest}
+use Rattle.steps.specs.Nearest.{firstStep, keyOf, closed, StepBy, EntryStep, OpenStep, AskedMask, Passed, Skipped, Block, Cursor, OfferedAt, Nearest}
 
 pub skip-begin : (plan : List ℕ) (stop a class : ℕ) → a ≤ stop → Skipped plan stop a class a
 skip-begin plan stop a class h = record { low = omega arith; high = h; passed = λ j l k. absurd (omega arith) }
@@ -32,10 +32,6 @@ skip-more {plan} {stop} {a} {class} {j} S h c =
 -- ---- closed steps
 pub key-few : (a : Asker) (by : ℕ) → a .state < 64 → keyOf a by < 64
 key-few a by h = omega (arith, and-le-l (a .state) (bitOr (a .keeps) (by / 2 ^ 7)))
-
-pub first-false : (b c : Bool) → (b || c) ≡ false → b ≡ false
-first-false true c h = h
-first-false false c h = refl
 
 pub closed-first : (a : Asker) (by done : ℕ) {b : Bool} → b ≡ bit by 14 → b ≡ true → true ≡ closed a by done
 closed-first a by done p t = sym (ap (λ (z : Bool). z || bit done (keyOf a by)) (sym p ∙ t))
@@ -137,7 +133,7 @@ pub record Looking (plan swept : List ℕ) (a : Asker) (lo stop from start at en
   pub asked : from ≤ 4194304
   pub offers : at < 4194304 → OfferedAt plan lo stop entry at
   pub unclosed : at < 4194304 → closed a (eventsAt plan (at / 4096)) (getD swept (at % 4096) 0) ≡ false
-  pub least : (i q : ℕ) → lo ≤ i → i < j → q < 32 → bit (maskAt plan i) q ≡ true → from ≤ firstStep (keyAt plan i) + 4096 * q
+  pub least : (i q : ℕ) → lo ≤ i → i < j → q < 32 → bit (leadsAt plan i) q ≡ true → from ≤ firstStep (keyAt plan i) + 4096 * q
       → (at ≤ firstStep (keyAt plan i) + 4096 * q) ⊎ Passed plan swept a (32 * (keyAt plan i / 4096) + q) (keyAt plan i % 4096)
 
 -- every step of a class below comes before
@@ -181,12 +177,12 @@ module _ {plan swept : List ℕ} {a : Asker} {lo stop from start at entry j : �
   pub look-other : j < stop → keyAt plan j % 4096 < 256
   look-other h = L .block .others j from-lo h
 
-  module _ {s m : ℕ} (h : j < stop) (A : AskedMask plan a (keyAt plan j) (maskAt plan j) m) (E : OpenStep plan a (getD swept (keyAt plan j % 4096) 0) (keyAt plan j) m from s) where
+  module _ {s m : ℕ} (h : j < stop) (A : AskedMask plan a (keyAt plan j) (leadsAt plan j) m) (E : OpenStep plan a (getD swept (keyAt plan j % 4096) 0) (keyAt plan j) m from s) where
     abbrev k : ℕ
     k = keyAt plan j
 
     -- what the entry itself passes over
-    own : (q : ℕ) → q < 32 → bit (maskAt plan j) q ≡ true → from ≤ firstStep k + 4096 * q → (s ≤ firstStep k + 4096 * q) ⊎ Passed plan swept a (32 * (k / 4096) + q) (k % 4096)
+    own : (q : ℕ) → q < 32 → bit (leadsAt plan j) q ≡ true → from ≤ firstStep k + 4096 * q → (s ≤ firstStep k + 4096 * q) ⊎ Passed plan swept a (32 * (k / 4096) + q) (k % 4096)
     own q lq x f =
         ⊎-elim (λ b. ⊎-elim (λ n. inl n) (λ c. inr (inl c)) (E .least q lq b f))
         (λ w. inr (inr (
@@ -196,14 +192,14 @@ module _ {plan swept : List ℕ} {a : Asker} {lo stop from start at entry j : �
         )))
         (A .all q x)
 
-    both : {to : ℕ} → to ≤ at → to ≤ s → (i q : ℕ) → lo ≤ i → i < j + 1 → q < 32 → bit (maskAt plan i) q ≡ true
+    both : {to : ℕ} → to ≤ at → to ≤ s → (i q : ℕ) → lo ≤ i → i < j + 1 → q < 32 → bit (leadsAt plan i) q ≡ true
         → from ≤ firstStep (keyAt plan i) + 4096 * q
         → (to ≤ firstStep (keyAt plan i) + 4096 * q) ⊎ Passed plan swept a (32 * (keyAt plan i / 4096) + q) (keyAt plan i % 4096)
     both {to} n1 n2 i q l g lq x f =
         ⊎-elim
         (λ (e : i ≡ j).
         subst (λ (z : ℕ). (to ≤ firstStep (keyAt plan z) + 4096 * q) ⊎ Passed plan swept a (32 * (keyAt plan z / 4096) + q) (keyAt plan z % 4096)) (sym e)
-        (nearer n2 (own q lq (subst (λ (z : ℕ). bit (maskAt plan z) q ≡ true) e x) (subst (λ (z : ℕ). from ≤ firstStep (keyAt plan z) + 4096 * q) e f))))
+        (nearer n2 (own q lq (subst (λ (z : ℕ). bit (leadsAt plan z) q ≡ true) e x) (subst (λ (z : ℕ). from ≤ firstStep (keyAt plan z) + 4096 * q) e f))))
         (λ (d : i ≡ j → ⊥). nearer n1 (L .least i q l (omega (arith, d)) lq x f))
         (split-eq i j)
       where
@@ -245,7 +241,7 @@ module _ {plan swept : List ℕ} {a : Asker} {lo stop from start at entry j : �
           least = both (omega arith) n;
         }
 
-  found : ((i q : ℕ) → lo ≤ i → i < stop → q < 32 → bit (maskAt plan i) q ≡ true → from ≤ firstStep (keyAt plan i) + 4096 * q
+  found : ((i q : ℕ) → lo ≤ i → i < stop → q < 32 → bit (leadsAt plan i) q ≡ true → from ≤ firstStep (keyAt plan i) + 4096 * q
       → (at ≤ firstStep (keyAt plan i) + 4096 * q) ⊎ Passed plan swept a (32 * (keyAt plan i / 4096) + q) (keyAt plan i % 4096))
       → Nearest plan swept a lo stop from (record { group = start; entry = entry; at = at })
   found all = record { high = L .high; low = L .low; offers = L .offers; unclosed = L .unclosed; least = all; cursor = L .cursor }

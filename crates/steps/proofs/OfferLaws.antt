@@ -6,10 +6,13 @@ use mathlib.Core.Logic.{_⊎_, inl, inr, ⊎-elim}
 use mathlib.Core.Path.{_≡_, sym, ap, ap₂, subst, _∙_}
 use native.Mathlib.Omega.{arith}
 use borrow.Author.Tests.{not-true, not-false}
+use lib.Bits.{bitOr}
+use lib.ListN.{getD}
 use Rattle.base.specs.Bits.{bit}
 use Rattle.base.specs.Ranges.{Within}
+use Rattle.base.proofs.Numbers.{split-le}
 use Rattle.base.proofs.BitLaws.{bit-and, bit-or, bit-zero}
-use Rattle.base.proofs.UptoLaws.{or-cases, or-left, or-true, and-true, and-first, true-or-false}
+use Rattle.base.proofs.UptoLaws.{or-cases, or-left, or-true, and-true, and-first, and-second, true-or-false, clash}
 use Rattle.policy_image.specs.declared.counts.Counts.{Counts}
 use Rattle.policy_image.specs.Policy.{Policy, policyOf}
 use Rattle.context.specs.declared.Context.{Context}
@@ -20,13 +23,13 @@ use Rattle.relations.specs.Relations.{α, roleChange, writeLike, readLike}
 use Rattle.constraints.specs.Constraints.{constraintsHold}
 use Rattle.access.specs.Authorization.{roleRule, flow}
 use Rattle.goal_model.specs.Images.{held}
-use Rattle.plan.specs.Plan.{Ready, specialAt, firstAt, keyAt, outsAt, insAt, guardsAt, special, OfferBlock, PolicyPlan}
+use Rattle.plan.specs.Plan.{Ready, specialAt, firstAt, keyAt, outsAt, insAt, guardsAt, leadsAt, special, EntryOf, OfferBlock, Alike, Leader, PolicyPlan}
 use Rattle.steps.specs.declared.nearest.Asker.{Asker}
 use Rattle.steps.specs.declared.nearest.Offer.{Offer}
-use Rattle.steps.specs.Nearest.{firstStep, maskAt, Passed, Block, Cursor, Nearest}
+use Rattle.steps.specs.Nearest.{firstStep, closed, Passed, Block, Cursor, Nearest}
 use Rattle.steps.specs.Steps.{Offering, NextOffer}
-use Rattle.steps.proofs.LowestLaws.{clash}
-use Rattle.steps.proofs.FlowLaws.{alpha-defined, defined-class, flow-alpha, flow-class, flow-by, plain-conditions, conditions}
+use Rattle.steps.proofs.FlowLaws.{alpha-defined, defined-class, flow-alpha, flow-class, flow-held, flow-by, plain-conditions, conditions}
+use Rattle.steps.proofs.AlikeLaws.{special-same, conditions-same}
 
 module _ {s : List ℕ} {n : Counts} {plan : List ℕ} (R : Ready s n) (P : PolicyPlan s n plan) where
   abbrev p : Policy
@@ -71,19 +74,22 @@ module _ {s : List ℕ} {n : Counts} {plan : List ℕ} (R : Ready s n) (P : Poli
     hi = firstAt plan (x .ty + 1)
 
     -- an entry of x's block, and a permission that it bears
-    module _ (j q : ℕ) (l : lo ≤ j) (k : j < hi) (lq : q < 32) (b : bit (maskAt plan j) q ≡ true) where
+    module _ (j q : ℕ) (l : lo ≤ j) (k : j < hi) (lq : q < 32) (b : bit (leadsAt plan j) q ≡ true) where
       abbrev c : ℕ
       c = keyAt plan j / 4096
 
       abbrev o : ℕ
       o = keyAt plan j % 4096
 
+      bears : bit (bitOr (outsAt plan j) (insAt plan j)) q ≡ true
+      bears = P .leads (x .ty) j (type-in h) l k .among q b
+
       defined : Within 1 (p .counts .classes) c
       defined =
           ⊎-elim
           (λ a. defined-class p (eventAt c q) (R .sound .fields) (alpha-defined p (eventAt c q) (x .ty) o (and-first (α p (x .ty) o (eventAt c q)) (writeLike p (eventAt c q)) (sym (block-of h .outs j q l k lq) ∙ a))))
           (λ a. defined-class p (eventAt c q) (R .sound .fields) (alpha-defined p (eventAt c q) o (x .ty) (and-first (α p o (x .ty) (eventAt c q)) (readLike p (eventAt c q)) (sym (block-of h .ins j q l k lq) ∙ a))))
-          (or-cases (bit (outsAt plan j) q) (bit (insAt plan j) q) (sym (bit-or (outsAt plan j) (insAt plan j) q) ∙ b))
+          (or-cases (bit (outsAt plan j) q) (bit (insAt plan j) q) (sym (bit-or (outsAt plan j) (insAt plan j) q) ∙ bears))
 
       offering-at : (e o′ : ℕ) → c ≡ e / 32 → q ≡ e % 32 → o ≡ o′ → Offering p plan (x .ty) e o′ j
       offering-at e o′ qc qq qo =
@@ -96,7 +102,7 @@ module _ {s : List ℕ} {n : Counts} {plan : List ℕ} (R : Ready s n) (P : Poli
             other = subst (Within 1 (p .counts .types)) qo (block-of h .ranged j l k .other);
             outs = subst (λ (i : ℕ). bit (outsAt plan j) i ≡ (α p (x .ty) o′ (eventOf e) && writeLike p (eventOf e))) qq (block-of h .outs j q l k lq ∙ same);
             ins = subst (λ (i : ℕ). bit (insAt plan j) i ≡ (α p o′ (x .ty) (eventOf e) && readLike p (eventOf e))) qq (block-of h .ins j q l k lq ∙ same′);
-            some = subst (λ (i : ℕ). bit (maskAt plan j) i ≡ true) qq b;
+            some = subst (λ (i : ℕ). bit (bitOr (outsAt plan j) (insAt plan j)) i ≡ true) qq bears;
           }
         where
           same : (α p (x .ty) o (eventAt c q) && writeLike p (eventAt c q)) ≡ (α p (x .ty) o′ (eventOf e) && writeLike p (eventOf e))
@@ -107,7 +113,7 @@ module _ {s : List ℕ} {n : Counts} {plan : List ℕ} (R : Ready s n) (P : Poli
 
     -- a flow is offered by an entry
     flow-entry : (i : ℕ) (y : Context) → ContextInRange (p .counts) y → flow p (eventOf i) x y ≡ true
-        → (j : ℕ) × (lo ≤ j) × (j < hi) × (keyAt plan j ≡ 4096 * (i / 32) + y .ty) × (bit (maskAt plan j) (i % 32) ≡ true)
+        → (j : ℕ) × (lo ≤ j) × (j < hi) × (keyAt plan j ≡ 4096 * (i / 32) + y .ty) × (bit (bitOr (outsAt plan j) (insAt plan j)) (i % 32) ≡ true)
     flow-entry i y r t =
         let small : i / 32 < 32 = (let w = flow-class {s = s} (eventOf i) x y (R .sound) t .high in omega (arith, R .sound .range .classes .high)) in
         let few : y .ty < 4096 = (let w = r .ty .high in omega (arith, R .sound .range .types .high)) in
@@ -131,20 +137,134 @@ module _ {s : List ℕ} {n : Counts} {plan : List ℕ} (R : Ready s n) (P : Poli
         (E .place, E .low, E .high, E .key, bit-or (outsAt plan (E .place)) (insAt plan (E .place)) (i % 32) ∙ or-true (bit (outsAt plan (E .place)) (i % 32)) (bit (insAt plan (E .place)) (i % 32)) b))
         (flow-alpha p (eventOf i) x y t)
 
+    -- a flow, and the leading permission of its entry that stands for it
+    record LedFlow (i : ℕ) (y : Context) : Type 0 where
+      entry : ℕ
+      low : lo ≤ entry
+      high : entry < hi
+      key : keyAt plan entry ≡ 4096 * (i / 32) + y .ty
+      perm : ℕ
+      under : perm ≤ i % 32
+      leading : bit (leadsAt plan entry) perm ≡ true
+      alike : Alike p plan (32 * (i / 32) + perm) i
+      flows : flow p (eventOf (32 * (i / 32) + perm)) x y ≡ true
+
+    module _ (i : ℕ) (y : Context) (r : ContextInRange (p .counts) y) (t : flow p (eventOf i) x y ≡ true) where
+      small : i / 32 < 32
+      small = let w = flow-class {s = s} (eventOf i) x y (R .sound) t .high in omega (arith, R .sound .range .classes .high)
+
+      few : y .ty < 4096
+      few = let w = r .ty .high in omega (arith, R .sound .range .types .high)
+
+      hx : held p x ≡ true
+      hx = flow-held p (eventOf i) x y t .0
+
+      hy : held p y ≡ true
+      hy = flow-held p (eventOf i) x y t .1
+
+      -- the permission q of the entry's class, as an event
+      module _ (E : EntryOf plan lo hi (4096 * (i / 32) + y .ty)) where
+        class-is : keyAt plan (E .place) / 4096 ≡ i / 32
+        class-is = let f = few in omega (arith, E .key)
+
+        other-is : keyAt plan (E .place) % 4096 ≡ y .ty
+        other-is = let f = few in omega (arith, E .key)
+
+        event-is : (q : ℕ) → q < 32 → eventAt (keyAt plan (E .place) / 4096) q ≡ eventOf (32 * (i / 32) + q)
+        event-is q lq =
+            let a : keyAt plan (E .place) / 4096 ≡ (32 * (i / 32) + q) / 32 = (let c = class-is in omega arith) in
+            let b : q ≡ (32 * (i / 32) + q) % 32 = omega arith in
+            ap₂ eventAt a b
+
+        outs-is : (q : ℕ) → q < 32 → bit (outsAt plan (E .place)) q ≡ (α p (x .ty) (y .ty) (eventOf (32 * (i / 32) + q)) && writeLike p (eventOf (32 * (i / 32) + q)))
+        outs-is q lq = block-of h .outs (E .place) q (E .low) (E .high) lq ∙ (λ z. α p (x .ty) (other-is z) (event-is q lq z) && writeLike p (event-is q lq z))
+
+        ins-is : (q : ℕ) → q < 32 → bit (insAt plan (E .place)) q ≡ (α p (y .ty) (x .ty) (eventOf (32 * (i / 32) + q)) && readLike p (eventOf (32 * (i / 32) + q)))
+        ins-is q lq = block-of h .ins (E .place) q (E .low) (E .high) lq ∙ (λ z. α p (other-is z) (x .ty) (event-is q lq z) && readLike p (event-is q lq z))
+
+        own-code : 32 * (i / 32) + i % 32 ≡ i
+        own-code = omega arith
+
+        code-at : (q : ℕ) → 32 * (keyAt plan (E .place) / 4096) + q ≡ 32 * (i / 32) + q
+        code-at q = ap (λ (k : ℕ). 32 * k + q) class-is
+
+        like : {mask : ℕ} → (L : Leader p plan (keyAt plan (E .place) / 4096) mask (leadsAt plan (E .place)) (i % 32)) → Alike p plan (32 * (i / 32) + L .perm) i
+        like L = subst (Alike p plan (32 * (i / 32) + L .perm)) (code-at (i % 32) ∙ own-code) (subst (λ (k : ℕ). Alike p plan k (32 * (keyAt plan (E .place) / 4096) + i % 32)) (code-at (L .perm)) (L .alike))
+
+        led : {mask : ℕ} → (L : Leader p plan (keyAt plan (E .place) / 4096) mask (leadsAt plan (E .place)) (i % 32)) → flow p (eventOf (32 * (i / 32) + L .perm)) x y ≡ true → LedFlow i y
+        led L f =
+            record {
+              entry = E .place;
+              low = E .low;
+              high = E .high;
+              key = E .key;
+              perm = L .perm;
+              under = L .low;
+              leading = L .leading;
+              alike = like L;
+              flows = f;
+            }
+
+        conditions-hold : {mask : ℕ} (L : Leader p plan (keyAt plan (E .place) / 4096) mask (leadsAt plan (E .place)) (i % 32)) (u v : Context) → conditions p (eventOf i) u v ≡ true → conditions p (eventOf (32 * (i / 32) + L .perm)) u v ≡ true
+        conditions-hold L u v k = conditions-same (like L) u v ∙ k
+
+      flow-led : LedFlow i y
+      flow-led =
+          ⊎-elim
+          (λ w.
+          let a = and-first (α p (x .ty) (y .ty) (eventOf i) && writeLike p (eventOf i)) (conditions p (eventOf i) x y) w in
+          let E = block-of h .whole (i / 32) (y .ty) (i % 32) small few (omega arith) (inl (and-first (α p (x .ty) (y .ty) (eventOf i)) (writeLike p (eventOf i)) a)) in
+          let L = P .leads (x .ty) (E .place) (type-in h) (E .low) (E .high) .outs (i % 32) (omega arith)
+          (outs-is E (i % 32) (omega arith) ∙ ap (λ (k : ℕ). α p (x .ty) (y .ty) (eventOf k) && writeLike p (eventOf k)) (own-code E) ∙ a) in
+          let lq : L .perm < 32 = (let z = L .low in omega arith) in
+          let e : ℕ = 32 * (i / 32) + L .perm in
+          led E L
+          (flow-by p (eventOf e) x y hx hy
+          ∙ or-left ((α p (x .ty) (y .ty) (eventOf e) && writeLike p (eventOf e)) && conditions p (eventOf e) x y) ((α p (y .ty) (x .ty) (eventOf e) && readLike p (eventOf e)) && conditions p (eventOf e) y x)
+          (and-true (α p (x .ty) (y .ty) (eventOf e) && writeLike p (eventOf e)) (conditions p (eventOf e) x y) (sym (outs-is E (L .perm) lq) ∙ L .bears)
+          (conditions-hold E L x y (and-second (α p (x .ty) (y .ty) (eventOf i) && writeLike p (eventOf i)) (conditions p (eventOf i) x y) w)))))
+          (λ w.
+          let a = and-first (α p (y .ty) (x .ty) (eventOf i) && readLike p (eventOf i)) (conditions p (eventOf i) y x) w in
+          let E = block-of h .whole (i / 32) (y .ty) (i % 32) small few (omega arith) (inr (and-first (α p (y .ty) (x .ty) (eventOf i)) (readLike p (eventOf i)) a)) in
+          let L = P .leads (x .ty) (E .place) (type-in h) (E .low) (E .high) .ins (i % 32) (omega arith)
+          (ins-is E (i % 32) (omega arith) ∙ ap (λ (k : ℕ). α p (y .ty) (x .ty) (eventOf k) && readLike p (eventOf k)) (own-code E) ∙ a) in
+          let lq : L .perm < 32 = (let z = L .low in omega arith) in
+          let e : ℕ = 32 * (i / 32) + L .perm in
+          led E L
+          (flow-by p (eventOf e) x y hx hy
+          ∙ or-true ((α p (x .ty) (y .ty) (eventOf e) && writeLike p (eventOf e)) && conditions p (eventOf e) x y) ((α p (y .ty) (x .ty) (eventOf e) && readLike p (eventOf e)) && conditions p (eventOf e) y x)
+          (and-true (α p (y .ty) (x .ty) (eventOf e) && readLike p (eventOf e)) (conditions p (eventOf e) y x) (sym (ins-is E (L .perm) lq) ∙ L .bears)
+          (conditions-hold E L y x (and-second (α p (y .ty) (x .ty) (eventOf i) && readLike p (eventOf i)) (conditions p (eventOf i) y x) w)))))
+          (or-cases ((α p (x .ty) (y .ty) (eventOf i) && writeLike p (eventOf i)) && conditions p (eventOf i) x y) ((α p (y .ty) (x .ty) (eventOf i) && readLike p (eventOf i)) && conditions p (eventOf i) y x) (sym (flow-by p (eventOf i) x y hx hy) ∙ t))
+
+      -- what need not be asked of the one need not be asked of the other
+      passed-like : (swept : List ℕ) (a : Asker) (e o : ℕ) → e < 1024 → Alike p plan e i → Passed plan swept a e o → Passed plan swept a i o
+      passed-like swept a e o le A (inl c) = inl (subst (λ (k : ℕ). closed a k (getD swept o 0) ≡ true) (A .sets) c)
+      passed-like swept a e o le A (inr c) =
+          inr (c .0, P .tables .special-at (i / 32) (i % 32) small ∙ sym (special-same A) ∙ sym (P .tables .special-at (e / 32) (e % 32) (omega arith)) ∙ c .1)
+
     pub next-law : {swept : List ℕ} {a : Asker} {from : ℕ} {r : Offer} → Nearest plan swept a lo hi from r → NextOffer p plan swept a x from r
     next-law {swept} {a} {from} {r} N =
         record {
           low = N .low;
           high = N .high;
           none = λ i y w b d t.
-              let few : y .ty < 4096 = (let z = w .ty .high in omega (arith, R .sound .range .types .high)) in
-              let (j, l, k, key, m) = flow-entry i y w t in
-              let is : firstStep (keyAt plan j) + 4096 * (i % 32) ≡ 4096 * i + y .ty = omega arith in
-              let e : 32 * (keyAt plan j / 4096) + i % 32 ≡ i = omega arith in
-              let o : keyAt plan j % 4096 ≡ y .ty = omega arith in
-              ⊎-elim (λ (z : r .at ≤ firstStep (keyAt plan j) + 4096 * (i % 32)). absurd (omega arith))
-              (λ z. subst (λ (v : ℕ). Passed plan swept a i v) o (subst (λ (v : ℕ). Passed plan swept a v (keyAt plan j % 4096)) e z))
-              (N .least j (i % 32) l k (omega arith) m (omega arith));
+              let z : y .ty < 4096 = few i y w t in
+              let c : i / 32 < 32 = small i y w t in
+              let F = flow-led i y w t in
+              let u = F .under in
+              let key = F .key in
+              let e : ℕ = 32 * (i / 32) + F .perm in
+              let is : firstStep (keyAt plan (F .entry)) + 4096 * F .perm ≡ 4096 * (32 * (i / 32) + F .perm) + y .ty = omega arith in
+              let code : 32 * (keyAt plan (F .entry) / 4096) + F .perm ≡ 32 * (i / 32) + F .perm = omega arith in
+              let o : keyAt plan (F .entry) % 4096 ≡ y .ty = omega arith in
+              ⊎-elim
+              (λ (k : from ≤ 4096 * (32 * (i / 32) + F .perm) + y .ty).
+              ⊎-elim (λ (g : r .at ≤ firstStep (keyAt plan (F .entry)) + 4096 * F .perm). absurd (omega arith))
+              (λ g. inl (passed-like i y w t swept a e (y .ty) (omega arith) (F .alike) (subst (λ (v : ℕ). Passed plan swept a e v) o (subst (λ (v : ℕ). Passed plan swept a v (keyAt plan (F .entry) % 4096)) code g))))
+              (N .least (F .entry) (F .perm) (F .low) (F .high) (omega arith) (F .leading) (omega arith)))
+              (λ (k : 4096 * (32 * (i / 32) + F .perm) + y .ty < from). inr (record { at = e; before = k; sets = F .alike .sets; flows = F .flows }))
+              (split-le from (4096 * (32 * (i / 32) + F .perm) + y .ty));
           unclosed = N .unclosed;
           offers = λ g.
               let O = N .offers g in
@@ -166,17 +286,17 @@ module _ {s : List ℕ} {n : Counts} {plan : List ℕ} (R : Ready s n) (P : Poli
               let small : i / 32 < 32 = (let v = flow-class {s = s} (eventOf i) x y (R .sound) t .high in omega (arith, R .sound .range .classes .high)) in
               let few : y .ty < 4096 = (let v = w .ty .high in omega (arith, R .sound .range .types .high)) in
               let c : keyAt plan j / 4096 % 32 ≡ i / 32 = omega arith in
-              inr (
+              inl (inr (
                 e,
                 ⊎-elim
                     (λ (h : bit (specialAt plan (i / 32)) (i % 32) ≡ true).
                     absurd (clash (P .guards (x .ty) (type-in h₀) .at j (i % 32) l k
-                    (bit-and (maskAt plan j) (specialAt plan (keyAt plan j / 4096 % 32)) (i % 32)
-                    ∙ and-true (bit (maskAt plan j) (i % 32)) (bit (specialAt plan (keyAt plan j / 4096 % 32)) (i % 32)) b (ap (λ (v : ℕ). bit (specialAt plan v) (i % 32)) c ∙ h)))
+                    (bit-and (bitOr (outsAt plan j) (insAt plan j)) (specialAt plan (keyAt plan j / 4096 % 32)) (i % 32)
+                    ∙ and-true (bit (bitOr (outsAt plan j) (insAt plan j)) (i % 32)) (bit (specialAt plan (keyAt plan j / 4096 % 32)) (i % 32)) b (ap (λ (v : ℕ). bit (specialAt plan v) (i % 32)) c ∙ h)))
                     (ap (λ (v : ℕ). bit v (i % 32)) z ∙ bit-zero (i % 32))))
                     (λ f. f)
                     (true-or-false (bit (specialAt plan (i / 32)) (i % 32))),
-              );
+              ));
           offers = λ h. absurd (omega arith);
           unclosed = λ h. absurd (omega arith);
           cursor = record { low = omega arith; high = omega (arith, block-order h₀); passed = λ j l k. absurd (omega arith) };

@@ -8,21 +8,12 @@ use mathlib.Core.List.{List}
 use lib.Bits.{bitAnd, bitOr}
 use lib.ListN.{length, getD}
 use Rattle.base.specs.Bits.{bit}
-use Rattle.plan.specs.Plan.{specialAt, keyAt, outsAt, insAt, eventsAt}
+use Rattle.plan.specs.Plan.{specialAt, keyAt, eventsAt, leadsAt}
 use Rattle.steps.specs.declared.nearest.Asker.{Asker}
 use Rattle.steps.specs.declared.nearest.Offer.{Offer}
 
-pub record Lowest (m r : ℕ) : Type 0 where
-  pub small : r < 32
-  pub has : bit m r ≡ true
-  pub before : (q : ℕ) → q < r → bit m q ≡ true → ⊥
-
 abbrev pub firstStep : ℕ → ℕ
 firstStep k = 131072 * (k / 4096) + k % 4096
-
--- the permissions of entry j, of both ways
-abbrev pub maskAt : List ℕ → ℕ → ℕ
-maskAt plan j = bitOr (outsAt plan j) (insAt plan j)
 
 -- r is the step by some permission of the mask, where first is the step by permission 0
 pub record StepBy (first mask r : ℕ) : Type 0 where
@@ -79,7 +70,7 @@ pub record Skipped (plan : List ℕ) (stop a class r : ℕ) : Type 0 where
 
 -- entries from lo to below stop, in rising order
 pub record Block (plan : List ℕ) (lo stop : ℕ) : Type 0 where
-  pub size : 26368 ≤ length plan
+  pub size : 34560 ≤ length plan
   pub high : stop ≤ 8192
   pub rising : (i j : ℕ) → lo ≤ i → i < j → j < stop → keyAt plan i < keyAt plan j
   pub small : (j : ℕ) → lo ≤ j → j < stop → keyAt plan j < 131072
@@ -91,11 +82,11 @@ pub record Cursor (plan : List ℕ) (lo stop a from : ℕ) : Type 0 where
   pub high : a ≤ stop
   pub passed : (j : ℕ) → lo ≤ j → j < a → keyAt plan j / 4096 < from / 131072
 
--- an entry of the block offers the step r
+-- an entry of the block offers the step r, by a leading permission
 pub record OfferedAt (plan : List ℕ) (lo stop entry r : ℕ) : Type 0 where
   pub low : lo ≤ entry
   pub high : entry < stop
-  pub by : StepBy (firstStep (keyAt plan entry)) (maskAt plan entry) r
+  pub by : StepBy (firstStep (keyAt plan entry)) (leadsAt plan entry) r
 
 -- the nearest step of a block from a step on that is not closed
 pub record Nearest (plan swept : List ℕ) (a : Asker) (lo stop from : ℕ) (r : Offer) : Type 0 where
@@ -103,6 +94,6 @@ pub record Nearest (plan swept : List ℕ) (a : Asker) (lo stop from : ℕ) (r :
   pub low : from ≤ r .at
   pub offers : r .at < 4194304 → OfferedAt plan lo stop (r .entry) (r .at)
   pub unclosed : r .at < 4194304 → closed a (eventsAt plan (r .at / 4096)) (getD swept (r .at % 4096) 0) ≡ false
-  pub least : (j q : ℕ) → lo ≤ j → j < stop → q < 32 → bit (maskAt plan j) q ≡ true → from ≤ firstStep (keyAt plan j) + 4096 * q
+  pub least : (j q : ℕ) → lo ≤ j → j < stop → q < 32 → bit (leadsAt plan j) q ≡ true → from ≤ firstStep (keyAt plan j) + 4096 * q
       → (r .at ≤ firstStep (keyAt plan j) + 4096 * q) ⊎ Passed plan swept a (32 * (keyAt plan j / 4096) + q) (keyAt plan j % 4096)
   pub cursor : Cursor plan lo stop (r .group) from

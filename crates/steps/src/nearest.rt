@@ -1,12 +1,11 @@
 // The nearest step that a block of a plan offers. A step is an event and the type of its target, as one number, 4096 * event + type,
 // so that steps rise by event and then by type.
-use crate::bits::has_member;
-use crate::bits::lowest;
 use base::bits::has_bit;
+use base::bits::has_member;
+use base::bits::lowest;
 use plan::regions::EVENTS;
-use plan::regions::INS;
 use plan::regions::KEYS;
-use plan::regions::OUTS;
+use plan::regions::LEADS;
 use plan::regions::SPECIAL;
 ghost use mathlib.Core.Path.{_≡_};
 ghost use Prim.Native.Nat.{_/_, _≤_, _<_};
@@ -153,7 +152,7 @@ pub fn nearest(
             };
         }
         let other = (key % 4096) as usize;
-        let mask = asked_mask(plan, a, key, plan[OUTS + j] | plan[INS + j]);
+        let mask = asked_mask(plan, a, key, plan[LEADS + j]);
         let step = open_step(plan, a, swept[other], key, mask, from);
         if step < at {
             at = step;

@@ -44,9 +44,9 @@ use Rattle.nodes.specs.Tasks.{Task, Stands, typeOf, graphOf}
 use Rattle.memory.specs.Memory.{keepsOf}
 use Rattle.witness.specs.Links.{Least, Linked, OfferedBetween}
 use Rattle.nodes.proofs.ModelLaws.{bounded}
-use Rattle.index.proofs.MaskLaws.{clash}
+use Rattle.base.proofs.UptoLaws.{clash}
 use Rattle.nodes.proofs.ArrivalLaws.{later}
-use Rattle.memory.proofs.MemoryLaws.{AskerOf, memory-begin}
+use Rattle.memory.proofs.MemoryLaws.{AskerOf, memory-begin, edge-like}
 use Rattle.memory.proofs.MemoryLaws.{passed as remembered}
 use Rattle.nodes.proofs.LevelLaws.{place-lt, edge-flow, edge-free, edge-freeE, range-at, only-at, edge-at}
 use Rattle.memory.proofs.StandLaws.{Around, around, at-place, stand}
@@ -112,13 +112,15 @@ module _ {s g : List ℕ} {n : Counts} {l : Legs} (A : Task s g n l) (m : Mode) 
         place : x ≡ contextAtIndex n (placeOf (2 ^ legsOf g) u)
         place = stand u fixed (L .from) q .place
 
-    -- the steps that are passed over do not lead from u to w: nothing is remembered, so none is passed over for that
+    -- the steps that are passed over do not lead from u to w: nothing is remembered, and no event before that is like another leads there
     pub passed : {plan : List ℕ} {a : Asker} {from : ℕ} {r : Offer} → Planned s g n plan → AskerOf m (replicate 256 0) x (u % states) a
-        → NextOffer (policyOf s) plan (replicate 256 0) a x from r → (j : ℕ) → from ≤ 4096 * j + typeOf g n w → 4096 * j + typeOf g n w < r .at
-        → graphOf s g n m .Edge u j w → ⊥
-    passed {plan} P Q N j lo hi ed =
-        remembered A m P (memory-begin s g n m plan []) (stand u fixed (L .from) q) (L .from) Q (L .to) ed
-        (N .none j (contextAtIndex n (placeOf (2 ^ legsOf g) w)) (range-at A m (stand u fixed (L .from) q) (L .to)) lo hi (flows j ed)) .seen refl
+        → NextOffer (policyOf s) plan (replicate 256 0) a x from r → ((e : ℕ) → 4096 * e + typeOf g n w < from → graphOf s g n m .Edge u e w → ⊥)
+        → (j : ℕ) → from ≤ 4096 * j + typeOf g n w → 4096 * j + typeOf g n w < r .at → graphOf s g n m .Edge u j w → ⊥
+    passed {plan} P Q N past j lo hi ed =
+        ⊎-elim (λ h. remembered A m P (memory-begin s g n m plan []) (stand u fixed (L .from) q) (L .from) Q (L .to) ed h .seen refl)
+        (λ E. past (E .at) (E .before)
+        (edge-like A m P (memory-begin s g n m plan []) (stand u fixed (L .from) q) (L .from) Q (L .event .holds .edge .first) (L .to) ed (E .sets) (E .flows)))
+        (N .none j (contextAtIndex n (placeOf (2 ^ legsOf g) w)) (range-at A m (stand u fixed (L .from) q) (L .to)) lo hi (flows j ed))
 
     -- who asks
     pub asker : {a : Asker} → a .state ≡ u % states → a .keeps ≡ keepsOf m → a .spent ≡ false → AskerOf m (replicate 256 0) x (u % states) a
@@ -186,7 +188,7 @@ module _ {s g : List ℕ} {n : Counts} {l : Legs} (A : Task s g n l) (m : Mode) 
   module _ {x : Context} (q : x ≡ contextAtIndex n (u / states)) {plan : List ℕ} (P : Planned s g n plan) {a : Asker} (Q : AskerOf m (replicate 256 0) x (u % states) a) where
     pub look-begin : {r : Offer} → NextOffer (policyOf s) plan (replicate 256 0) a x 0 r → Looking s g n plan m u w x r
     look-begin N =
-        record { high = N .high; none = λ j h. passed q P Q N j (omega arith) h; offers = N .offers; cursor = later (N .cursor) (omega arith) }
+        record { high = N .high; none = λ j h. passed q P Q N (λ e k. absurd (omega arith)) j (omega arith) h; offers = N .offers; cursor = later (N .cursor) (omega arith) }
 
     module _ {o : Offer} (K : Looking s g n plan m u w x o) where
       pub offered : {y : Context} → y ≡ contextAtIndex n (w / states) → o .at < 4194304 → o .at % 4096 ≡ y .ty → OfferedBetween s g n plan u (o .at / 4096) (o .entry) w
@@ -203,10 +205,14 @@ module _ {s g : List ℕ} {n : Counts} {l : Legs} (A : Task s g n l) (m : Mode) 
       look-more {r} N here =
           record { high = N .high; none = λ j h ed. go j h ed (decLt (4096 * j + typeOf g n w) (o .at)); offers = N .offers; cursor = later (N .cursor) (omega (arith, N .low)) }
         where
+          past : (e : ℕ) → 4096 * e + typeOf g n w < o .at + 1 → graphOf s g n m .Edge u e w → ⊥
+          past e h ed =
+              ⊎-elim (λ (z : 4096 * e + typeOf g n w ≡ o .at). here e (sym z) ed) (λ (z : 4096 * e + typeOf g n w < o .at). K .none e z ed) (eq-or-lt-of-le (omega arith))
+
           go : (j : ℕ) → 4096 * j + typeOf g n w < r .at → graphOf s g n m .Edge u j w → Dec (4096 * j + typeOf g n w < o .at) → ⊥
           go j h ed (yes k) = K .none j k ed
           go j h ed (no k) =
-              ⊎-elim (λ (z : o .at ≡ 4096 * j + typeOf g n w). here j z ed) (λ (z : o .at < 4096 * j + typeOf g n w). passed q P Q N j (omega arith) h ed)
+              ⊎-elim (λ (z : o .at ≡ 4096 * j + typeOf g n w). here j z ed) (λ (z : o .at < 4096 * j + typeOf g n w). passed q P Q N past j (omega arith) h ed)
               (eq-or-lt-of-le (omega arith))
 
       pub look-found : o .at < 4194304 → graphOf s g n m .Edge u (o .at / 4096) w → Least (λ e. graphOf s g n m .Edge u e w) 1024 (o .at / 4096)

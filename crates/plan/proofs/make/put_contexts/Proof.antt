@@ -1,11 +1,10 @@
 use Rattle.plan.proofs.KnownLaws.{known-same}
-use Rattle.plan.proofs.FillLaws.{fill-end}
+use Rattle.base.proofs.FillLaws.{fill-begin, fill-more, fill-end}
 use Rattle.plan.proofs.KnownLaws.{known-law, in-bytes}
 use Prim.Native.Nat.{_-_, _≤_}
 use mathlib.Core.Path.{_≡_, refl}
 use lib.ListN.{length, length-set}
-use Rattle.plan.specs.Fill.{Filled}
-use Rattle.plan.proofs.FillLaws.{fill-begin, fill-more}
+use Rattle.base.specs.Fill.{Filled}
 use Rattle.policy_image.specs.Policy.{policyOf}
 use Rattle.context.specs.Places.{contextCount, contextAtIndex}
 use Rattle.goal_image.specs.Goal.{goalOf}
@@ -19,7 +18,7 @@ use Rattle.plan.proofs.make.put_contexts.Statement.{statement}
 use Rattle.plan.proofs.make.put_contexts.Tie as tie
 
 abbrev Inv-loop : tie.InvT-loop
-Inv-loop policy goal counts plan₀ roles users count y₀ plan y = (count ≡ contextCount counts) × (y ≤ count) × (length plan ≡ length plan₀) × RoleTable (policyOf policy) roles × UserTable (policyOf policy) users × Ready policy counts × SoundGoal goal × Filled (λ j v. Known (policyOf policy) (goalOf goal) (contextAtIndex counts j) v) plan₀ plan 26368 0 y
+Inv-loop policy goal counts plan₀ roles users count y₀ plan y = (count ≡ contextCount counts) × (y ≤ count) × (length plan ≡ length plan₀) × RoleTable (policyOf policy) roles × UserTable (policyOf policy) users × Ready policy counts × SoundGoal goal × Filled (λ j v. Known (policyOf policy) (goalOf goal) (contextAtIndex counts j) v) plan₀ plan 34560 0 y
 
 abbrev μ-loop : tie.MeasureT-loop
 μ-loop policy goal counts plan₀ roles users count y₀ plan y = count - y

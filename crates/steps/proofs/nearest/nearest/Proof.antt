@@ -13,7 +13,7 @@ abbrev μ-loop : tie.MeasureT-loop
 μ-loop plan swept a lo stop group from start at₀ entry₀ j₀ at entry j = stop - j
 
 skip-requires : tie.Need-skip-requires Inv-loop μ-loop
-skip-requires c κs = (c .before .pre .2 .high, c .before .pre .1 .high, c .before .pre .1 .size)
+skip-requires c κs = (c .before .pre .2 .high, c .before .pre .1 .high, omega (arith, c .before .pre .1 .size))
 
 loop-holds : tie.Need-loop-holds Inv-loop μ-loop
 loop-holds c = look-begin (c .before .before .args .swept .now) (c .before .before .args .a) (c .before .before .pre .0) (c .before .before .pre .1) (c .before .before .pre .2) (c .before .before .pre .3) (c .skip .ensures)
@@ -45,26 +45,17 @@ mul-asked-mask c = search needs
 shared-slice-read-asked-mask : tie.Need-shared-slice-read-asked-mask Inv-loop μ-loop
 shared-slice-read-asked-mask c = omega (arith, c .before .before .before .before .loop .inv .block .high, c .before .before .before .before .loop .inv .block .size)
 
-add-asked-mask-2 : tie.Need-add-asked-mask-2 Inv-loop μ-loop
-add-asked-mask-2 c = search needs
-
-mul-asked-mask-2 : tie.Need-mul-asked-mask-2 Inv-loop μ-loop
-mul-asked-mask-2 c = search needs
-
-shared-slice-read-asked-mask-2 : tie.Need-shared-slice-read-asked-mask-2 Inv-loop μ-loop
-shared-slice-read-asked-mask-2 c = omega (arith, c .before .before .before .before .before .loop .inv .block .high, c .before .before .before .before .before .loop .inv .block .size)
-
 asked-mask-requires : tie.Need-asked-mask-requires Inv-loop μ-loop
-asked-mask-requires c κs = (c .before .before .before .before .before .loop .inv .block .size, look-small (c .before .before .before .before .before .loop .inv) (c .before .before .before .before .loop-test .taken))
+asked-mask-requires c κs = (omega (arith, c .before .before .before .before .loop .inv .block .size), look-small (c .before .before .before .before .loop .inv) (c .before .before .before .loop-test .taken))
 
 mul-open-step : tie.Need-mul-open-step Inv-loop μ-loop
-mul-open-step c = omega (arith, look-other (c .before .before .before .before .before .before .loop .inv) (c .before .before .before .before .before .loop-test .taken))
+mul-open-step c = omega (arith, look-other (c .before .before .before .before .before .loop .inv) (c .before .before .before .before .loop-test .taken))
 
 element-copy-out-open-step : tie.Need-element-copy-out-open-step Inv-loop μ-loop
-element-copy-out-open-step c = omega (arith, look-other (c .before .before .before .before .before .before .loop .inv) (c .before .before .before .before .before .loop-test .taken))
+element-copy-out-open-step c = omega (arith, look-other (c .before .before .before .before .before .loop .inv) (c .before .before .before .before .loop-test .taken))
 
 open-step-requires : tie.Need-open-step-requires Inv-loop μ-loop
-open-step-requires c κs = (c .before .before .before .before .before .before .before .loop .inv .few, c .before .before .before .before .before .before .before .loop .inv .block .size, look-small (c .before .before .before .before .before .before .before .loop .inv) (c .before .before .before .before .before .before .loop-test .taken), c .before .before .before .before .before .before .before .loop .inv .asked)
+open-step-requires c κs = (c .before .before .before .before .before .before .loop .inv .few, omega (arith, c .before .before .before .before .before .before .loop .inv .block .size), look-small (c .before .before .before .before .before .before .loop .inv) (c .before .before .before .before .before .loop-test .taken), c .before .before .before .before .before .before .loop .inv .asked)
 
 add-j : tie.Need-add-j Inv-loop μ-loop
 add-j c = search needs
@@ -73,7 +64,7 @@ loop-less : tie.Need-loop-less Inv-loop μ-loop
 loop-less c = search needs
 
 loop-again : tie.Need-loop-again Inv-loop μ-loop
-loop-again c = let L = c .before .before .before .before .before .before .before .before .before .loop .inv in let h = c .before .before .before .before .before .before .before .before .loop-test .taken in ⊎-elim (λ w. rw (w .1, w .2) (look-nearer L h (c .before .before .before .asked-mask .ensures) (c .before .open-step .ensures) (w .0 .taken))) (λ w. rw (w .1, w .2) (look-on L h (c .before .before .before .asked-mask .ensures) (c .before .open-step .ensures) (w .0 .left))) (c .if2 .came)
+loop-again c = let L = c .before .before .before .before .before .before .before .before .loop .inv in let h = c .before .before .before .before .before .before .before .loop-test .taken in ⊎-elim (λ w. rw (w .1, w .2) (look-nearer L h (c .before .before .before .asked-mask .ensures) (c .before .open-step .ensures) (w .0 .taken))) (λ w. rw (w .1, w .2) (look-on L h (c .before .before .before .asked-mask .ensures) (c .before .open-step .ensures) (w .0 .left))) (c .if2 .came)
 
 returns-2 : tie.Need-returns-2 Inv-loop μ-loop
 returns-2 c = look-end (c .before .loop .inv) (c .loop-test .left)
@@ -95,9 +86,6 @@ nearest-spec =
     add-asked-mask
     mul-asked-mask
     shared-slice-read-asked-mask
-    add-asked-mask-2
-    mul-asked-mask-2
-    shared-slice-read-asked-mask-2
     asked-mask-requires
     mul-open-step
     element-copy-out-open-step

@@ -1,6 +1,6 @@
-use Rattle.steps.proofs.LowestLaws.{lowest-law}
-use Rattle.steps.proofs.bits.lowest.Statement.{statement}
-use Rattle.steps.proofs.bits.lowest.Tie as tie
+use Rattle.base.proofs.LowestLaws.{lowest-law}
+use Rattle.base.proofs.bits.lowest.Statement.{statement}
+use Rattle.base.proofs.bits.lowest.Tie as tie
 
 returns : tie.Need-returns
 returns c = lowest-law (c .args .m) (c .pre) (c .fits .m .fits)

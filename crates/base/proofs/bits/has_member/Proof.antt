@@ -1,9 +1,8 @@
 use lib.Bits.{and-mask}
 use Rattle.base.specs.Bits.{bit}
 use borrow.Author.Needs.{needs}
-use borrow.Author.Needs.{needs}
-use Rattle.steps.proofs.bits.has_member.Statement.{statement}
-use Rattle.steps.proofs.bits.has_member.Tie as tie
+use Rattle.base.proofs.bits.has_member.Statement.{statement}
+use Rattle.base.proofs.bits.has_member.Tie as tie
 
 shr-result : tie.Need-shr-result
 shr-result c = search needs

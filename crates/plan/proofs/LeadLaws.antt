@@ -1,0 +1,252 @@
+-- The leading permissions of an entry, and what they stand for.
+use Prim.Native.Nat.{ℕ, zero, suc, _+_, _-_, _*_, _/_, _%_, _≤_, _<_}
+use mathlib.Core.Path.{_≡_, refl, sym, ap, ap₂, subst, _∙_}
+use mathlib.Core.Bool.{Bool, true, false, not, _&&_, _||_}
+use mathlib.Core.List.{List}
+use mathlib.Core.Logic.{_⊎_, inl, inr, ⊎-elim}
+use native.Mathlib.Omega.{arith}
+use borrow.Author.Tests.{not-true, not-false, eqb-true, eq-eqb, ne-eqb}
+use lib.Bits.{bitOr}
+use lib.Dec.{eqb}
+use lib.ListN.{length, getD, set, replicate}
+use Rattle.base.specs.Bits.{bit, Lowest, With, Without}
+use Rattle.base.specs.Fill.{Filled}
+use Rattle.base.specs.Ranges.{Within}
+use Rattle.base.proofs.BitLaws.{bit-or, bit-zero}
+use Rattle.base.proofs.FillLaws.{fill-more}
+use Rattle.base.proofs.Numbers.{split-eq, split-le, zeros}
+use Rattle.base.proofs.UptoLaws.{clash, or-true, or-left, or-cases, and-true, and-first, and-second, true-or-false}
+use Rattle.policy_image.specs.Policy.{Policy}
+use Rattle.context.specs.declared.Event.{Event}
+use Rattle.context.specs.Codes.{eventAt, eventOf, isTransition}
+use Rattle.constraints.specs.Constraints.{constrains}
+use Rattle.tables.specs.Groups.{ConstraintGroups}
+use Rattle.plan.specs.Plan.{firstAt, keyAt, outsAt, insAt, eventsAt, leadsAt, Tops, Blocks, Alike, Leader, Leads, LeadsPut}
+use Rattle.plan.specs.Leads.{likes, WithIf, SameSets, AlikeTable, Led, Leading, EntryLeads}
+
+or-nothing : (a : Bool) → (a || false) ≡ a
+or-nothing true = refl
+or-nothing false = refl
+
+and-false : (a : Bool) → (a && false) ≡ false
+and-false true = refl
+and-false false = refl
+
+and-yes : (a : Bool) → (a && true) ≡ a
+and-yes true = refl
+and-yes false = refl
+
+-- ---- events in the same sets
+pub sets-begin : (plan : List ℕ) (event group : ℕ) → SameSets plan event group 0 0
+sets-begin plan event group = record { done = λ q h. absurd (omega arith); rest = λ q h. bit-zero q }
+
+pub sets-next : {plan : List ℕ} {event group n r r′ : ℕ} {yes : Bool} → SameSets plan event group n r → yes ≡ likes plan event group n → WithIf r n yes r′ → SameSets plan event group (n + 1) r′
+sets-next {plan} {event} {group} {n} {r} {r′} {yes} S y W =
+    record {
+      done = λ q h. W .at q
+          ∙ ⊎-elim
+          (λ (e : q ≡ n). ap₂ (λ (a b : Bool). a || (yes && b)) (S .rest q (omega arith)) (eq-eqb n q (sym e)) ∙ and-yes yes ∙ y ∙ ap (likes plan event group) (sym e))
+          (λ (d : q ≡ n → ⊥). off q d ∙ S .done q (omega (arith, d)))
+          (split-eq q n);
+      rest = λ q h. W .at q ∙ off q (λ e. omega arith) ∙ S .rest q (omega arith);
+    }
+  where
+    off : (q : ℕ) → (q ≡ n → ⊥) → (bit r q || (yes && eqb n q)) ≡ bit r q
+    off q d = ap (λ (b : Bool). bit r q || (yes && b)) (ne-eqb n q (λ e. d (sym e))) ∙ ap (λ (b : Bool). bit r q || b) (and-false yes) ∙ or-nothing (bit r q)
+
+pub sets-end : {plan : List ℕ} {event group n r : ℕ} → n ≡ 32 → SameSets plan event group n r → SameSets plan event group 32 r
+sets-end {plan} {event} {group} {r = r} e S = subst (λ (k : ℕ). SameSets plan event group k r) e S
+
+pub with-yes : {m q r : ℕ} {yes : Bool} → yes ≡ true → With m q r → WithIf m q yes r
+with-yes {m} {q} t W = record { at = λ i. W .at i ∙ ap (λ (b : Bool). bit m i || (b && eqb q i)) (sym t) }
+
+pub with-no : {m q : ℕ} {yes : Bool} → yes ≡ false → WithIf m q yes m
+with-no {m} {q} f = record { at = λ i. sym (or-nothing (bit m i)) ∙ ap (λ (b : Bool). bit m i || (b && eqb q i)) (sym f) }
+
+pub like-out : {a r : Bool} (b : Bool) → r ≡ a → not r ≡ true → false ≡ (a && b)
+like-out {a} {r} b p t = let q : a ≡ false = sym p ∙ not-true r t in rw q
+
+pub like-transition : {a r : Bool} (f : ℕ) (b : Bool) → r ≡ a → not r ≡ false → f ≡ 32 → false ≡ (a && (not (eqb f 32) && b))
+like-transition {a} {r} f b p n e = let q : a ≡ true = sym p ∙ not-false r n in let z : eqb f 32 ≡ true = eq-eqb f 32 e in rw (q, z)
+
+pub like-then : {a r : Bool} (f : ℕ) {b t : Bool} → r ≡ a → not r ≡ false → (f ≡ 32 → ⊥) → t ≡ b → t ≡ (a && (not (eqb f 32) && b))
+like-then {a} {r} f p n d e = let q : a ≡ true = sym p ∙ not-false r n in let z : eqb f 32 ≡ false = ne-eqb f 32 d in rw (q, z) e
+
+-- ---- events that are alike
+no-transition : (f : ℕ) → (f ≡ 32 → ⊥) → isTransition (eventOf f) ≡ false
+no-transition f d =
+    ⊎-elim
+    (λ t.
+    let c : f / 32 ≡ 1 = eqb-true (f / 32) 1 (and-first (eqb (f / 32) 1) (eqb (f % 32) 0) t) in
+    let q : f % 32 ≡ 0 = eqb-true (f % 32) 0 (and-second (eqb (f / 32) 1) (eqb (f % 32) 0) t) in
+    absurd (d (omega arith)))
+    (λ t. t)
+    (true-or-false (isTransition (eventOf f)))
+
+event-code : (c q : ℕ) → q < 32 → eventAt c q ≡ eventOf (32 * c + q)
+event-code c q h =
+    let a : c ≡ (32 * c + q) / 32 = omega arith in
+    let b : q ≡ (32 * c + q) % 32 = omega arith in
+    ap₂ eventAt a b
+
+not-it : (f : ℕ) → not (eqb f 32) ≡ true → f ≡ 32 → ⊥
+not-it f h e = clash (eq-eqb f 32 e) (not-true (eqb f 32) h)
+
+pub alike-more : {P : ℕ → ℕ → Type 0} {old new : List ℕ} {a i v : ℕ} → Filled P old new 0 a i → a ≤ i → i < length new → P i v → Filled P old (set new i v) 0 a (i + 1)
+alike-more {P} {old} {new} {a} {i} {v} F l h x =
+    subst (λ (k : ℕ). Filled P old (set new k v) 0 a (i + 1)) (let e : 0 + i ≡ i = omega arith in e) (fill-more P F l (omega arith) x)
+
+pub alike-all : {p : Policy} {plan groups alike : List ℕ} {end : ℕ} → end ≤ 1024 → ConstraintGroups p groups
+    → Filled (λ e v. SameSets plan e (getD groups e 0) 32 v) (replicate 1024 0) alike 0 33 end → AlikeTable p plan alike
+alike-all {p} {plan} {groups} {alike} {end} few G F =
+    record {
+      at = λ c q i lc lq li b. ⊎-elim
+          (λ (h : end ≤ 32 * c + q). absurd (clash b (ap (λ (v : ℕ). bit v i) (F .above (32 * c + q) (omega arith) ∙ zeros 1024 (32 * c + q)) ∙ bit-zero i)))
+          (λ (h : 32 * c + q < end). ⊎-elim
+          (λ (k : 33 ≤ 32 * c + q). like c q i lc lq li k (subst (λ (z : ℕ). SameSets plan (32 * c + q) (getD groups (32 * c + q) 0) 32 (getD alike z 0)) (let z : 0 + (32 * c + q) ≡ 32 * c + q = omega arith in z) (F .here (32 * c + q) k h)) b)
+          (λ (k : 32 * c + q < 33). absurd (clash b (ap (λ (v : ℕ). bit v i) (F .below (32 * c + q) (omega arith) ∙ zeros 1024 (32 * c + q)) ∙ bit-zero i)))
+          (split-le 33 (32 * c + q)))
+          (split-le end (32 * c + q));
+    }
+  where
+    like : (c q i : ℕ) → c < 32 → q < 32 → i < 32 → 33 ≤ 32 * c + q → SameSets plan (32 * c + q) (getD groups (32 * c + q) 0) 32 (getD alike (32 * c + q) 0)
+        → bit (getD alike (32 * c + q) 0) i ≡ true → Alike p plan (32 * c + q) (32 * c + i)
+    like c q i lc lq li k S b =
+        let e : 32 * ((32 * c + q) / 32) + i ≡ 32 * c + i = omega arith in
+        let w : (bit (getD groups (32 * c + q) 0) i && (not (eqb (32 * c + i) 32) && eqb (eventsAt plan (32 * c + i)) (eventsAt plan (32 * c + q)))) ≡ true
+        = subst (λ (f : ℕ). (bit (getD groups (32 * c + q) 0) i && (not (eqb f 32) && eqb (eventsAt plan f) (eventsAt plan (32 * c + q)))) ≡ true) e (sym (S .done i li) ∙ b) in
+        let g : bit (getD groups (32 * c + q) 0) i ≡ true = and-first (bit (getD groups (32 * c + q) 0) i) _ w in
+        let r = and-second (bit (getD groups (32 * c + q) 0) i) _ w in
+        let n : not (eqb (32 * c + i) 32) ≡ true = and-first (not (eqb (32 * c + i) 32)) _ r in
+        let s : eqb (eventsAt plan (32 * c + i)) (eventsAt plan (32 * c + q)) ≡ true = and-second (not (eqb (32 * c + i) 32)) _ r in
+        record {
+          sets = sym (eqb-true (eventsAt plan (32 * c + i)) (eventsAt plan (32 * c + q)) s);
+          constrained = λ j lo hi kind.
+              ap (constrains (p .rec j)) (sym (event-code c q lq)) ∙ G .sound c q i lc lq li g .same j lo hi kind ∙ ap (constrains (p .rec j)) (event-code c i li);
+          transition = no-transition (32 * c + q) (λ z. omega arith) ∙ sym (no-transition (32 * c + i) (not-it (32 * c + i) n));
+        }
+
+-- ---- the lowest of those that are alike
+pub record Sorting (alike : List ℕ) (class mask left r : ℕ) : Type 0 where
+  pub among : (q : ℕ) → bit r q ≡ true → bit mask q ≡ true
+  pub rest : (q : ℕ) → bit left q ≡ true → bit mask q ≡ true
+  pub each : (q : ℕ) → bit mask q ≡ true → (bit left q ≡ true) ⊎ Led alike class r q
+
+pub sorting-begin : (alike : List ℕ) (class mask : ℕ) → Sorting alike class mask mask 0
+sorting-begin alike class mask = record { among = λ q h. absurd (clash h (bit-zero q)); rest = λ q h. h; each = λ q h. inl h }
+
+pub sorting-end : {alike : List ℕ} {class mask left r : ℕ} → left ≡ 0 → Sorting alike class mask left r → Leading alike class mask r
+sorting-end {left = left} z S =
+    record { among = S .among; each = λ q h. ⊎-elim (λ b. absurd (clash b (ap (λ (v : ℕ). bit v q) z ∙ bit-zero q))) (λ l. l) (S .each q h) }
+
+module _ {alike : List ℕ} {class mask left r : ℕ} (S : Sorting alike class mask left r) {q₀ r′ m left′ : ℕ} (L : Lowest left q₀) (R : With r q₀ r′) (M : With (getD alike (32 * class + q₀) 0) q₀ m)
+    (W : Without left m left′) where
+  own : bit r′ q₀ ≡ true
+  own = R .at q₀ ∙ or-true (bit r q₀) (eqb q₀ q₀) (eq-eqb q₀ q₀ refl)
+
+  taken : (q : ℕ) → bit left q ≡ true → bit m q ≡ true → Led alike class r′ q
+  taken q b h =
+      record {
+        perm = q₀;
+        low = ⊎-elim (λ k. k) (λ (k : q < q₀). absurd (L .before q k b)) (split-le q₀ q);
+        leading = own;
+        like = ⊎-elim inr (λ e. inl (eqb-true q₀ q e)) (or-cases (bit (getD alike (32 * class + q₀) 0) q) (eqb q₀ q) (sym (M .at q) ∙ h));
+      }
+
+  kept : (q : ℕ) → Led alike class r q → Led alike class r′ q
+  kept q D = record { perm = D .perm; low = D .low; leading = R .at (D .perm) ∙ or-left (bit r (D .perm)) (eqb q₀ (D .perm)) (D .leading); like = D .like }
+
+  pub sorting-more : Sorting alike class mask left′ r′
+  sorting-more =
+      record {
+        among = λ q h. ⊎-elim (S .among q) (λ e. S .rest q (subst (λ (i : ℕ). bit left i ≡ true) (eqb-true q₀ q e) (L .has))) (or-cases (bit r q) (eqb q₀ q) (sym (R .at q) ∙ h));
+        rest = λ q h. S .rest q (and-first (bit left q) (not (bit m q)) (sym (W .at q) ∙ h));
+        each = λ q h. ⊎-elim
+            (λ b. ⊎-elim (λ (k : bit m q ≡ true). inr (taken q b k)) (λ (k : bit m q ≡ false). inl (W .at q ∙ and-true (bit left q) (not (bit m q)) b (ap not k))) (true-or-false (bit m q)))
+            (λ D. inr (kept q D)) (S .each q h);
+      }
+
+  pub sorting-less : left′ < left
+  sorting-less =
+      let off : bit left′ q₀ ≡ false = W .at q₀ ∙ ap₂ (λ (a b : Bool). a && not b) (L .has) (M .at q₀ ∙ or-true (bit (getD alike (32 * class + q₀) 0) q₀) (eqb q₀ q₀) (eq-eqb q₀ q₀ refl)) in
+      ⊎-elim (λ (e : left′ ≡ left). absurd (clash (ap (λ (v : ℕ). bit v q₀) e ∙ L .has) off)) (λ (d : left′ ≡ left → ⊥). omega (arith, d, W .most)) (split-eq left′ left)
+
+-- ---- the leads of an entry
+module _ (p : Policy) (old plan alike : List ℕ) (A : AlikeTable p old alike) (below : (i : ℕ) → i < 26368 → getD plan i 0 ≡ getD old i 0) where
+  sets-same : (e : ℕ) → e < 1024 → eventsAt plan e ≡ eventsAt old e
+  sets-same e h = below (25344 + e) (omega arith)
+
+  moved : {e f : ℕ} → e < 1024 → f < 1024 → Alike p old e f → Alike p plan e f
+  moved {e} {f} he hf B = record { sets = sets-same e he ∙ B .sets ∙ sym (sets-same f hf); constrained = B .constrained; transition = B .transition }
+
+  same-event : (e f : ℕ) → e ≡ f → Alike p plan e f
+  same-event e f q = record { sets = ap (eventsAt plan) q; constrained = λ j a b k. ap (λ (i : ℕ). constrains (p .rec j) (eventOf i)) q; transition = ap (λ (i : ℕ). isTransition (eventOf i)) q }
+
+  -- one way's leads are among those of both
+  led-by : (c mask some leads q : ℕ) → c < 32 → q < 32 → ((i : ℕ) → bit some i ≡ true → bit leads i ≡ true) → Leading alike c mask some → bit mask q ≡ true → Leader p plan c mask leads q
+  led-by c mask some leads q lc lq into L b =
+      let D = L .each q b in
+      let l = D .low in
+      record {
+        perm = D .perm;
+        low = D .low;
+        bears = L .among (D .perm) (D .leading);
+        leading = into (D .perm) (D .leading);
+        alike = ⊎-elim (λ e. same-event (32 * c + D .perm) (32 * c + q) (ap (λ (i : ℕ). 32 * c + i) e))
+            (λ k. moved (omega arith) (omega arith) (A .at c (D .perm) q lc (omega arith) lq k)) (D .like);
+      }
+
+  pub leads-of : (j : ℕ) → j < 8192 → keyAt old j / 4096 < 32 → EntryLeads alike old j (leadsAt plan j) → Leads p plan j
+  leads-of j h small E =
+      let key : keyAt plan j ≡ keyAt old j = below (512 + j) (omega arith) in
+      let outs : outsAt plan j ≡ outsAt old j = below (8704 + j) (omega arith) in
+      let ins : insAt plan j ≡ insAt old j = below (16896 + j) (omega arith) in
+      let class : keyAt old j / 4096 % 32 ≡ keyAt plan j / 4096 = omega arith in
+      let O : Leading alike (keyAt plan j / 4096) (outsAt plan j) (E .outs) = subst (λ (c : ℕ). Leading alike c (outsAt plan j) (E .outs)) class (subst (λ (m : ℕ). Leading alike (keyAt old j / 4096 % 32) m (E .outs)) (sym outs) (E .outs-lead)) in
+      let I : Leading alike (keyAt plan j / 4096) (insAt plan j) (E .ins) = subst (λ (c : ℕ). Leading alike c (insAt plan j) (E .ins)) class (subst (λ (m : ℕ). Leading alike (keyAt old j / 4096 % 32) m (E .ins)) (sym ins) (E .ins-lead)) in
+      let bits : (i : ℕ) → bit (leadsAt plan j) i ≡ (bit (E .outs) i || bit (E .ins) i) = λ i. ap (λ (v : ℕ). bit v i) (E .both) ∙ bit-or (E .outs) (E .ins) i in
+      let lc : keyAt plan j / 4096 < 32 = omega arith in
+      record {
+        among = λ q b. bit-or (outsAt plan j) (insAt plan j) q
+            ∙ ⊎-elim (λ d. or-left (bit (outsAt plan j) q) (bit (insAt plan j) q) (O .among q d)) (λ d. or-true (bit (outsAt plan j) q) (bit (insAt plan j) q) (I .among q d))
+            (or-cases (bit (E .outs) q) (bit (E .ins) q) (sym (bits q) ∙ b));
+        outs = λ q lq b. led-by (keyAt plan j / 4096) (outsAt plan j) (E .outs) (leadsAt plan j) q lc lq (λ i d. bits i ∙ or-left (bit (E .outs) i) (bit (E .ins) i) d) O b;
+        ins = λ q lq b. led-by (keyAt plan j / 4096) (insAt plan j) (E .ins) (leadsAt plan j) q lc lq (λ i d. bits i ∙ or-true (bit (E .outs) i) (bit (E .ins) i) d) I b;
+      }
+
+-- the next entry, whose key and masks are those of the list before
+pub entry-more : {alike old new : List ℕ} {j outs ins : ℕ} → Filled (λ i v. EntryLeads alike old i v) old new 26368 0 j → j < 8192
+    → Leading alike (keyAt new j / 4096 % 32) (outsAt new j) outs → Leading alike (keyAt new j / 4096 % 32) (insAt new j) ins → EntryLeads alike old j (bitOr outs ins)
+entry-more {alike} {old} {new} {j} {outs} {ins} F h O I =
+    let key : keyAt new j ≡ keyAt old j = F .below (512 + j) (omega arith) in
+    record {
+      outs = outs;
+      ins = ins;
+      outs-lead = subst (λ (k : ℕ). Leading alike (k / 4096 % 32) (outsAt old j) outs) key (subst (λ (m : ℕ). Leading alike (keyAt new j / 4096 % 32) m outs) (F .below (8704 + j) (omega arith)) O);
+      ins-lead = subst (λ (k : ℕ). Leading alike (k / 4096 % 32) (insAt old j) ins) key (subst (λ (m : ℕ). Leading alike (keyAt new j / 4096 % 32) m ins) (F .below (16896 + j) (omega arith)) I);
+      both = refl;
+    }
+
+pub leads-put : {p : Policy} {old plan alike : List ℕ} {types n : ℕ} → AlikeTable p old alike → n ≤ 8192 → n ≡ firstAt old (types + 1)
+    → Filled (λ j v. EntryLeads alike old j v) old plan 26368 0 n → LeadsPut p types old plan
+leads-put {p} {old} {plan} {alike} A top e F =
+    record {
+      leads = λ j h small. leads-of p old plan alike A (λ i k. F .below i (omega arith)) j (omega arith) small (F .here j (omega arith) (omega arith));
+      below = λ i h. F .below i (omega arith);
+      above = λ i h. F .above i (omega arith);
+    }
+
+-- ---- the block of each type is among the entries
+pub first-rising : {p : Policy} {plan : List ℕ} → Blocks p plan → (d t : ℕ) → 1 ≤ t → t + d ≤ p .counts .types → firstAt plan (t + 1) ≤ firstAt plan (t + d + 1)
+first-rising {p} {plan} B zero t lo hi = let e : firstAt plan (t + 0 + 1) ≡ firstAt plan (t + 1) = ap (λ (i : ℕ). firstAt plan (i + 1)) (let z : t + 0 ≡ t = omega arith in z) in omega arith
+first-rising {p} {plan} B (suc d) t lo hi =
+    let a : firstAt plan (t + 1) ≤ firstAt plan (t + d + 1) = first-rising B d t lo (omega arith) in
+    let b : firstAt plan (t + d + 1) ≤ firstAt plan (t + d + 1 + 1) = B .blocks (t + d + 1) (record { low = omega arith; high = omega arith }) .order in
+    let e : firstAt plan (t + suc d + 1) ≡ firstAt plan (t + d + 1 + 1) = ap (firstAt plan) (let z : t + suc d + 1 ≡ t + d + 1 + 1 = omega arith in z) in
+    omega arith
+
+pub last-first : {p : Policy} {plan : List ℕ} → Blocks p plan → (t : ℕ) → Within 1 (p .counts .types) t → firstAt plan (t + 1) ≤ firstAt plan (p .counts .types + 1)
+last-first {p} {plan} B t w =
+    let d : ℕ = p .counts .types - t in
+    let e : t + d ≡ p .counts .types = (let h = w .high in omega arith) in
+    subst (λ (i : ℕ). firstAt plan (t + 1) ≤ firstAt plan (i + 1)) e (first-rising B d t (w .low) (omega arith))

@@ -1,0 +1,122 @@
+// Of the permissions of an entry, those that stand for the others: the lowest of those that a search cannot tell apart.
+use crate::regions::EVENTS;
+use crate::regions::FIRST;
+use crate::regions::INS;
+use crate::regions::KEYS;
+use crate::regions::LEADS;
+use crate::regions::OUTS;
+use base::bits::has_bit;
+use base::bits::lowest;
+use base::bits::with_bit;
+use base::bits::without;
+use policy_image::counts::Counts;
+use tables::groups::constraint_groups;
+ghost use mathlib.Core.Path.{_≡_};
+ghost use Prim.Native.Nat.{_≤_, _<_};
+ghost use lib.ListN.{length};
+ghost use Rattle.base.specs.Fill.{Filled};
+ghost use Rattle.policy_image.specs.Policy.{policyOf};
+ghost use Rattle.policy_check.specs.Sound.{Sound};
+ghost use Rattle.plan.specs.Plan.{Ready, Tops, LeadsPut};
+ghost use Rattle.plan.specs.Leads.{likes, WithIf, SameSets, AlikeTable, Leading, EntryLeads};
+
+// The event of process transition, which is like no other.
+const TRANSITION: u32 = 32;
+
+// Whether the permission q of the group is in the same sets of the goal as the event of its class, and is not process transition.
+fn is_like(plan: &[u32], event: u32, group: u32, q: u32) -> bool
+    requires { ⌜ (event < 1024) × (q < 32) × (26368 ≤ length (now plan)) ⌝ }
+    ensures { λ r. ⌜ r ≡ likes (now (plan .entry)) event group q ⌝ }
+{
+    if !has_bit(group, q) {
+        return false;
+    }
+    let other = 32 * (event / 32) + q;
+    if other == TRANSITION {
+        return false;
+    }
+    let at = EVENTS + (other as usize);
+    let own = EVENTS + (event as usize);
+    plan[at] == plan[own]
+}
+
+// The mask, with bit q where yes.
+fn with_if(mask: u32, q: u32, yes: bool) -> u32
+    requires { ⌜ q < 32 ⌝ }
+    ensures { λ r. ⌜ WithIf mask q yes r ⌝ }
+{
+    if yes { with_bit(mask, q) } else { mask }
+}
+
+// The permissions of the group that are in the same sets of the goal as the event, without process transition.
+fn same_sets(plan: &[u32], event: u32, group: u32) -> u32
+    requires { ⌜ (event < 1024) × (26368 ≤ length (now plan)) ⌝ }
+    ensures { λ r. ⌜ SameSets (now (plan .entry)) event group 32 r ⌝ }
+{
+    let mut r: u32 = 0;
+    let mut q: u32 = 0;
+    while q < 32 {
+        r = with_if(r, q, is_like(plan, event, group, q));
+        q += 1;
+    }
+    r
+}
+
+// For each event of the policy's classes, the permissions of its class that a search cannot tell from it.
+fn alike_table(policy: &[u8], classes: u32, plan: &[u32]) -> [u32; 1024]
+    requires { ⌜ Sound (now policy) × (classes ≤ 31) × (26368 ≤ length (now plan)) ⌝ }
+    ensures { λ r. ⌜ AlikeTable (policyOf (now (policy .entry))) (now (plan .entry)) r ⌝ }
+{
+    let groups = constraint_groups(policy);
+    let mut alike = [0u32; 1024];
+    let end = 32 * (classes + 1);
+    let mut event = TRANSITION + 1;
+    while event < end {
+        let at = event as usize;
+        alike[at] = same_sets(plan, event, groups[at]);
+        event += 1;
+    }
+    alike
+}
+
+// Of the permissions of a class in the mask, the lowest of those that are alike.
+fn leading(alike: &[u32; 1024], class: u32, mask: u32) -> u32
+    requires { ⌜ class < 32 ⌝ }
+    ensures { λ r. ⌜ Leading (now (alike .entry)) class mask r ⌝ }
+{
+    let mut r: u32 = 0;
+    let mut left = mask;
+    while left != 0 {
+        let q = lowest(left);
+        let at = (32 * class + q) as usize;
+        r = with_bit(r, q);
+        left = without(left, with_bit(alike[at], q));
+    }
+    r
+}
+
+// The leading permissions of the first n entries.
+fn lead_entries(alike: &[u32; 1024], n: usize, plan: &mut [u32])
+    requires { ⌜ (n ≤ 8192) × (34560 ≤ length (now plan)) ⌝ }
+    ensures { λ _. ⌜ Filled (λ j v. EntryLeads (now (alike .entry)) (now (plan .entry)) j v) (now (plan .entry)) (now (plan .exit)) 26368 0 n ⌝ }
+{
+    let mut j: usize = 0;
+    while j < n {
+        let class = plan[KEYS + j] / 4096 % 32;
+        let outs = leading(alike, class, plan[OUTS + j]);
+        let ins = leading(alike, class, plan[INS + j]);
+        plan[LEADS + j] = outs | ins;
+        j += 1;
+    }
+}
+
+// The leading permissions of all entries. The goal's sets of the events are in the plan.
+pub fn put_leads(policy: &[u8], counts: Counts, plan: &mut [u32])
+    requires { ⌜ Ready (now policy) counts × Tops (counts .types) (now plan) × (34560 ≤ length (now plan)) ⌝ }
+    ensures { λ _. ⌜ LeadsPut (policyOf (now (policy .entry))) (counts .types) (now (plan .entry)) (now (plan .exit)) ⌝ }
+{
+    let alike = alike_table(policy, counts.classes, plan);
+    let last = (counts.types + 1) as usize;
+    let n = plan[FIRST + last] as usize;
+    lead_entries(&alike, n, plan);
+}
