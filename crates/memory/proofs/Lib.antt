@@ -2,3 +2,4 @@ pub mod KeyLaws
 pub mod MemoryLaws
 pub mod StandLaws
 pub mod LoopLaws
+pub mod SettledLaws

@@ -1,8 +1,8 @@
 -- The invariants of the three loops, and how each step of the code keeps them.
 use mathlib.Core.Path.{_≡_, sym, _∙_, ap, subst}
-use mathlib.Core.Bool.{Bool, true, false, not}
+use mathlib.Core.Bool.{Bool, true, false}
 use mathlib.Core.List.{List}
-use mathlib.Core.Logic.{⊎-elim}
+use mathlib.Core.Logic.{_⊎_, ⊎-elim}
 use Prim.Native.Nat.{ℕ, zero, _+_, _*_, _/_, _%_, _^_, _≤_, _<_}
 use native.Mathlib.Nat.{eq-or-lt-of-le, zero-mul}
 use native.Mathlib.Omega.{arith}
@@ -35,7 +35,7 @@ use Rattle.nodes.specs.State.{Inv, Turn}
 use Rattle.nodes.specs.Nodes.{watchOf, codeAt}
 use Rattle.nodes.specs.Arrivals.{Lands, LandsOpen, LandsGood, LandsBad, Arriving}
 use Rattle.nodes.specs.Blocks.{startOf, Asks, Ahead, FirstStep}
-use Rattle.memory.specs.Memory.{Marks, Memory}
+use Rattle.memory.specs.Memory.{Marks, OfEvent, Settled, Memory}
 use Rattle.nodes.specs.Tasks.{Task, graphOf, Stands, Asked, Faced}
 use Rattle.nodes.proofs.SearchLaws.{enter, take-up, turn-chain, chain-bound, end-turn}
 use Rattle.nodes.proofs.ArrivalLaws.{later}
@@ -180,9 +180,10 @@ module _ {s g : List ℕ} {n : Counts} {plan : List ℕ} {l : Legs} {m : Mode} {
     pub inner-key : {k : ℕ} → k ≡ keyOf a (eventsAt plan (o .at / 4096)) → k < 64
     inner-key q = subst (λ (i : ℕ). i < 64) (sym q) (key-few a (eventsAt plan (o .at / 4096)) (I .asker .few))
 
-    pub inner-swept : {mark : ℕ} → end ≤ y → Marks (keyOf a (eventsAt plan (o .at / 4096))) (not guarded) mark
-        → Memory s g n m plan back (set swept (o .at % 4096) (bitOr (getD swept (o .at % 4096) 0) mark)) spent
-    inner-swept h R = memory-swept (I .fixed .task) m (I .planned) (I .memory) (I .stands) node-in (I .asker) (I .ahead) (all-done h) (I .guards) R
+    pub inner-swept : {done : Bool} {mark : ℕ} → end ≤ y
+        → (done ≡ true → (guarded ≡ false) ⊎ Settled s g n m back state (eventsAt plan (o .at / 4096)) (startOf n (o .at % 4096)) (startOf n (o .at % 4096 + 1)))
+        → Marks (keyOf a (eventsAt plan (o .at / 4096))) done mark → Memory s g n m plan back (set swept (o .at % 4096) (bitOr (getD swept (o .at % 4096) 0) mark)) spent
+    inner-swept h D R = memory-swept (I .fixed .task) m (I .planned) (I .memory) (I .stands) node-in (I .asker) (I .ahead) (all-done h) (I .guards) D R
 
     pub inner-end : {swept′ : List ℕ} {r : Offer} → end ≤ y → Memory s g n m plan back swept′ spent → NextOffer (policyOf s) plan swept′ a x (o .at + 1) r
         → Middle s g n plan l m states back queue head tail stop depth u x state swept′ spent a r
@@ -213,6 +214,9 @@ module _ {s g : List ℕ} {n : Counts} {plan : List ℕ} {l : Legs} {m : Mode} {
     -- the event's sets
     pub sets-at : EventSets (goalOf g) (eventOf (o .at / 4096)) (eventsAt plan (o .at / 4096))
     sets-at = I .planned .goal .events (o .at / 4096) (event-low (I .fixed) (I .ahead)) (event-high (I .fixed) (I .ahead))
+
+    pub of-event : OfEvent g (eventsAt plan (o .at / 4096))
+    of-event = record { event = o .at / 4096; sets = sets-at }
 
     not-excepted : eventIn (goalOf g) γe (eventOf (o .at / 4096)) ≡ false
     not-excepted = sym (sets-at .at 14) ∙ first-false (bit (eventsAt plan (o .at / 4096)) 14) _ (I .ahead .unclosed)

@@ -1,12 +1,11 @@
 -- What a search remembers stays true, and what it passes over by it leads to nodes that are entered.
 use mathlib.Core.Path.{_≡_, refl, sym, _∙_, ap, ap₂, subst}
-use mathlib.Core.Bool.{Bool, true, false, not}
+use mathlib.Core.Bool.{Bool, true, false}
 use mathlib.Core.List.{List}
 use mathlib.Core.Logic.{_⊎_, inl, inr, ⊎-elim}
 use Prim.Native.Nat.{ℕ, _+_, _-_, _*_, _/_, _%_, _^_, _≤_, _<_}
 use native.Mathlib.Nat.{mod-lt, lt-of-lt-of-le}
 use native.Mathlib.Omega.{arith}
-use borrow.Author.Tests.{not-true}
 use lib.Bits.{bitAnd, bitOr}
 use lib.Dec.{T}
 use lib.ListN.{length, getD, set, length-set, replicate, length-replicate}
@@ -43,10 +42,10 @@ use Rattle.nodes.specs.Nodes.{Watch, watchOf, placeOf, stateOf, codeOf}
 use Rattle.nodes.specs.Watching.{By}
 use Rattle.nodes.specs.Tasks.{typeOf, Task, graphOf, Stands}
 use Rattle.nodes.specs.Blocks.{startOf, Asks, Ahead}
-use Rattle.memory.specs.Memory.{keepsOf, stateKey, Marks, Memory}
+use Rattle.memory.specs.Memory.{keepsOf, stateKey, Marks, Settled, Memory}
 use Rattle.nodes.proofs.SearchLaws.{clear-keep, turn-chain}
 use Rattle.nodes.proofs.ArrivalLaws.{by-of}
-use Rattle.nodes.proofs.TypeLaws.{type-le}
+use Rattle.nodes.proofs.TypeLaws.{type-lt, type-le}
 use Rattle.memory.proofs.KeyLaws.{kept, step-by-key}
 use Rattle.nodes.proofs.LevelLaws.{place-lt, place-le, whole, chain-open, edge-flow, edge-free, edge-freeE, edge-at, types-few, same-counts}
 
@@ -197,19 +196,25 @@ module _ {s g : List ℕ} {n : Counts} {l : Legs} (A : Task s g n l) (m : Mode) 
       not-excepted : eventIn (goalOf g) γe (eventOf e₀) ≡ false
       not-excepted = sym (P .goal .events e₀ e₀-low e₀-high .at 14) ∙ first-false (bit (eventsAt plan e₀) 14) (bit (getD swept (o .at % 4096) 0) (keyOf a (eventsAt plan e₀))) (O .unclosed)
 
-      -- another edge with the same key to the type is one from u
+      -- where another edge with the same key leads
+      key-step : (u′ e w : ℕ) → u′ < G .k → w < G .k → G .Edge u′ e w → keyOf a (eventsAt plan e₀) ≡ stateKey m plan (stateOf K u′) e
+          → W .step (stateOf K u′) e (codeOf n K w) ≡ W .step state e₀ (codeOf n K w)
+      key-step u′ e w lu′ lw ed key =
+          let r = sets-of e (contextAtIndex n (placeOf K u′)) (contextAtIndex n (placeOf K w)) (edge-flow A m (stands-any u′ lu′) lw ed) in
+          step-by-key m (stateOf K u′) state (codeOf n K w) (state-small u′) (subst (λ (i : ℕ). i < 64) (Q .state-is) (Q .few)) (by-at e (r .0) (r .1)) (by-at e₀ e₀-low e₀-high)
+          (sym key ∙ ap₂ (λ (i j : ℕ). bitAnd i (bitOr j (eventsAt plan e₀ / 2 ^ 7))) (Q .state-is) (Q .keeps-are))
+
+      arrival-held : (u′ e w : ℕ) → u′ < G .k → w < G .k → G .Edge u′ e w → held (policyOf s) (contextAtIndex n (placeOf K w)) ≡ true
+      arrival-held u′ e w lu′ lw ed = flow-held (policyOf s) (eventOf e) (contextAtIndex n (placeOf K u′)) (contextAtIndex n (placeOf K w)) (edge-flow A m (stands-any u′ lu′) lw ed) .1
+
+      -- without conditions it is one from u
       swept-edge : special (policyOf s) (eventOf e₀) ≡ false → (u′ e w : ℕ) → u′ < G .k → w < G .k → G .Edge u′ e w → typeOf g n w ≡ o .at % 4096
           → keyOf a (eventsAt plan e₀) ≡ stateKey m plan (stateOf K u′) e → Clear G back w
       swept-edge plain u′ e w lu′ lw ed ty key =
-          let f = edge-flow A m (stands-any u′ lu′) lw ed in
-          let r = sets-of e (contextAtIndex n (placeOf K u′)) (contextAtIndex n (placeOf K w)) f in
           let y : Context = contextAtIndex n (placeOf K w) in
           let O′ : Offering (policyOf s) plan (x .ty) e₀ (y .ty) (o .entry) = subst (λ (i : ℕ). Offering (policyOf s) plan (x .ty) e₀ i (o .entry)) (sym ty) (O .offering) in
-          let f₀ : flow (policyOf s) (eventOf e₀) x y ≡ true = plain-flow x y (O .meets) (flow-held (policyOf s) (eventOf e) (contextAtIndex n (placeOf K u′)) y f .1) O′ plain in
-          let q : W .step (stateOf K u′) e (codeOf n K w) ≡ W .step state e₀ (codeOf n K w)
-          = step-by-key m (stateOf K u′) state (codeOf n K w) (state-small u′) (subst (λ (i : ℕ). i < 64) (Q .state-is) (Q .few)) (by-at e (r .0) (r .1)) (by-at e₀ e₀-low e₀-high)
-          (sym key ∙ ap₂ (λ (i j : ℕ). bitAnd i (bitOr j (eventsAt plan e₀ / 2 ^ 7))) (Q .state-is) (Q .keeps-are)) in
-          t .targets w (below w ty) (edge-from S (chain-open A m (turn-chain t)) (O .free) u′ e e₀ w lw ed not-excepted f₀ q)
+          let f₀ : flow (policyOf s) (eventOf e₀) x y ≡ true = plain-flow x y (O .meets) (arrival-held u′ e w lu′ lw ed) O′ plain in
+          t .targets w (below w ty) (edge-from S (chain-open A m (turn-chain t)) (O .free) u′ e e₀ w lw ed not-excepted f₀ (key-step u′ e w lu′ lw ed key))
         where
           below : (w : ℕ) → typeOf g n w ≡ o .at % 4096 → w < startOf n (o .at % 4096 + 1) * K
           below w ty =
@@ -218,16 +223,35 @@ module _ {s g : List ℕ} {n : Counts} {l : Legs} (A : Task s g n l) (m : Mode) 
               (λ h. h)
               (split-le (startOf n (o .at % 4096 + 1) * K) w)
 
-      pub memory-swept : {guarded : Bool} {mark : ℕ} → guarded ≡ special (policyOf s) (eventOf e₀) → Marks (keyOf a (eventsAt plan e₀)) (not guarded) mark
-          → Memory s g n m plan back (set swept (o .at % 4096) (bitOr (getD swept (o .at % 4096) 0) mark)) spent
-      memory-swept {guarded} {mark} c R =
+      -- where all that could be entered is entered, it leads there
+      settled-edge : Settled s g n m back state (eventsAt plan e₀) (startOf n (o .at % 4096)) (startOf n (o .at % 4096 + 1)) → (u′ e w : ℕ) → u′ < G .k → w < G .k → G .Edge u′ e w
+          → typeOf g n w ≡ o .at % 4096 → keyOf a (eventsAt plan e₀) ≡ stateKey m plan (stateOf K u′) e → Clear G back w
+      settled-edge F u′ e w lu′ lw ed ty key =
+          F .all e₀ w (P .goal .events e₀ e₀-low e₀-high) from to (arrival-held u′ e w lu′ lw ed) (ed .state ∙ key-step u′ e w lu′ lw ed key) (ed .kept)
+        where
+          from : startOf n (o .at % 4096) ≤ placeOf K w
+          from =
+              ⊎-elim (λ h. h) (λ (h : placeOf K w < startOf n (o .at % 4096)). absurd (let z = type-lt (A .legs .countable) (o .at % 4096) (placeOf K w) h in omega arith))
+              (split-le (startOf n (o .at % 4096)) (placeOf K w))
+
+          to : placeOf K w < startOf n (o .at % 4096 + 1)
+          to =
+              ⊎-elim (λ (h : startOf n (o .at % 4096 + 1) ≤ placeOf K w). absurd (let z = type-le (A .legs .countable) (o .at % 4096 + 1) (placeOf K w) h in omega arith)) (λ h. h)
+              (split-le (startOf n (o .at % 4096 + 1)) (placeOf K w))
+
+      pub memory-swept : {guarded done : Bool} {mark : ℕ} → guarded ≡ special (policyOf s) (eventOf e₀)
+          → (done ≡ true → (guarded ≡ false) ⊎ Settled s g n m back state (eventsAt plan e₀) (startOf n (o .at % 4096)) (startOf n (o .at % 4096 + 1)))
+          → Marks (keyOf a (eventsAt plan e₀)) done mark → Memory s g n m plan back (set swept (o .at % 4096) (bitOr (getD swept (o .at % 4096) 0) mark)) spent
+      memory-swept {guarded} {done} {mark} c D R =
           record {
             swept-size = simp length-set (N .swept-size);
             spent-size = N .spent-size;
             over = N .over;
             done = λ u′ e w lu′ lw ed b.
                 ⊎-elim (λ d. N .done u′ e w lu′ lw ed d)
-                (λ d. let k = R .only _ (d .1) in swept-edge (sym c ∙ not-true guarded (k .0)) u′ e w lu′ lw ed (d .0) (k .1))
+                (λ d.
+                let k = R .only _ (d .1) in
+                ⊎-elim (λ f. swept-edge (sym c ∙ f) u′ e w lu′ lw ed (d .0) (k .1)) (λ F. settled-edge F u′ e w lu′ lw ed (d .0) (k .1)) (D (k .0)))
                 (added-bit swept (o .at % 4096) mark (typeOf g n w) (stateKey m plan (stateOf K u′) e) (omega (arith, other-few, N .swept-size)) b);
           }
 

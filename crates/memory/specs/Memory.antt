@@ -2,19 +2,24 @@
 use mathlib.Core.Path.{_≡_}
 use mathlib.Core.Bool.{Bool, true, false}
 use mathlib.Core.List.{List}
-use Prim.Native.Nat.{ℕ, _/_, _^_, _<_}
+use Prim.Native.Nat.{ℕ, _/_, _^_, _≤_, _<_}
 use lib.Bits.{bitAnd, bitOr}
+use lib.Dec.{T}
 use lib.ListN.{length, getD}
 use Rattle.base.specs.Bits.{bit}
 use Rattle.policy_image.specs.declared.counts.Counts.{Counts}
 use Rattle.policy_image.specs.Policy.{policyOf}
 use Rattle.context.specs.Codes.{eventOf}
+use Rattle.context.specs.Places.{contextAtIndex}
 use Rattle.goal_image.specs.Layout.{legsOf}
+use Rattle.goal_image.specs.Goal.{goalOf}
+use Rattle.goal_image.specs.Sets.{EventSets}
+use Rattle.goal_model.specs.Images.{held, model}
 use Rattle.plan.specs.Plan.{eventsAt, special}
 use Rattle.nodes.specs.declared.monitor.Mode.{Mode}
 use Rattle.nodes.specs.declared.monitor.Mode.the-variants.{Order, Events}
 use Rattle.nodes.specs.State.{Clear}
-use Rattle.nodes.specs.Nodes.{stateOf}
+use Rattle.nodes.specs.Nodes.{watchOf, placeOf, stateOf, codeOf}
 use Rattle.nodes.specs.Tasks.{graphOf, typeOf}
 
 -- the bits of a state that every event keeps
@@ -40,3 +45,17 @@ pub record Memory (s g : List ℕ) (n : Counts) (m : Mode) (plan back swept spen
       → bit (getD swept (typeOf g n w) 0) (stateKey m plan (stateOf (2 ^ legsOf g) u) e) ≡ true → Clear (graphOf s g n m) back w
   pub over : (u e w : ℕ) → u < graphOf s g n m .k → w < graphOf s g n m .k → graphOf s g n m .Edge u e w → special (policyOf s) (eventOf e) ≡ false
       → bit (getD spent (typeOf g n u) 0) (stateOf (2 ^ legsOf g) u) ≡ true → Clear (graphOf s g n m) back w
+
+-- some event is in just the sets by
+pub record OfEvent (g : List ℕ) (by : ℕ) : Type 0 where
+  pub event : ℕ
+  pub sets : EventSets (goalOf g) (eventOf event) by
+
+-- of the contexts at the places from lo to below hi that meet ρ and μ, a node in the state to which an event in the sets by leads from
+-- the state is no end and is visited, if an edge may lead there at all
+pub record Settled (s g : List ℕ) (n : Counts) (m : Mode) (back : List ℕ) (state by lo hi : ℕ) : Type 0 where
+  pub all : (e w : ℕ) → EventSets (goalOf g) (eventOf e) by → lo ≤ placeOf (2 ^ legsOf g) w → placeOf (2 ^ legsOf g) w < hi
+      → held (policyOf s) (contextAtIndex n (placeOf (2 ^ legsOf g) w)) ≡ true
+      → stateOf (2 ^ legsOf g) w ≡ watchOf m (model s g) .step state e (codeOf n (2 ^ legsOf g) w)
+      → (T (model s g .σ (model s g .legs) (codeOf n (2 ^ legsOf g) w)) → T (watchOf m (model s g) .bad (stateOf (2 ^ legsOf g) w)))
+      → Clear (graphOf s g n m) back w

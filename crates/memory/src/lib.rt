@@ -1,4 +1,6 @@
 // What a search remembers, so that it sweeps the contexts of a type once for each part of a state that a step depends on.
+pub mod settled;
+
 use nodes::monitor::Mode;
 ghost use mathlib.Core.Path.{_≡_};
 ghost use Prim.Native.Nat.{_<_};

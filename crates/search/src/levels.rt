@@ -4,6 +4,7 @@ use context::Context;
 use goal_image::check::Legs;
 use memory::keeps_of;
 use memory::mark;
+use memory::settled::is_settled;
 use nodes::arrival::Arrival;
 use nodes::arrival::arrive;
 use nodes::arrival::first_step;
@@ -108,8 +109,21 @@ pub fn search_levels(
                 }
                 y += 1;
             }
+            let done = is_settled(
+                policy,
+                goal,
+                counts,
+                plan,
+                legs,
+                mode,
+                state,
+                by,
+                back,
+                ty,
+                guarded,
+            );
             let other = ty as usize;
-            swept[other] = swept[other] | mark(key_of(a, by), !guarded);
+            swept[other] = swept[other] | mark(key_of(a, by), done);
             offer = next_offer(
                 policy,
                 counts,

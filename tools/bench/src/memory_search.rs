@@ -208,6 +208,7 @@ impl Plan {
                         continue;
                     }
                     let free = (out | reads) & !special[e.class] != 0;
+                    let mut left_out = false;
                     for &to in &held[e.to] {
                         let into = sets.contexts[to];
                         let (next, bad) = self.arrive(order, kept, into);
@@ -219,6 +220,7 @@ impl Plan {
                         if !free {
                             let y = context(policy, to);
                             if allowed(policy, e.class, out, x, y) | allowed(policy, e.class, reads, y, x) == 0 {
+                                left_out = true;
                                 continue;
                             }
                         }
@@ -228,7 +230,7 @@ impl Plan {
                         back[number] = node + 1;
                         queue.push(number as u32);
                     }
-                    if free {
+                    if !left_out {
                         swept[e.to] |= 1 << kept;
                     }
                 }

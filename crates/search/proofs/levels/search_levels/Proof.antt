@@ -1,4 +1,4 @@
-use Rattle.memory.proofs.LoopLaws.{Middle, Inner, node-below, asks-same, marks-same, middle-begin, middle-end, middle-spent, event-few, other-few, type-low, type-high, inner-begin, inner-key, inner-swept, inner-end, inner-place, inner-fits, inner-facing, inner-skip, inner-below, inner-entered, inner-seen, inner-dropped, inner-broken, inner-next}
+use Rattle.memory.proofs.LoopLaws.{Middle, Inner, node-below, asks-same, marks-same, middle-begin, middle-end, middle-spent, event-few, other-few, type-low, type-high, inner-begin, inner-key, of-event, inner-swept, inner-end, inner-place, inner-fits, inner-facing, inner-skip, inner-below, inner-entered, inner-seen, inner-dropped, inner-broken, inner-next}
 use Rattle.memory.proofs.StandLaws.{Around, around, at-place, stand, own-few, state-few, asker-of}
 use Rattle.memory.proofs.MemoryLaws.{memory-begin, memory-keep}
 use Rattle.nodes.proofs.ArrivalLaws.{later}
@@ -199,40 +199,44 @@ loop2-again c = let i = c .before .before .before .loop2 .inv in
     (λ w. rw (w .5, w .6, w .7) (i .0, i .1, inner-next (i .2) h N (inner-seen (i .2) h z (w .1 .given .1) (w .4 .left)))))))
     (c .match .came)
 
+is-settled-requires :
+    tie.Need-is-settled-requires Inv-loop2 μ-loop2 Inv-loop μ-loop Inv-search μ-search
+is-settled-requires c κs = let I = c .before .before .loop2 .inv .2 in (I .fixed .task, I .planned, of-event I, I .turn .inv .back-room, record { low = type-low (I .fixed) (I .ahead); high = type-high (I .fixed) (I .ahead) })
+
 cast-other : tie.Need-cast-other Inv-loop2 μ-loop2 Inv-loop μ-loop Inv-search μ-search
 cast-other c = omega arith
 
 mul-swept : tie.Need-mul-swept Inv-loop2 μ-loop2 Inv-loop μ-loop Inv-search μ-search
-mul-swept c = let I = c .before .loop2 .inv .2 in omega (arith, other-few (I .fixed) (I .ahead))
+mul-swept c = let I = c .before .before .before .loop2 .inv .2 in omega (arith, other-few (I .fixed) (I .ahead))
 
 array-read-swept : tie.Need-array-read-swept Inv-loop2 μ-loop2 Inv-loop μ-loop Inv-search μ-search
-array-read-swept c = let I = c .before .loop2 .inv .2 in omega (arith, other-few (I .fixed) (I .ahead), I .memory .swept-size)
+array-read-swept c = let I = c .before .before .before .loop2 .inv .2 in omega (arith, other-few (I .fixed) (I .ahead), I .memory .swept-size)
 
 key-of-requires : tie.Need-key-of-requires Inv-loop2 μ-loop2 Inv-loop μ-loop Inv-search μ-search
 key-of-requires c κs = search needs
 
 mark-requires : tie.Need-mark-requires Inv-loop2 μ-loop2 Inv-loop μ-loop Inv-search μ-search
-mark-requires c κs = inner-key (c .before .before .loop2 .inv .2) (c .key-of .ensures)
+mark-requires c κs = inner-key (c .before .before .before .before .loop2 .inv .2) (c .key-of .ensures)
 
 mul-swept-2 : tie.Need-mul-swept-2 Inv-loop2 μ-loop2 Inv-loop μ-loop Inv-search μ-search
-mul-swept-2 c = let I = c .before .before .before .loop2 .inv .2 in omega (arith, other-few (I .fixed) (I .ahead))
+mul-swept-2 c = let I = c .before .before .before .before .before .loop2 .inv .2 in omega (arith, other-few (I .fixed) (I .ahead))
 
 array-write-swept :
     tie.Need-array-write-swept Inv-loop2 μ-loop2 Inv-loop μ-loop Inv-search μ-search
-array-write-swept c = let I = c .before .before .before .loop2 .inv .2 in omega (arith, other-few (I .fixed) (I .ahead), I .memory .swept-size)
+array-write-swept c = let I = c .before .before .before .before .before .loop2 .inv .2 in omega (arith, other-few (I .fixed) (I .ahead), I .memory .swept-size)
 
 add-next-offer : tie.Need-add-next-offer Inv-loop2 μ-loop2 Inv-loop μ-loop Inv-search μ-search
-add-next-offer c = omega (arith, c .before .before .before .before .before .loop2 .inv .2 .below)
+add-next-offer c = omega (arith, c .before .before .before .before .before .before .before .loop2 .inv .2 .below)
 
 next-offer-requires :
     tie.Need-next-offer-requires Inv-loop2 μ-loop2 Inv-loop μ-loop Inv-search μ-search
-next-offer-requires c κs = let I = c .before .before .before .before .before .loop2 .inv .2 in (I .asker .few, I .fixed .task .given .ready, I .planned .policy, I .stands .range, (omega (arith, I .below), later (I .ahead .cursor) (omega arith)))
+next-offer-requires c κs = let I = c .before .before .before .before .before .before .before .loop2 .inv .2 in (I .asker .few, I .fixed .task .given .ready, I .planned .policy, I .stands .range, (omega (arith, I .below), later (I .ahead .cursor) (omega arith)))
 
 loop-less : tie.Need-loop-less Inv-loop2 μ-loop2 Inv-loop μ-loop Inv-search μ-search
-loop-less c = omega (arith, c .before .before .before .before .before .before .loop2 .inv .2 .below, c .next-offer .ensures .low)
+loop-less c = omega (arith, c .before .before .before .before .before .before .before .before .loop2 .inv .2 .below, c .next-offer .ensures .low)
 
 loop-again : tie.Need-loop-again Inv-loop2 μ-loop2 Inv-loop μ-loop Inv-search μ-search
-loop-again c = let i = c .before .before .before .before .before .before .loop2 .inv in let j = c .before .before .before .before .before .before .before .before .before .before .before .before .before .before .before .loop .inv in let d = c .before .before .before .before .before .loop2-test .left in (i .0 ∙ j .0, i .1 ∙ j .1, inner-end (i .2) d (inner-swept (i .2) d (marks-same (c .before .before .before .before .key-of .ensures) (c .before .before .before .mark .ensures))) (c .next-offer .ensures))
+loop-again c = let i = c .before .before .before .before .before .before .before .before .loop2 .inv in let j = c .before .before .before .before .before .before .before .before .before .before .before .before .before .before .before .before .before .loop .inv in let d = c .before .before .before .before .before .before .before .loop2-test .left in (i .0 ∙ j .0, i .1 ∙ j .1, inner-end (i .2) d (inner-swept (i .2) d (c .before .before .before .before .before .is-settled .ensures) (marks-same (c .before .before .before .before .key-of .ensures) (c .before .before .before .mark .ensures))) (c .next-offer .ensures))
 
 mul-spent : tie.Need-mul-spent Inv-loop2 μ-loop2 Inv-loop μ-loop Inv-search μ-search
 mul-spent c = let I = c .before .before .loop .inv .2 in omega (arith, own-few (I .fixed) (I .stands))
@@ -330,6 +334,7 @@ search-levels-spec =
     add-y
     loop2-less
     loop2-again
+    is-settled-requires
     cast-other
     mul-swept
     array-read-swept

@@ -1,0 +1,51 @@
+use Prim.Native.Nat.{_-_, _≤_}
+use mathlib.Core.Path.{refl}
+use borrow.Author.Tests.{not-false}
+use Rattle.base.proofs.UptoLaws.{clash}
+use Rattle.memory.specs.Memory.{Settled}
+use Rattle.memory.proofs.SettledLaws.{settled-begin, settled-join, settled-end}
+use native.Mathlib.Omega.{arith}
+use borrow.Author.Needs.{needs}
+use Rattle.memory.proofs.settled.all_entered.Statement.{statement}
+use Rattle.memory.proofs.settled.all_entered.Tie as tie
+
+abbrev Inv-loop : tie.InvT-loop
+Inv-loop policy goal counts plan legs mode state by back start end y₀ y = (start ≤ y) × Settled policy goal counts mode back state by start y
+
+abbrev μ-loop : tie.MeasureT-loop
+μ-loop policy goal counts plan legs mode state by back start end y₀ y = end - y
+
+loop-holds : tie.Need-loop-holds Inv-loop μ-loop
+loop-holds c = (omega arith, settled-begin _)
+
+is-entered-requires : tie.Need-is-entered-requires Inv-loop μ-loop
+is-entered-requires c κs = search needs
+
+returns : tie.Need-returns Inv-loop μ-loop
+returns c = λ t. absurd (clash t refl)
+
+add-y : tie.Need-add-y Inv-loop μ-loop
+add-y c = search needs
+
+loop-less : tie.Need-loop-less Inv-loop μ-loop
+loop-less c = search needs
+
+loop-again : tie.Need-loop-again Inv-loop μ-loop
+loop-again c = (omega arith, settled-join (c .before .before .before .loop .inv .1) (c .before .is-entered .ensures (not-false _ (c .if1 .left))))
+
+returns-2 : tie.Need-returns-2 Inv-loop μ-loop
+returns-2 c = λ _. settled-end (c .loop-test .left) (c .before .loop .inv .1)
+
+pub all-entered-spec : {M : Type 1} → statement M
+all-entered-spec =
+    tie.close
+    (tie.spec
+    Inv-loop
+    μ-loop
+    loop-holds
+    is-entered-requires
+    returns
+    add-y
+    loop-less
+    loop-again
+    returns-2)
