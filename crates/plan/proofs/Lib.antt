@@ -1,3 +1,4 @@
 pub mod KnownLaws
 pub mod BlockLaws
 pub mod LeadLaws
+pub mod TypeLaws

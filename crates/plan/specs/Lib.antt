@@ -1,2 +1,3 @@
 pub mod Plan
+pub mod Types
 pub mod Leads

@@ -4,3 +4,4 @@ pub mod fill;
 pub mod leads;
 pub mod make;
 pub mod regions;
+pub mod types;

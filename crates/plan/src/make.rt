@@ -11,10 +11,12 @@ use crate::regions::INS;
 use crate::regions::KEYS;
 use crate::regions::OUTS;
 use crate::regions::SPECIAL;
+use crate::types::TypeSets;
+use crate::types::sets_of;
+use crate::types::sets_of_type;
 use base::bits::has_bit;
 use context::Context;
 use context::Event;
-use goal_image::sets::context_sets;
 use goal_image::sets::event_sets;
 use index::index::index;
 use policy_image::counts::Counts;
@@ -187,12 +189,18 @@ fn put_contexts(policy: &[u8], goal: &[u8], counts: Counts, plan: &mut [u32])
     let roles = role_table(policy, &domains);
     let users = user_table(policy);
     let count = Context::count(counts);
+    let mut own = TypeSets {
+        ty: 0,
+        sets: 0,
+        all: false,
+    };
     let mut y: u32 = 0;
     while y < count {
         let x = Context::at(y, counts);
         let held = is_held(&roles, &users, x);
+        own = sets_of_type(goal, own, x.ty);
         let at = CONTEXTS + (y as usize);
-        plan[at] = known(context_sets(goal, x), held);
+        plan[at] = known(sets_of(goal, own, x), held);
         y += 1;
     }
 }

@@ -1,6 +1,4 @@
-use Rattle.plan.proofs.KnownLaws.{known-same}
 use Rattle.base.proofs.FillLaws.{fill-begin, fill-more, fill-end}
-use Rattle.plan.proofs.KnownLaws.{known-law, in-bytes}
 use Prim.Native.Nat.{_-_, _≤_}
 use mathlib.Core.Path.{_≡_, refl}
 use lib.ListN.{length, length-set}
@@ -11,17 +9,19 @@ use Rattle.goal_image.specs.Goal.{goalOf}
 use Rattle.goal_image.specs.Sound.{SoundGoal}
 use Rattle.tables.specs.Tables.{RoleTable, UserTable}
 use Rattle.plan.specs.Plan.{Ready, Known}
-use Rattle.plan.proofs.KnownLaws.{known-law}
+use Rattle.plan.specs.Types.{SetsOfType}
+use Rattle.plan.proofs.KnownLaws.{known-law, known-same, in-bytes}
+use Rattle.plan.proofs.TypeLaws.{sets-own, sets-none}
 use native.Mathlib.Omega.{arith}
 use borrow.Author.Needs.{needs}
 use Rattle.plan.proofs.make.put_contexts.Statement.{statement}
 use Rattle.plan.proofs.make.put_contexts.Tie as tie
 
 abbrev Inv-loop : tie.InvT-loop
-Inv-loop policy goal counts plan₀ roles users count y₀ plan y = (count ≡ contextCount counts) × (y ≤ count) × (length plan ≡ length plan₀) × RoleTable (policyOf policy) roles × UserTable (policyOf policy) users × Ready policy counts × SoundGoal goal × Filled (λ j v. Known (policyOf policy) (goalOf goal) (contextAtIndex counts j) v) plan₀ plan 34560 0 y
+Inv-loop policy goal counts plan₀ roles users count own₀ y₀ plan own y = (count ≡ contextCount counts) × (y ≤ count) × (length plan ≡ length plan₀) × RoleTable (policyOf policy) roles × UserTable (policyOf policy) users × Ready policy counts × SoundGoal goal × Filled (λ j v. Known (policyOf policy) (goalOf goal) (contextAtIndex counts j) v) plan₀ plan 34560 0 y × SetsOfType (goalOf goal) (own .ty) own
 
 abbrev μ-loop : tie.MeasureT-loop
-μ-loop policy goal counts plan₀ roles users count y₀ plan y = count - y
+μ-loop policy goal counts plan₀ roles users count own₀ y₀ plan own y = count - y
 
 domain-table-requires : tie.Need-domain-table-requires Inv-loop μ-loop
 domain-table-requires c κs = c .before .before .before .pre .0 .sound
@@ -36,7 +36,7 @@ count-requires : tie.Need-count-requires Inv-loop μ-loop
 count-requires c κs = c .before .before .before .before .before .before .before .pre .0 .countable
 
 loop-holds : tie.Need-loop-holds Inv-loop μ-loop
-loop-holds c = (c .count .ensures, omega arith, refl, c .before .before .role-table .ensures, c .before .user-table .ensures, c .before .before .before .before .before .before .before .before .pre .0, c .before .before .before .before .before .before .before .before .pre .1, fill-begin _ _ _ _)
+loop-holds c = (c .count .ensures, omega arith, refl, c .before .before .role-table .ensures, c .before .user-table .ensures, c .before .before .before .before .before .before .before .before .pre .0, c .before .before .before .before .before .before .before .before .pre .1, fill-begin _ _ _ _, sets-none refl refl)
 
 at-requires : tie.Need-at-requires Inv-loop μ-loop
 at-requires c κs = (c .before .loop .inv .5 .countable, omega arith)
@@ -50,8 +50,11 @@ cast-at c = search needs
 add-at : tie.Need-add-at Inv-loop μ-loop
 add-at c = search needs
 
-context-sets-requires : tie.Need-context-sets-requires Inv-loop μ-loop
-context-sets-requires c κs = c .before .before .before .before .before .loop .inv .6
+sets-of-type-requires : tie.Need-sets-of-type-requires Inv-loop μ-loop
+sets-of-type-requires c κs = (c .before .before .before .before .before .loop .inv .6, c .before .before .before .before .before .loop .inv .8)
+
+sets-of-requires : tie.Need-sets-of-requires Inv-loop μ-loop
+sets-of-requires c κs = (c .before .before .before .before .before .before .loop .inv .6, c .sets-of-type .ensures)
 
 known-requires : tie.Need-known-requires Inv-loop μ-loop
 known-requires c κs = search needs
@@ -60,7 +63,7 @@ mul-plan : tie.Need-mul-plan Inv-loop μ-loop
 mul-plan c = search needs
 
 slice-write-plan : tie.Need-slice-write-plan Inv-loop μ-loop
-slice-write-plan c = omega (arith, c .before .before .before .before .before .before .before .before .before .before .before .before .before .before .before .before .pre .2)
+slice-write-plan c = omega (arith, c .before .before .before .before .before .before .before .before .before .before .before .before .before .before .before .before .before .pre .2)
 
 add-y : tie.Need-add-y Inv-loop μ-loop
 add-y c = search needs
@@ -69,8 +72,9 @@ loop-less : tie.Need-loop-less Inv-loop μ-loop
 loop-less c = search needs
 
 loop-again : tie.Need-loop-again Inv-loop μ-loop
-loop-again c = let l = c .before .before .before .before .before .before .before .loop in
-    let b = in-bytes (l .inv .5) (omega arith) (c .before .before .before .before .before .at .ensures) in (
+loop-again c =
+    let l = c .before .before .before .before .before .before .before .before .loop in
+    let b = in-bytes (l .inv .5) (omega arith) (c .before .before .before .before .before .before .at .ensures) in (
       l .inv .0,
       omega arith,
       simp length-set (l .inv .2),
@@ -78,8 +82,9 @@ loop-again c = let l = c .before .before .before .before .before .before .before
       l .inv .4,
       l .inv .5,
       l .inv .6,
-      fill-more _ (l .inv .7) (omega arith) (omega (arith, c .before .before .before .before .before .before .before .before .before .before .before .before .before .before .before .before .pre .2))
-          (known-same (c .before .before .before .before .before .at .ensures) (known-law (c .before .context-sets .ensures) (c .known .ensures) (l .inv .3) (l .inv .4) (b .0) (b .2) (c .before .before .is-held .ensures))),
+      fill-more _ (l .inv .7) (omega arith) (omega (arith, c .before .before .before .before .before .before .before .before .before .before .before .before .before .before .before .before .before .pre .2))
+          (known-same (c .before .before .before .before .before .before .at .ensures) (known-law (c .before .sets-of .ensures) (c .known .ensures) (l .inv .3) (l .inv .4) (b .0) (b .2) (c .before .before .before .is-held .ensures))),
+      sets-own (c .before .before .sets-of-type .ensures),
     )
 
 same-length : tie.Need-same-length Inv-loop μ-loop
@@ -101,9 +106,10 @@ put-contexts-spec =
     loop-holds
     at-requires
     is-held-requires
+    sets-of-type-requires
     cast-at
     add-at
-    context-sets-requires
+    sets-of-requires
     known-requires
     mul-plan
     slice-write-plan
