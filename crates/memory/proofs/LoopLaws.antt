@@ -1,11 +1,12 @@
 -- The invariants of the three loops, and how each step of the code keeps them.
 use mathlib.Core.Path.{_≡_, sym, _∙_, ap, subst}
-use mathlib.Core.Bool.{Bool, true, false}
+use mathlib.Core.Bool.{Bool, true, false, not}
 use mathlib.Core.List.{List}
 use mathlib.Core.Logic.{_⊎_, ⊎-elim}
 use Prim.Native.Nat.{ℕ, zero, _+_, _*_, _/_, _%_, _^_, _≤_, _<_}
 use native.Mathlib.Nat.{eq-or-lt-of-le, zero-mul}
 use native.Mathlib.Omega.{arith}
+use borrow.Author.Tests.{not-true}
 use lib.Bits.{bitOr}
 use lib.ListN.{getD, set}
 use Rattle.base.specs.Bits.{bit}
@@ -19,7 +20,7 @@ use Rattle.goal_image.specs.declared.check.Legs.{Legs}
 use Rattle.goal_image.specs.Layout.{legsOf}
 use Rattle.goal_image.specs.Goal.{Goal, goalOf, γe}
 use Rattle.goal_image.specs.Sets.{eventIn, EventSets}
-use Rattle.goal_model.specs.Images.{model}
+use Rattle.goal_model.specs.Images.{held, model}
 use Rattle.plan.specs.Plan.{eventsAt, special, Planned}
 use Rattle.steps.specs.declared.nearest.Asker.{Asker}
 use Rattle.steps.specs.declared.nearest.Offer.{Offer}
@@ -27,6 +28,7 @@ use Rattle.steps.specs.Nearest.{keyOf}
 use Rattle.steps.specs.Steps.{Offering, NextOffer, Facing}
 use Rattle.base.proofs.UptoLaws.{first-false}
 use Rattle.steps.proofs.NearestLaws.{key-few}
+use Rattle.steps.proofs.FlowLaws.{no-flow}
 use Rattle.nodes.specs.declared.arrival.Arrival.{Arrival}
 use Rattle.nodes.specs.declared.arrival.Arrival.the-variants.{Enter, Dropped, Broken}
 use Rattle.nodes.specs.declared.monitor.Mode.{Mode}
@@ -244,6 +246,10 @@ module _ {s g : List ℕ} {n : Counts} {plan : List ℕ} {l : Legs} {m : Mode} {
       pub inner-skip : {b : Bool} → b ≡ flow (policyOf s) (eventOf (o .at / 4096)) x (contextAtIndex n y) → b ≡ false
           → Turn (graphOf s g n m) back queue head tail stop depth u (o .at / 4096) ((y + 1) * 2 ^ legsOf g)
       inner-skip p f = not-target (I .fixed .task) m (I .stands) (I .turn) inner-place (sym p ∙ f)
+
+      pub inner-unheld : {b : Bool} → b ≡ held (policyOf s) (contextAtIndex n y) → not b ≡ true
+          → Turn (graphOf s g n m) back queue head tail stop depth u (o .at / 4096) ((y + 1) * 2 ^ legsOf g)
+      inner-unheld {b} q t = not-target (I .fixed .task) m (I .stands) (I .turn) inner-place (no-flow (policyOf s) (eventOf (o .at / 4096)) x (contextAtIndex n y) (sym q ∙ not-true b t))
 
       module _ {r : Arrival} (Z : Arriving g n l m state (eventsAt plan (o .at / 4096)) y r) where
         abbrev goes : ℕ

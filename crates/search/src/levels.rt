@@ -18,6 +18,7 @@ use steps::nearest::Asker;
 use steps::nearest::NONE;
 use steps::nearest::key_of;
 use steps::offers::next_offer;
+use steps::targets::is_held;
 use steps::targets::is_special;
 use steps::targets::is_target;
 ghost use Rattle.plan.specs.Plan.{Planned};
@@ -88,6 +89,11 @@ pub fn search_levels(
             let end = first_place(counts, ty + 1);
             let mut y = first_place(counts, ty);
             while y < end {
+                // Many contexts of a type may meet neither ρ nor μ: those are no targets.
+                if !is_held(policy, counts, plan, y) {
+                    y += 1;
+                    continue;
+                }
                 // The conditions of a target are asked last: only where it would be a node that is new.
                 match arrive(goal, counts, plan, legs, mode, state, by, y) {
                     Arrival::Broken(v) => {

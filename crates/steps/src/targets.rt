@@ -80,6 +80,15 @@ fn flows_by(
     may_act(policy, counts, plan, event, back, y, x)
 }
 
+// Whether the context at place y meets ρ and μ.
+pub fn is_held(policy: &[u8], counts: Counts, plan: &[u32], y: u32) -> bool
+    requires { ⌜ PolicyPlan (now policy) counts (now plan) × (y < contextCount counts) ⌝ }
+    ensures { λ r. ⌜ r ≡ held (policyOf (now (policy .entry))) (contextAtIndex counts y) ⌝ }
+{
+    let at = CONTEXTS + (y as usize);
+    has_bit(plan[at], 31)
+}
+
 // Whether the event flows from x to the context at place y, whose type the entry offers it to.
 pub fn is_target(
     policy: &[u8],

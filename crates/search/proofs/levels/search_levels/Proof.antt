@@ -1,4 +1,4 @@
-use Rattle.memory.proofs.LoopLaws.{Middle, Inner, node-below, asks-same, marks-same, middle-begin, middle-end, middle-spent, event-few, other-few, type-low, type-high, inner-begin, inner-key, of-event, inner-swept, inner-end, inner-place, inner-fits, inner-facing, inner-skip, inner-below, inner-entered, inner-seen, inner-dropped, inner-broken, inner-next}
+use Rattle.memory.proofs.LoopLaws.{Middle, Inner, node-below, asks-same, marks-same, middle-begin, middle-end, middle-spent, event-few, other-few, type-low, type-high, inner-begin, inner-key, of-event, inner-swept, inner-end, inner-place, inner-fits, inner-facing, inner-skip, inner-unheld, inner-below, inner-entered, inner-seen, inner-dropped, inner-broken, inner-next}
 use Rattle.memory.proofs.StandLaws.{Around, around, at-place, stand, own-few, state-few, asker-of}
 use Rattle.memory.proofs.MemoryLaws.{memory-begin, memory-keep}
 use Rattle.nodes.proofs.ArrivalLaws.{later}
@@ -129,15 +129,30 @@ first-place-requires-2 c κs = let I = c .before .before .before .before .before
 loop2-holds : tie.Need-loop2-holds Inv-loop2 μ-loop2 Inv-loop μ-loop Inv-search μ-search
 loop2-holds c = (refl, refl, inner-begin (c .before .before .before .before .before .before .before .before .loop .inv .2) (c .before .before .before .before .before .before .if3 .taken) (c .before .before .is-special .ensures) (c .before .first-place .ensures) (c .first-place2 .ensures))
 
+is-held-requires : tie.Need-is-held-requires Inv-loop2 μ-loop2 Inv-loop μ-loop Inv-search μ-search
+is-held-requires c κs = let I = c .before .loop2 .inv .2 in (I .planned .policy, inner-place I (c .loop2-test .taken))
+
+add-y : tie.Need-add-y Inv-loop2 μ-loop2 Inv-loop μ-loop Inv-search μ-search
+add-y c = record { fits = inner-fits (c .before .before .before .loop2 .inv .2) (c .before .before .loop2-test .taken) }
+
+loop2-less : tie.Need-loop2-less Inv-loop2 μ-loop2 Inv-loop μ-loop Inv-search μ-search
+loop2-less c = omega arith
+
+loop2-again : tie.Need-loop2-again Inv-loop2 μ-loop2 Inv-loop μ-loop Inv-search μ-search
+loop2-again c =
+    let i = c .before .before .before .loop2 .inv in
+    let h = c .before .before .loop2-test .taken in
+    (i .0, i .1, inner-next (i .2) h (i .2 .memory) (inner-unheld (i .2) h (c .before .is-held .ensures) (c .if4 .taken)))
+
 arrive-requires : tie.Need-arrive-requires Inv-loop2 μ-loop2 Inv-loop μ-loop Inv-search μ-search
-arrive-requires c κs = let I = c .before .loop2 .inv .2 in (I .fixed .task .legs, I .planned .goal, inner-place I (c .loop2-test .taken))
+arrive-requires c κs = let I = c .before .before .before .loop2 .inv .2 in (I .fixed .task .legs, I .planned .goal, inner-place I (c .before .before .loop2-test .taken))
 
 enum-known-v : tie.Need-enum-known-v Inv-loop2 μ-loop2 Inv-loop μ-loop Inv-search μ-search
 enum-known-v c = search needs
 
 is-target-requires :
     tie.Need-is-target-requires Inv-loop2 μ-loop2 Inv-loop μ-loop Inv-search μ-search
-is-target-requires c κs = let I = c .before .before .before .before .before .loop2 .inv .2 in let h = c .before .before .before .before .loop2-test .taken in (I .fixed .task .given .ready, I .planned .policy, I .stands .range, inner-place I h, inner-facing I h)
+is-target-requires c κs = let I = c .before .before .before .before .before .before .before .loop2 .inv .2 in let h = c .before .before .before .before .before .before .loop2-test .taken in (I .fixed .task .given .ready, I .planned .policy, I .stands .range, inner-place I h, inner-facing I h)
 
 enum-told : tie.Need-enum-told Inv-loop2 μ-loop2 Inv-loop μ-loop Inv-search μ-search
 enum-told c = search needs
@@ -148,44 +163,44 @@ enum-known-v-2 c = search needs
 cast-at : tie.Need-cast-at Inv-loop2 μ-loop2 Inv-loop μ-loop Inv-search μ-search
 cast-at c = omega arith
 
-mul-if5 : tie.Need-mul-if5 Inv-loop2 μ-loop2 Inv-loop μ-loop Inv-search μ-search
-mul-if5 c = omega arith
+mul-if6 : tie.Need-mul-if6 Inv-loop2 μ-loop2 Inv-loop μ-loop Inv-search μ-search
+mul-if6 c = omega arith
 
-slice-read-if5 : tie.Need-slice-read-if5 Inv-loop2 μ-loop2 Inv-loop μ-loop Inv-search μ-search
-slice-read-if5 c = omega (arith, inner-below (c .before .before .before .before .before .before .loop2 .inv .2) (c .before .before .before .before .before .loop2-test .taken) (c .before .before .before .before .arrive .ensures) (c .before .before .v2 .given .1), c .before .before .before .before .before .before .loop2 .inv .2 .turn .inv .back-room)
+slice-read-if6 : tie.Need-slice-read-if6 Inv-loop2 μ-loop2 Inv-loop μ-loop Inv-search μ-search
+slice-read-if6 c = omega (arith, inner-below (c .before .before .before .before .before .before .before .before .loop2 .inv .2) (c .before .before .before .before .before .before .before .loop2-test .taken) (c .before .before .before .before .arrive .ensures) (c .before .before .v2 .given .1), c .before .before .before .before .before .before .before .before .loop2 .inv .2 .turn .inv .back-room)
 
 is-target-requires-2 :
     tie.Need-is-target-requires-2 Inv-loop2 μ-loop2 Inv-loop μ-loop Inv-search μ-search
-is-target-requires-2 c κs = let I = c .before .before .before .before .before .before .before .loop2 .inv .2 in let h = c .before .before .before .before .before .before .loop2-test .taken in (I .fixed .task .given .ready, I .planned .policy, I .stands .range, inner-place I h, inner-facing I h)
+is-target-requires-2 c κs = let I = c .before .before .before .before .before .before .before .before .before .loop2 .inv .2 in let h = c .before .before .before .before .before .before .before .before .loop2-test .taken in (I .fixed .task .given .ready, I .planned .policy, I .stands .range, inner-place I h, inner-facing I h)
 
 add-back : tie.Need-add-back Inv-loop2 μ-loop2 Inv-loop μ-loop Inv-search μ-search
-add-back c = let I = c .before .before .before .before .before .before .before .before .before .loop2 .inv .2 in omega (arith, chain-bound (turn-chain (I .turn)), I .fixed .nodes)
+add-back c = let I = c .before .before .before .before .before .before .before .before .before .before .before .loop2 .inv .2 in omega (arith, chain-bound (turn-chain (I .turn)), I .fixed .nodes)
 
 mul-back : tie.Need-mul-back Inv-loop2 μ-loop2 Inv-loop μ-loop Inv-search μ-search
 mul-back c = omega arith
 
 slice-write-back : tie.Need-slice-write-back Inv-loop2 μ-loop2 Inv-loop μ-loop Inv-search μ-search
-slice-write-back c = omega (arith, inner-below (c .before .before .before .before .before .before .before .before .before .loop2 .inv .2) (c .before .before .before .before .before .before .before .before .loop2-test .taken) (c .before .before .before .before .before .before .before .arrive .ensures) (c .before .before .before .before .before .v2 .given .1), c .before .before .before .before .before .before .before .before .before .loop2 .inv .2 .turn .inv .back-room)
+slice-write-back c = omega (arith, inner-below (c .before .before .before .before .before .before .before .before .before .before .before .loop2 .inv .2) (c .before .before .before .before .before .before .before .before .before .before .loop2-test .taken) (c .before .before .before .before .before .before .before .arrive .ensures) (c .before .before .before .before .before .v2 .given .1), c .before .before .before .before .before .before .before .before .before .before .before .loop2 .inv .2 .turn .inv .back-room)
 
 mul-queue : tie.Need-mul-queue Inv-loop2 μ-loop2 Inv-loop μ-loop Inv-search μ-search
 mul-queue c = omega arith
 
 slice-write-queue :
     tie.Need-slice-write-queue Inv-loop2 μ-loop2 Inv-loop μ-loop Inv-search μ-search
-slice-write-queue c = let I = c .before .before .before .before .before .before .before .before .before .loop2 .inv .2 in omega (arith, room (I .turn .inv) (inner-below (c .before .before .before .before .before .before .before .before .before .loop2 .inv .2) (c .before .before .before .before .before .before .before .before .loop2-test .taken) (c .before .before .before .before .before .before .before .arrive .ensures) (c .before .before .before .before .before .v2 .given .1)) (c .before .before .if5 .taken), I .turn .inv .queue-room)
+slice-write-queue c = let I = c .before .before .before .before .before .before .before .before .before .before .before .loop2 .inv .2 in omega (arith, room (I .turn .inv) (inner-below (c .before .before .before .before .before .before .before .before .before .before .before .loop2 .inv .2) (c .before .before .before .before .before .before .before .before .before .before .loop2-test .taken) (c .before .before .before .before .before .before .before .arrive .ensures) (c .before .before .before .before .before .v2 .given .1)) (c .before .before .if6 .taken), I .turn .inv .queue-room)
 
 add-tail : tie.Need-add-tail Inv-loop2 μ-loop2 Inv-loop μ-loop Inv-search μ-search
-add-tail c = let I = c .before .before .before .before .before .before .before .before .before .loop2 .inv .2 in omega (arith, I .turn .inv .full, I .fixed .nodes)
+add-tail c = let I = c .before .before .before .before .before .before .before .before .before .before .before .loop2 .inv .2 in omega (arith, I .turn .inv .full, I .fixed .nodes)
 
-add-y : tie.Need-add-y Inv-loop2 μ-loop2 Inv-loop μ-loop Inv-search μ-search
-add-y c = record { fits = inner-fits (c .before .before .before .loop2 .inv .2) (c .before .before .loop2-test .taken) }
+add-y-2 : tie.Need-add-y-2 Inv-loop2 μ-loop2 Inv-loop μ-loop Inv-search μ-search
+add-y-2 c = record { fits = inner-fits (c .before .before .before .before .before .loop2 .inv .2) (c .before .before .before .before .loop2-test .taken) }
 
-loop2-less : tie.Need-loop2-less Inv-loop2 μ-loop2 Inv-loop μ-loop Inv-search μ-search
-loop2-less c = omega arith
+loop2-less-2 : tie.Need-loop2-less-2 Inv-loop2 μ-loop2 Inv-loop μ-loop Inv-search μ-search
+loop2-less-2 c = omega arith
 
-loop2-again : tie.Need-loop2-again Inv-loop2 μ-loop2 Inv-loop μ-loop Inv-search μ-search
-loop2-again c = let i = c .before .before .before .loop2 .inv in
-    let h = c .before .before .loop2-test .taken in
+loop2-again-2 : tie.Need-loop2-again-2 Inv-loop2 μ-loop2 Inv-loop μ-loop Inv-search μ-search
+loop2-again-2 c = let i = c .before .before .before .before .before .loop2 .inv in
+    let h = c .before .before .before .before .loop2-test .taken in
     let z = c .before .arrive .ensures in
     let N = i .2 .memory in
     ⊎-elim
@@ -273,13 +288,13 @@ returns : tie.Need-returns Inv-loop2 μ-loop2 Inv-loop μ-loop Inv-search μ-sea
 returns c = nothing (c .before .search .inv .6) (c .if1 .taken)
 
 same-length-3 : tie.Need-same-length-3 Inv-loop2 μ-loop2 Inv-loop μ-loop Inv-search μ-search
-same-length-3 c = omega (arith, c .before .before .before .before .before .before .before .loop2 .inv .0, c .before .before .before .before .before .before .before .before .before .before .before .before .before .before .before .before .loop .inv .0, c .before .before .before .before .before .before .before .before .before .before .before .before .before .before .before .before .before .before .before .before .before .before .before .before .before .before .search .inv .0)
+same-length-3 c = omega (arith, c .before .before .before .before .before .before .before .before .before .loop2 .inv .0, c .before .before .before .before .before .before .before .before .before .before .before .before .before .before .before .before .before .before .loop .inv .0, c .before .before .before .before .before .before .before .before .before .before .before .before .before .before .before .before .before .before .before .before .before .before .before .before .before .before .before .before .search .inv .0)
 
 same-length-4 : tie.Need-same-length-4 Inv-loop2 μ-loop2 Inv-loop μ-loop Inv-search μ-search
-same-length-4 c = omega (arith, c .before .before .before .before .before .before .before .loop2 .inv .1, c .before .before .before .before .before .before .before .before .before .before .before .before .before .before .before .before .loop .inv .1, c .before .before .before .before .before .before .before .before .before .before .before .before .before .before .before .before .before .before .before .before .before .before .before .before .before .before .search .inv .1)
+same-length-4 c = omega (arith, c .before .before .before .before .before .before .before .before .before .loop2 .inv .1, c .before .before .before .before .before .before .before .before .before .before .before .before .before .before .before .before .before .before .loop .inv .1, c .before .before .before .before .before .before .before .before .before .before .before .before .before .before .before .before .before .before .before .before .before .before .before .before .before .before .before .before .search .inv .1)
 
 returns-2 : tie.Need-returns-2 Inv-loop2 μ-loop2 Inv-loop μ-loop Inv-search μ-search
-returns-2 c = inner-broken (c .before .before .before .before .before .before .before .loop2 .inv .2) (c .before .before .before .before .before .before .loop2-test .taken) (c .before .before .before .before .before .arrive .ensures) (c .before .is-target .ensures) (c .if4 .taken) (c .before .before .before .v .given .1)
+returns-2 c = inner-broken (c .before .before .before .before .before .before .before .before .before .loop2 .inv .2) (c .before .before .before .before .before .before .before .before .loop2-test .taken) (c .before .before .before .before .before .arrive .ensures) (c .before .is-target .ensures) (c .if5 .taken) (c .before .before .before .v .given .1)
 
 pub search-levels-spec : {M : Type 1} → statement M
 search-levels-spec =
@@ -316,14 +331,18 @@ search-levels-spec =
     first-place-requires
     first-place-requires-2
     loop2-holds
+    is-held-requires
+    add-y
+    loop2-less
+    loop2-again
     arrive-requires
     enum-known-v
     is-target-requires
     enum-told
     enum-known-v-2
     cast-at
-    mul-if5
-    slice-read-if5
+    mul-if6
+    slice-read-if6
     is-target-requires-2
     add-back
     mul-back
@@ -331,9 +350,9 @@ search-levels-spec =
     mul-queue
     slice-write-queue
     add-tail
-    add-y
-    loop2-less
-    loop2-again
+    add-y-2
+    loop2-less-2
+    loop2-again-2
     is-settled-requires
     cast-other
     mul-swept
