@@ -1,7 +1,7 @@
 -- Authorization and flow on named policies, from the definitions alone: for each clause of the formula an action that it
 -- lets pass and a near one that it alone forbids, so that each misreading named is one that a theorem here rejects.
 use Prim.Native.Nat.{ℕ}
-use mathlib.Core.Bool.{Bool, true, false}
+use mathlib.Core.Bool.{true, false}
 use mathlib.Core.List.{List, [], _∷_}
 use mathlib.Core.Path.{_≡_, refl}
 use Rattle.base.specs.Bits.{bit}
@@ -12,8 +12,6 @@ use Rattle.policy_image.specs.Written.{image, domain as domain-record, permissi
 use Rattle.policy_image.specs.Weir.{weir}
 use Rattle.policy_nodes.specs.Nodes.{useOf}
 use Rattle.policy_check.proofs.Tests.{Accepted, accepted}
-use Rattle.context.specs.declared.Context.{Context}
-use Rattle.context.specs.declared.Event.{Event}
 use Rattle.context.specs.Codes.{contextAt as at, eventAt as event}
 use Rattle.relations.specs.Relations.{domain, Γ, writeLike, readLike, allowed, α, ρ, μ, roleChange}
 use Rattle.constraints.specs.Eval.{evalAt, evalNode}

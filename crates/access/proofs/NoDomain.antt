@@ -1,14 +1,10 @@
 -- W9: "an added allow 3 on 1 read authorizes nothing": no action of type 3 is authorized, and every other answer is as
 -- without the record, for all contexts and events.
 use Prim.Native.Nat.{ℕ}
-use mathlib.Core.Bool.{Bool, true, false, _&&_, _||_}
-use mathlib.Core.List.{List, [], _∷_}
+use mathlib.Core.Bool.{Bool, true, false, _||_}
 use mathlib.Core.Logic.{⊎-elim}
-use mathlib.Core.Path.{_≡_, refl, sym, ap, subst, _∙_}
-use native.Mathlib.Omega.{arith}
+use mathlib.Core.Path.{_≡_, refl, sym, subst, _∙_}
 use borrow.Author.Tests.{ne-eqb}
-use lib.Dec.{eqb}
-use Rattle.base.specs.Bits.{bit}
 use Rattle.base.proofs.Numbers.{split-eq}
 use Rattle.policy_image.specs.Layout.{countsOf, recordCount, recordOf, headOf, payloadOf, decoded}
 use Rattle.policy_image.specs.Policy.{policyOf}

@@ -1,7 +1,7 @@
 -- The value of an expression node (paper 01, kind 9). "Suffix 1 is the process's context, 2 the resource's": x is the
 -- context that acts, y the one that is acted on.
 use Prim.Native.Nat.{ℕ, zero, suc}
-use mathlib.Core.Bool.{Bool, true, false, not, _&&_, _||_}
+use mathlib.Core.Bool.{Bool, false, not, _&&_, _||_}
 use mathlib.Core.List.{List, [], _∷_}
 use lib.Dec.{eqb}
 use lib.ListN.{getD}

@@ -1,5 +1,5 @@
 -- Contexts and events in range, for a policy with the counts n.
-use Prim.Native.Nat.{ℕ, _<_}
+use Prim.Native.Nat.{_<_}
 use Rattle.base.specs.Ranges.{Within}
 use Rattle.policy_image.specs.declared.counts.Counts.{Counts}
 use Rattle.context.specs.declared.Context.{Context}

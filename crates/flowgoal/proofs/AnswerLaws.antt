@@ -1,8 +1,7 @@
 -- What two searches and a path that is shown come to, in the words of the promise.
-use Prim.Native.Nat.{ℕ, zero, suc, _+_, _*_, _^_, _≤_, _<_}
+use Prim.Native.Nat.{ℕ, suc, _+_, _*_, _^_, _≤_, _<_}
 use mathlib.Core.List.{List, [], _∷_, _++_}
-use mathlib.Core.Logic.{_⊎_, inl, inr}
-use mathlib.Core.Path.{_≡_, refl, sym, ap, subst, _∙_}
+use mathlib.Core.Path.{_≡_, sym, ap, subst, _∙_}
 use native.Mathlib.Nat.{mul-le-mul}
 use native.Mathlib.Omega.{arith}
 use native.Mathlib.Decide.{decLt}
@@ -18,17 +17,15 @@ use Rattle.policy_check.proofs.AnswerLaws.{sound}
 use Rattle.context.specs.Places.{contextCount}
 use Rattle.goal_image.specs.declared.check.Legs.{Legs}
 use Rattle.goal_image.specs.Layout.{legsOf}
-use Rattle.goal_image.specs.Goal.{goalOf}
-use Rattle.goal_image.specs.Questions.{goalQuestions, legsIn}
+use Rattle.goal_image.specs.Questions.{goalQuestions}
 use Rattle.goal_image.specs.Sound.{SoundGoal}
 use Rattle.goal_image.proofs.AnswerLaws.{sound as goal-sound}
 use Rattle.paths.specs.Model.{Model}
-use Rattle.paths.specs.Paths.{SomeOrder, SomeEvents, NoneBelow, OrderAt, EventsAt}
+use Rattle.paths.specs.Paths.{OrderAt, EventsAt}
 use Rattle.paths.specs.Answer.{Right}
-use Rattle.paths.proofs.Monitor.{Monitor, BadNode}
+use Rattle.paths.proofs.Monitor.{Monitor}
 use Rattle.paths.proofs.Monitors.{trackerN, stagerN, order-iff, events-iff}
-use Rattle.paths.proofs.Verdict.{Least, at, nowhere, answer, answers}
-use Rattle.paths.proofs.Verdict.{Found as Reached}
+use Rattle.paths.proofs.Verdict.{Least, at, answer, answers}
 use Rattle.goal_model.specs.Images.{model}
 use Rattle.search.specs.declared.levels.Found.{Found}
 use Rattle.search.specs.declared.levels.Found.the-variants.{Nothing, Start, At}
@@ -42,7 +39,7 @@ use Rattle.search.proofs.FoundLaws.{task-of}
 use Rattle.witness.specs.declared.verdict.Verdict.{Verdict}
 use Rattle.witness.specs.Shown.{reachedBy, Something, stepsTo, Short, answerOf, Shown}
 use Rattle.flowgoal.specs.declared.goal.Outcome.the-variants as outcome
-use Rattle.flowgoal.specs.GoalQuestion.{workLength, WorkFits, allQuestions, GoalPromise, Passed}
+use Rattle.flowgoal.specs.GoalQuestion.{workLength, WorkFits, GoalPromise, Passed}
 
 -- ---- what a search found
 -- two counts that are least are one

@@ -1,5 +1,5 @@
 -- The goal question's questions in order: a refusal by each, and what is known where none refuses.
-use Prim.Native.Nat.{ℕ, _*_, _^_, _≤_, _<_}
+use Prim.Native.Nat.{ℕ, _*_, _^_, _≤_}
 use mathlib.Core.List.{List, [], _∷_, _++_}
 use mathlib.Core.Logic.{inl}
 use mathlib.Core.Path.{_≡_, refl, sym, ap, subst, _∙_}
@@ -12,13 +12,11 @@ use Rattle.policy_image.specs.declared.counts.Checked.the-variants as policy
 use Rattle.policy_image.specs.Layout.{countsOf}
 use Rattle.policy_check.specs.Answer.{policyQuestions, PolicyAnswer}
 use Rattle.policy_check.proofs.AnswerLaws.{sound}
-use Rattle.context.specs.Places.{Countable, contextCount}
+use Rattle.context.specs.Places.{contextCount}
 use Rattle.goal_image.specs.declared.check.Legs.{Legs}
 use Rattle.goal_image.specs.declared.check.CheckedGoal.{CheckedGoal}
 use Rattle.goal_image.specs.declared.check.CheckedGoal.the-variants as goal
-use Rattle.goal_image.specs.Layout.{legsOf}
-use Rattle.goal_image.specs.Goal.{goalOf}
-use Rattle.goal_image.specs.Questions.{goalQuestions, legsIn, GoalAnswer}
+use Rattle.goal_image.specs.Questions.{goalQuestions, GoalAnswer}
 use Rattle.goal_image.proofs.AnswerLaws.{sound as goal-sound}
 use Rattle.nodes.specs.Tasks.{Task}
 use Rattle.search.proofs.FoundLaws.{task-of}

@@ -2,10 +2,9 @@
 use Prim.Native.Nat.{ℕ, _+_, _*_, _≤_, _<_}
 use mathlib.Core.List.{List}
 use mathlib.Core.Logic.{_⊎_, inl, inr}
-use mathlib.Core.Path.{_≡_, refl, sym, ap}
+use mathlib.Core.Path.{_≡_, refl, ap}
 use native.Mathlib.Omega.{arith}
 use lib.ListN.{length}
-use Rattle.base.specs.Questions.{AllYes}
 use Rattle.base.proofs.QuestionLaws.{passed-not-refused, one-number}
 use Rattle.paths.specs.Model.{Model}
 use Rattle.paths.specs.Paths.{Holds, OrderAt, EventsAt}

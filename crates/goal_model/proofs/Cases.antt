@@ -18,8 +18,8 @@ use Rattle.goal_image.specs.Goal.{goalOf}
 use Rattle.goal_image.specs.Sets.{contextIn, eventIn}
 use Rattle.goal_image.specs.Written.{context, event, chains, goal}
 use Rattle.goal_image.specs.WeirGoal.{goalG}
-use Rattle.paths.specs.Paths.{Holds, OrderAt, EventsAt}
-use Rattle.paths.proofs.Decide.{holds-by, order-by, events-by}
+use Rattle.paths.specs.Paths.{Holds, EventsAt}
+use Rattle.paths.proofs.Decide.{holds-by, events-by}
 use Rattle.goal_model.specs.Images.{inRange, held, model}
 use Rattle.goal_model.proofs.Cover.{Step, uncovered, finite}
 

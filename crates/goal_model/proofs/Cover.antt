@@ -3,14 +3,13 @@ use mathlib.Core.Path.{_≡_, refl, sym, subst, subst₃}
 use mathlib.Core.Bool.{Bool, true, false, not, _&&_, _||_}
 use mathlib.Core.List.{List, [], _∷_}
 use mathlib.Core.Logic.{_⊎_, inl, inr}
-use Prim.Native.Nat.{ℕ, zero, suc, _+_, _-_, _*_, _/_, _%_, _≤_, _<_}
+use Prim.Native.Nat.{ℕ, suc, _+_, _-_, _*_, _/_, _%_, _≤_}
 use native.Mathlib.Omega.{arith}
 use borrow.Author.Tests.{eq-eqb, eqb-true}
 use lib.Dec.{T, leb, eqb, leb→le, eqb→eq, eqb-refl, T-not, not-T}
 use Rattle.base.specs.Bits.{bit}
 use Rattle.base.specs.Upto.{anyUpto}
 use Rattle.base.proofs.UptoLaws.{any-yes, and-true, and-first}
-use Rattle.policy_image.specs.declared.counts.Counts.{Counts}
 use Rattle.policy_image.specs.Policy.{Policy}
 use Rattle.policy_chains.proofs.KindLaws.{some-record}
 use Rattle.context.specs.declared.Context.{Context}

@@ -7,7 +7,6 @@ use Prim.Native.Nat.{ℕ, _+_, _*_, _/_, _%_, _≤_, _<_}
 use native.Mathlib.Omega.{arith}
 use lib.ListN.{getD}
 use Rattle.base.specs.Bits.{bit}
-use Rattle.base.specs.Ranges.{Within}
 use Rattle.base.proofs.UptoLaws.{and-true, and-first, and-second, same-truth}
 use Rattle.base.proofs.Numbers.{split-eq, split-le}
 use Rattle.policy_image.specs.Layout.{recordCount}

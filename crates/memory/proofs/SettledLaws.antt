@@ -1,14 +1,14 @@
 -- Contexts of a type whose nodes are all entered.
 use mathlib.Core.Path.{_≡_, sym, _∙_, ap, ap₂, subst, subst₂}
-use mathlib.Core.Bool.{Bool, true, false, not}
+use mathlib.Core.Bool.{Bool, true, not}
 use mathlib.Core.List.{List}
-use mathlib.Core.Logic.{_⊎_, inl, inr, ⊎-elim}
-use Prim.Native.Nat.{ℕ, _+_, _*_, _/_, _%_, _^_, _≤_, _<_}
+use mathlib.Core.Logic.{⊎-elim}
+use Prim.Native.Nat.{ℕ, _+_, _*_, _^_, _≤_, _<_}
 use native.Mathlib.Omega.{arith}
 use borrow.Author.Tests.{not-true}
 use lib.Arith.{digits-lt}
 use lib.Dec.{T}
-use lib.ListN.{length, getD}
+use lib.ListN.{getD}
 use Rattle.base.specs.Bits.{bit}
 use Rattle.base.proofs.Numbers.{split-le}
 use Rattle.base.proofs.UptoLaws.{clash}
@@ -24,12 +24,11 @@ use Rattle.paths.specs.Model.{Model}
 use Rattle.goal_model.specs.Images.{held, model}
 use Rattle.plan.specs.Plan.{contextsAt, Planned}
 use Rattle.nodes.specs.declared.arrival.Arrival.{Arrival}
-use Rattle.nodes.specs.declared.arrival.Arrival.the-variants.{Enter, Dropped, Broken}
+use Rattle.nodes.specs.declared.arrival.Arrival.the-variants.{Enter, Dropped}
 use Rattle.nodes.specs.declared.monitor.Mode.{Mode}
-use Rattle.nodes.specs.State.{Clear}
-use Rattle.nodes.specs.Nodes.{Watch, watchOf, codeAt, placeOf, stateOf, codeOf}
+use Rattle.nodes.specs.Nodes.{Watch, watchOf, codeAt, placeOf}
 use Rattle.nodes.specs.Arrivals.{Lands, LandsOpen, LandsGood, Arriving}
-use Rattle.nodes.specs.Tasks.{Task, graphOf}
+use Rattle.nodes.specs.Tasks.{Task}
 use Rattle.nodes.proofs.ModelLaws.{bounded}
 use Rattle.nodes.proofs.LevelLaws.{whole}
 use Rattle.memory.specs.Memory.{OfEvent, Settled}

@@ -25,7 +25,6 @@ use Rattle.goal_image.specs.Goal.{goalOf, σe, γe}
 use Rattle.goal_image.specs.Sets.{contextIn, eventIn}
 use Rattle.paths.specs.Model.{Model}
 use Rattle.paths.proofs.Any.{and-T, not-true}
-use Rattle.paths.proofs.Monitor.{Edge}
 use Rattle.goal_model.specs.Images.{inRange, model}
 use Rattle.nodes.specs.declared.monitor.Mode.{Mode}
 use Rattle.nodes.specs.Graph.{Graph, Chain, Chain.root, Chain.link, FoundAt}

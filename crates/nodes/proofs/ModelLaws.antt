@@ -13,7 +13,6 @@ use Rattle.context.specs.Ranges.{ContextInRange}
 use Rattle.context.specs.Places.{contextCount, contextIndex}
 use Rattle.context.proofs.CodeLaws.{context-code-of}
 use Rattle.context.proofs.PlaceLaws.{at-index, index-lt}
-use Rattle.access.specs.Authorization.{flow}
 use Rattle.goal_image.specs.Sound.{SoundGoal}
 use Rattle.paths.specs.Model.{Model}
 use Rattle.paths.proofs.Any.{and-T, not-true}

@@ -2,8 +2,7 @@
 use mathlib.Core.Path.{_≡_}
 use mathlib.Core.Bool.{true, false}
 use mathlib.Core.List.{List}
-use Prim.Native.Nat.{ℕ, _/_, _%_, _^_, _≤_, _<_}
-use Rattle.base.specs.Bits.{bit}
+use Prim.Native.Nat.{ℕ, _^_, _≤_, _<_}
 use Rattle.policy_image.specs.declared.counts.Counts.{Counts}
 use Rattle.policy_image.specs.Policy.{Policy}
 use Rattle.context.specs.declared.Context.{Context}
@@ -16,9 +15,6 @@ use Rattle.goal_image.specs.Layout.{legsOf}
 use Rattle.goal_image.specs.Goal.{Goal, σe, γe}
 use Rattle.goal_image.specs.Sets.{contextIn, eventIn}
 use Rattle.goal_model.specs.Images.{model}
-use Rattle.plan.specs.Plan.{eventsAt}
-use Rattle.steps.specs.declared.nearest.Offer.{Offer}
-use Rattle.steps.specs.Steps.{Offering}
 use Rattle.nodes.specs.declared.monitor.Mode.{Mode}
 use Rattle.nodes.specs.Graph.{Graph}
 use Rattle.nodes.specs.Nodes.{watchOf, placeOf, stateOf, graph}

@@ -11,7 +11,7 @@ use steps::nearest::Asker;
 use steps::nearest::NONE;
 use steps::nearest::Offer;
 use steps::offers::first_offer;
-ghost use Prim.Native.Nat.{suc, _+_, _*_, _^_, _≤_, _<_};
+ghost use Prim.Native.Nat.{suc, _*_, _^_, _≤_, _<_};
 ghost use Rattle.policy_image.specs.Policy.{policyOf};
 ghost use Rattle.context.specs.Ranges.{ContextInRange};
 ghost use Rattle.context.specs.Places.{contextCount, contextAtIndex};

@@ -17,11 +17,10 @@ use Rattle.base.proofs.FillLaws.{fill-more}
 use Rattle.base.proofs.Numbers.{split-eq, split-le, zeros}
 use Rattle.base.proofs.UptoLaws.{clash, or-true, or-left, or-cases, and-true, and-first, and-second, true-or-false}
 use Rattle.policy_image.specs.Policy.{Policy}
-use Rattle.context.specs.declared.Event.{Event}
 use Rattle.context.specs.Codes.{eventAt, eventOf, isTransition}
 use Rattle.constraints.specs.Constraints.{constrains}
 use Rattle.tables.specs.Groups.{ConstraintGroups}
-use Rattle.plan.specs.Plan.{firstAt, keyAt, outsAt, insAt, eventsAt, leadsAt, Tops, Blocks, Alike, Leader, Leads, LeadsPut}
+use Rattle.plan.specs.Plan.{firstAt, keyAt, outsAt, insAt, eventsAt, leadsAt, Blocks, Alike, Leader, Leads, LeadsPut}
 use Rattle.plan.specs.Leads.{likes, WithIf, SameSets, AlikeTable, Led, Leading, EntryLeads}
 
 or-nothing : (a : Bool) → (a || false) ≡ a

@@ -4,11 +4,11 @@ use mathlib.Core.Path.{_≡_, refl, sym, ap, subst, _∙_}
 use mathlib.Core.Bool.{Bool, true, false, not, _&&_}
 use mathlib.Core.Logic.{⊎-elim}
 use native.Mathlib.Omega.{arith}
-use borrow.Author.Tests.{not-true, eq-eqb, eqb-true, ne-eqb}
+use borrow.Author.Tests.{not-true, eq-eqb, ne-eqb}
 use lib.Dec.{eqb}
 use Rattle.base.specs.Chain.{OnChain}
 use Rattle.base.proofs.Numbers.{split-le}
-use Rattle.base.proofs.UptoLaws.{clash, or-left, or-false, and-true, and-first, and-second, true-or-false, same-truth}
+use Rattle.base.proofs.UptoLaws.{clash, or-left, or-false, and-true, and-first, true-or-false, same-truth}
 use Rattle.context.specs.declared.Context.{Context}
 use Rattle.context.specs.Codes.{contextAt}
 use Rattle.goal_image.specs.declared.records.ContextRecord.{ContextRecord}

@@ -2,7 +2,7 @@
 -- what follows. That no cursor lags behind (`ahead`) rests on the very statement to be decided: a record that lies on a
 -- second chain, of another kind, stops that chain's cursor and shows only at the end.
 use Prim.Native.Nat.{ℕ, _+_, _≤_, _<_}
-use mathlib.Core.Path.{_≡_, sym, subst, _∙_, refl}
+use mathlib.Core.Path.{_≡_, sym, subst, _∙_}
 use mathlib.Core.Logic.{_⊎_, inl, inr, ⊎-elim}
 use native.Mathlib.Nat.{eq-or-lt-of-le, eq-zero-or-pos}
 use native.Mathlib.Omega.{arith}

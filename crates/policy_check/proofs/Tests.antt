@@ -4,7 +4,7 @@ use Prim.Native.Nat.{ℕ, zero, suc, _+_, _*_, _/_, _%_, _≤_, _<_}
 use mathlib.Core.Path.{_≡_, refl, sym, subst, _∙_}
 use mathlib.Core.List.{List}
 use mathlib.Core.Bool.{Bool, true, false, _&&_, _||_, cond}
-use mathlib.Core.Logic.{_⊎_, inl, inr, ⊎-elim}
+use mathlib.Core.Logic.{inl, inr, ⊎-elim}
 use native.Mathlib.Omega.{arith}
 use borrow.Author.Tests.{eqb-true, eqb-false}
 use lib.Dec.{leb, eqb}
@@ -12,7 +12,6 @@ use lib.ListN.{length, drop}
 use Rattle.base.specs.Decides.{Decides}
 use Rattle.base.specs.Ranges.{Within}
 use Rattle.base.specs.Upto.{allUpto}
-use Rattle.base.specs.Chain.{Rises}
 use Rattle.base.specs.Questions.{AllYes, RefusedWith}
 use Rattle.base.proofs.Numbers.{split-eq, moved, moved-at, moved-off}
 use Rattle.base.proofs.Decide.{Says, says-yes, says-no, says-iff, dec-le, dec-eq, _both_, _or_, withinB, dec-within, dec-all}
@@ -20,8 +19,8 @@ use Rattle.policy_image.specs.declared.records.Record.{Record}
 use Rattle.policy_image.specs.declared.counts.Counts.{Counts}
 use Rattle.policy_image.specs.Layout.{Exact, recordCount, countsOf}
 use Rattle.policy_image.specs.Counts.{CountsInRange}
-use Rattle.policy_image.specs.Policy.{Policy, policyOf, linksOf}
-use Rattle.policy_chains.specs.Chains.{LinksRise, OnItsChain, ChainsByKind}
+use Rattle.policy_image.specs.Policy.{Policy, policyOf}
+use Rattle.policy_chains.specs.Chains.{LinksRise, ChainsByKind}
 use Rattle.policy_chains.proofs.Walk.{Walk, walk-start, walk-step, walk-wrong, walk-end, walk-zero}
 use Rattle.policy_fields.specs.declared.Limits.{Limits}
 use Rattle.policy_fields.specs.Fields.{limitsOf, Meets, FieldsInRange}

@@ -1,5 +1,4 @@
 -- The fields of equal records and of equal counts, one by one, so that omega can use them.
-use Prim.Native.Nat.{ℕ}
 use mathlib.Core.Path.{_≡_, ap}
 use Rattle.policy_image.specs.declared.counts.Counts.{Counts}
 use Rattle.policy_image.specs.declared.records.Record.{Record}

@@ -1,11 +1,11 @@
 -- Laws of the layout that proofs cite, so that no proof above this layer speaks of offsets.
-use Prim.Native.Nat.{ℕ, _+_, _*_, _≤_, _<_, _%_, _/_}
+use Prim.Native.Nat.{ℕ, _+_, _≤_, _<_}
 use mathlib.Core.Path.{_≡_}
 use mathlib.Core.List.{List, []}
 use native.Mathlib.Omega.{arith}
 use lib.ListN.{length, take, drop, length-take, length-drop}
 use borrow.Author.Tests.{le-leb, lt-leb}
-use Rattle.base.specs.Bytes.{byteAt, u16At, u32At}
+use Rattle.base.specs.Bytes.{byteAt, u16At}
 use Rattle.policy_image.specs.Layout.{Exact, recordCount, startOf, payloadOf, decoded, leftOf, rightOf}
 
 -- the ten bytes, where record k is there

@@ -1,11 +1,10 @@
 -- The pass over the places of the records that answers question 6: what its marks say when the places below q have been
 -- passed, and what follows. The places of record i are numbered 2 * i and 2 * i + 1.
 use Prim.Native.Nat.{ℕ, zero, suc, _+_, _*_, _/_, _%_, _≤_, _<_}
-use mathlib.Core.Path.{_≡_, sym, subst, _∙_, refl, ap}
-use mathlib.Core.Logic.{_⊎_, inl, inr, ⊎-elim}
+use mathlib.Core.Path.{_≡_, sym, subst, _∙_, refl}
+use mathlib.Core.Logic.{⊎-elim}
 use native.Mathlib.Nat.{eq-or-lt-of-le}
 use native.Mathlib.Omega.{arith}
-use lib.ListN.{getD, replicate}
 use Rattle.policy_image.specs.Policy.{Policy}
 use Rattle.base.proofs.Numbers.{split-eq}
 use Rattle.policy_nodes.specs.declared.Use.{Use}

@@ -1,6 +1,6 @@
 -- What the loops over the records of a kind look for. These definitions serve the contracts of the leaves; the relations are
 -- stated without them.
-use Prim.Native.Nat.{ℕ, _≤_}
+use Prim.Native.Nat.{ℕ}
 use mathlib.Core.Path.{_≡_}
 use mathlib.Core.Bool.{Bool, false, _&&_, _||_}
 use mathlib.Core.List.{List, [], _∷_}
@@ -10,7 +10,6 @@ use Rattle.base.specs.Bits.{bit}
 use Rattle.policy_image.specs.declared.records.Record.{Record}
 use Rattle.policy_image.specs.Policy.{Policy}
 use Rattle.policy_image.specs.OfKind.{some}
-use Rattle.context.specs.declared.Event.{Event}
 use Rattle.relations.specs.declared.facts.Fact.{Fact}
 use Rattle.relations.specs.Relations.{targetOf, allowed}
 

@@ -1,6 +1,6 @@
 -- Events that a search cannot tell apart flow between the same contexts, as far as types let them.
 use Prim.Native.Nat.{ℕ}
-use mathlib.Core.Bool.{Bool, true, not, _&&_, _||_}
+use mathlib.Core.Bool.{Bool, not, _&&_, _||_}
 use mathlib.Core.List.{List}
 use mathlib.Core.Path.{_≡_, sym, ap, ap₂, _∙_}
 use Rattle.base.proofs.UptoLaws.{same-truth}
@@ -10,7 +10,7 @@ use Rattle.policy_image.specs.Policy.{Policy}
 use Rattle.policy_image.specs.OfKind.{some, every}
 use Rattle.policy_chains.proofs.KindLaws.{OfKind, some-yes, some-record, every-yes, every-record}
 use Rattle.context.specs.declared.Context.{Context}
-use Rattle.context.specs.Codes.{eventOf, isTransition}
+use Rattle.context.specs.Codes.{eventOf}
 use Rattle.relations.specs.Relations.{roleChange}
 use Rattle.constraints.specs.Constraints.{constrains, constraintsHold}
 use Rattle.constraints.specs.Eval.{evalNode}

@@ -1,9 +1,9 @@
 -- The loop along the constraints that tells permissions apart: what the table says where the loop stands at record i.
 use Prim.Native.Nat.{ℕ, _+_, _-_, _*_, _≤_, _<_}
-use mathlib.Core.Bool.{Bool, true, false, not, _&&_}
+use mathlib.Core.Bool.{Bool, true, false, _&&_}
 use mathlib.Core.List.{List}
 use mathlib.Core.Logic.{⊎-elim}
-use mathlib.Core.Path.{_≡_, refl, sym, ap, ap₂, subst, _∙_}
+use mathlib.Core.Path.{_≡_, refl, sym, ap, subst, _∙_}
 use native.Mathlib.Omega.{arith}
 use borrow.Author.Tests.{eq-eqb, ne-eqb}
 use lib.Bits.{bitAnd}
@@ -11,7 +11,6 @@ use lib.Dec.{eqb}
 use lib.ListN.{length, getD, replicate, length-replicate, getD-replicate}
 use Rattle.base.specs.Bits.{bit, Without}
 use Rattle.base.specs.Fill.{Filled}
-use Rattle.base.specs.Upto.{allUpto}
 use Rattle.base.proofs.BitLaws.{bit-and}
 use Rattle.base.proofs.ChainLaws.{Visit, visit-map}
 use Rattle.base.proofs.Numbers.{split-eq, split-le}

@@ -1,22 +1,19 @@
 -- W1 to W12 carried to the outward calls, by their promises.
 use Prim.Native.Nat.{ℕ, _+_, _*_, _≤_, _<_}
-use mathlib.Core.Bool.{Bool, true, false}
 use mathlib.Core.List.{List, [], _∷_, _++_}
-use mathlib.Core.Logic.{_⊎_, inl, inr, ⊎-elim}
-use mathlib.Core.Path.{_≡_, refl, sym, ap, subst, _∙_}
+use mathlib.Core.Logic.{_⊎_, inl, inr}
+use mathlib.Core.Path.{_≡_, refl, ap, _∙_}
 use native.Mathlib.Omega.{arith}
-use lib.ListN.{length, getD}
+use lib.ListN.{length}
 use Rattle.base.specs.Bits.{bit}
 use Rattle.base.specs.Questions.{Question, ask, AllYes, RefusedWith}
 use Rattle.base.proofs.QuestionLaws.{passed-not-refused, one-number, refused-first}
 use Rattle.policy_image.specs.Layout.{countsOf, recordCount}
-use Rattle.policy_image.specs.Policy.{policyOf}
 use Rattle.policy_image.specs.Weir.{weir, weirAllow31}
 use Rattle.policy_check.specs.Answer.{policyQuestions}
 use Rattle.policy_check.proofs.Cases.{weir-accepted, w10-short, w10-empty, w11}
 use Rattle.context.specs.declared.Context.{Context}
 use Rattle.context.specs.declared.Event.{Event}
-use Rattle.access.specs.Authorization.{authorized}
 use Rattle.access.proofs.NoDomain.{w9-nothing}
 use Rattle.goal_image.specs.Layout.{legsOf, flagsOf, goalCount, headOf as goalHeadOf, nextOf, contextRecordOf, eventRecordOf}
 use Rattle.goal_image.specs.WeirGoal.{goalG}

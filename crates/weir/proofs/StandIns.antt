@@ -1,5 +1,5 @@
 -- Checkers that the promise of the goal question keeps out, each on a named input ("Four tests of a promise", 3, and ours).
-use Prim.Native.Nat.{ℕ, _+_, _*_, _≤_, _<_}
+use Prim.Native.Nat.{ℕ, _≤_, _<_}
 use mathlib.Core.List.{List, [], _∷_, _++_}
 use mathlib.Core.Logic.{inl, inr}
 use mathlib.Core.Path.{_≡_, refl, ap}
@@ -17,9 +17,8 @@ use Rattle.goal_model.specs.Images.{model}
 use Rattle.flowgoal.specs.declared.goal.Outcome.{Outcome}
 use Rattle.flowgoal.specs.declared.goal.Outcome.the-variants as outcome
 use Rattle.flowgoal.specs.GoalQuestion.{WorkFits, allQuestions, GoalPromise, outcomeNumber}
-use Rattle.flowgoal.proofs.GoalLaws.{order-one, events-one, not-both, not-holds-order, not-holds-events, not-holds, least-one}
+use Rattle.flowgoal.proofs.GoalLaws.{order-one, not-both, not-holds-order, not-holds-events, not-holds, least-one}
 use Rattle.weir.specs.Goals.{weirAllow41, writeOnly}
-use Rattle.weir.specs.Weir.{W5Slice}
 use Rattle.weir.proofs.Answers.{w1, w2, w5, w2-path}
 use Rattle.weir.proofs.Theorem.{w2-enough, w12-enough, w12-second, refused-11, w5-slice, work-length}
 

@@ -1,10 +1,10 @@
 -- W1 to W12, all conjoined in a single theorem.
-use Prim.Native.Nat.{ℕ, _+_, _*_, _^_, _≤_, _<_}
+use Prim.Native.Nat.{ℕ, _≤_}
 use mathlib.Core.List.{List, [], _∷_, _++_}
-use mathlib.Core.Logic.{_⊎_, inl, inr}
-use mathlib.Core.Path.{_≡_, refl, sym, ap, subst, _∙_}
+use mathlib.Core.Logic.{inl}
+use mathlib.Core.Path.{_≡_, refl, ap, subst}
 use native.Mathlib.Omega.{arith}
-use lib.ListN.{length, getD}
+use lib.ListN.{length}
 use Rattle.base.specs.Questions.{Question, ask, AllYes, RefusedWith}
 use Rattle.base.proofs.QuestionLaws.{refused-then, passed-both, passed-not-refused}
 use Rattle.policy_image.specs.Layout.{countsOf, recordCount, recordOf, headOf, payloadOf, decoded}

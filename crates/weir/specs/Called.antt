@@ -9,7 +9,7 @@ use Rattle.policy_image.specs.Weir.{weir, weirAllow31}
 use Rattle.context.specs.declared.Context.{Context}
 use Rattle.context.specs.declared.Event.{Event}
 use Rattle.goal_image.specs.WeirGoal.{goalG}
-use Rattle.flowgoal.specs.Bare.{AuthorizationAnswer, FlowAnswer, NumberOf}
+use Rattle.flowgoal.specs.Bare.{AuthorizationAnswer, NumberOf}
 use Rattle.flowgoal.specs.GoalQuestion.{GoalPromise, OutcomeNumber}
 use Rattle.weir.specs.Goals.{weirAllow41, empty, writeOnly, exceptType, endTypeOne, oneLeg, noStart}
 

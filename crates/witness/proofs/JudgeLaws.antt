@@ -1,13 +1,13 @@
 -- The answer that two searches come to, by cases.
 use mathlib.Core.List.{List}
-use mathlib.Core.Path.{_≡_, refl, ap}
+use mathlib.Core.Path.{_≡_, refl}
 use Prim.Native.Nat.{ℕ, suc, _+_, _≤_, _<_}
 use native.Mathlib.Omega.{arith}
 use native.Mathlib.Decide.{decLe}
 use Rattle.policy_image.specs.declared.counts.Counts.{Counts}
 use Rattle.goal_image.specs.declared.check.Legs.{Legs}
 use Rattle.goal_image.specs.Layout.{legsOf}
-use Rattle.paths.specs.Answer.{Answer, holds, order, events}
+use Rattle.paths.specs.Answer.{order, events}
 use Rattle.paths.proofs.Monitors.{trackerN, order-iff}
 use Rattle.paths.proofs.Verdict.{Found, Least, at, nowhere, answer, answerBy}
 use Rattle.goal_model.specs.Images.{model}

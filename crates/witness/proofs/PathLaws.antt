@@ -15,7 +15,7 @@ use Rattle.goal_image.specs.Layout.{legsOf}
 use Rattle.goal_model.specs.Images.{model}
 use Rattle.paths.specs.Model.{Model}
 use Rattle.paths.specs.Paths.{IsPath}
-use Rattle.paths.specs.Slice.{contextsIn, eventsIn, Shows}
+use Rattle.paths.specs.Slice.{contextsIn, eventsIn}
 use Rattle.paths.proofs.Monitor.{Edge, run, run-is}
 use Rattle.paths.proofs.Monitors.{order-verdict, events-verdict}
 use Rattle.nodes.specs.declared.monitor.Mode.{Mode}
@@ -23,11 +23,11 @@ use Rattle.nodes.specs.declared.monitor.Mode.the-variants.{Order, Events}
 use Rattle.nodes.specs.Arrivals.{States}
 use Rattle.nodes.specs.Tasks.{Task, graphOf}
 use Rattle.nodes.specs.Graph.{Graph, Chain, Chain.root, Chain.link}
-use Rattle.nodes.specs.Nodes.{Watch, watchOf, monitorOf, stateOf, codeOf, states, StartAt, EdgeAt, EndAt, graph, BadStart}
+use Rattle.nodes.specs.Nodes.{Watch, watchOf, monitorOf, stateOf, codeOf, states, StartAt, EdgeAt, EndAt, BadStart}
 use Rattle.nodes.proofs.SearchLaws.{chain-bound}
 use Rattle.memory.proofs.StandLaws.{around, at-place}
 use Rattle.search.proofs.FoundLaws.{few-types}
-use Rattle.witness.specs.Links.{Some, Linked}
+use Rattle.witness.specs.Links.{Linked}
 use Rattle.witness.specs.Shown.{BreaksBy, Shown, NodeIn}
 
 -- ---- the links

@@ -1,6 +1,5 @@
 -- What is promised of the path that is shown, and of the verdict that two searches come to.
 use mathlib.Core.List.{List}
-use mathlib.Core.Path.{_≡_}
 use Prim.Native.Nat.{ℕ, suc, _+_, _/_, _^_, _<_}
 use Rattle.policy_image.specs.declared.counts.Counts.{Counts}
 use Rattle.context.specs.Places.{Countable, contextCount}

@@ -1,6 +1,5 @@
 use Rattle.memory.proofs.KeyLaws.{mark-one, mark-none, shl-64}
 use borrow.Author.Needs.{needs}
-use borrow.Author.Needs.{needs}
 use Rattle.memory.proofs.mark.Statement.{statement}
 use Rattle.memory.proofs.mark.Tie as tie
 

@@ -1,8 +1,7 @@
-use Rattle.policy_image.specs.Layout.{Exact, recordCount, headOf}
 use Rattle.base.proofs.Numbers.{upto-none, upto-more}
-use lib.ListN.{length, getD}
-use mathlib.Core.Path.{_≡_, sym, _∙_, ap, subst}
-use Prim.Native.Nat.{ℕ, _+_, _≤_, _<_, _-_}
+use lib.ListN.{getD}
+use mathlib.Core.Path.{_≡_}
+use Prim.Native.Nat.{ℕ, _≤_, _<_, _-_}
 use native.Mathlib.Omega.{arith}
 use borrow.Author.Needs.{needs}
 use Rattle.policy_chains.proofs.all_zero.Statement.{statement}

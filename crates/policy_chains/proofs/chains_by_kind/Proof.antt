@@ -1,5 +1,5 @@
 -- The pass over the records keeps `Walk`, whose laws say what each way out means.
-use Prim.Native.Nat.{ℕ, _+_, _≤_, _<_, _-_}
+use Prim.Native.Nat.{ℕ, _+_, _≤_, _-_}
 use mathlib.Core.Path.{_≡_, sym, _∙_, subst}
 use native.Mathlib.Omega.{arith}
 use borrow.Author.Needs.{needs}
@@ -10,7 +10,7 @@ use Rattle.policy_image.specs.declared.records.Record.{Record}
 use Rattle.policy_image.specs.Layout.{recordCount}
 use Rattle.policy_image.specs.Policy.{Policy, policyOf}
 use Rattle.policy_image.proofs.FieldLaws.{SameFields, same-fields}
-use Rattle.policy_chains.specs.Chains.{LinksRise, ChainsByKind}
+use Rattle.policy_chains.specs.Chains.{LinksRise}
 use Rattle.policy_chains.proofs.Walk.{Walk, walk-start, walk-step, walk-wrong, walk-end, walk-zero}
 use Rattle.policy_chains.proofs.chains_by_kind.Statement.{statement}
 use Rattle.policy_chains.proofs.chains_by_kind.Tie as tie

@@ -1,10 +1,10 @@
 use lib.Seq.{getD-set-same, getD-set-other}
-use lib.ListN.{set, length-set}
-use Rattle.policy_image.specs.Layout.{Exact, recordCount, headOf}
+use lib.ListN.{length-set}
+use Rattle.policy_image.specs.Layout.{headOf}
 use Rattle.base.proofs.Numbers.{upto-none, upto-more}
 use lib.ListN.{length, getD}
-use mathlib.Core.Path.{_≡_, sym, _∙_, ap, subst}
-use Prim.Native.Nat.{ℕ, _+_, _≤_, _<_, _-_}
+use mathlib.Core.Path.{_≡_, _∙_}
+use Prim.Native.Nat.{ℕ, _≤_, _<_, _-_}
 use native.Mathlib.Omega.{arith}
 use borrow.Author.Needs.{needs}
 use Rattle.policy_chains.proofs.heads.Statement.{statement}

@@ -1,7 +1,7 @@
 use Rattle.policy_image.specs.Layout.{recordCount, headOf}
 use Rattle.base.proofs.Numbers.{upto-none, upto-more}
 use mathlib.Core.Path.{_≡_}
-use Prim.Native.Nat.{ℕ, _+_, _≤_, _<_, _-_}
+use Prim.Native.Nat.{ℕ, _≤_, _<_, _-_}
 use native.Mathlib.Omega.{arith}
 use borrow.Author.Needs.{needs}
 use Rattle.policy_chains.proofs.heads_in_range.Statement.{statement}

@@ -2,11 +2,11 @@
 use Prim.Native.Nat.{ℕ}
 use mathlib.Core.List.{List}
 use mathlib.Core.Logic.{inl, inr}
-use mathlib.Core.Path.{_≡_, refl, sym, subst}
+use mathlib.Core.Path.{refl, sym, subst}
 use denote.Ref.{now}
 use borrow.Author.Needs.{needs}
 use lib.ListN.{drop}
-use Rattle.base.specs.Questions.{Question, AllYes, RefusedWith}
+use Rattle.base.specs.Questions.{Question, RefusedWith}
 use Rattle.base.proofs.Decide.{not-yes, not-no}
 use Rattle.base.proofs.QuestionLaws.{refused-first, refused-then, passed-both}
 use Rattle.policy_image.specs.declared.counts.Counts.{Counts}

@@ -1,9 +1,9 @@
 use Rattle.policy_fields.specs.Fields.{nodeLimits, none}
-use Rattle.base.proofs.Numbers.{two-of, three-of, table-other, skip}
+use Rattle.base.proofs.Numbers.{two-of, three-of, table-other}
 use lib.ListN.{getD}
 use mathlib.Core.Logic.{⊎-elim}
 use mathlib.Core.Path.{_≡_, sym, ap, _∙_, refl}
-use Prim.Native.Nat.{ℕ, _≤_}
+use Prim.Native.Nat.{ℕ}
 use native.Mathlib.Omega.{arith}
 use borrow.Author.Needs.{needs}
 use Rattle.policy_fields.proofs.node_limits.Statement.{statement}

@@ -1,4 +1,4 @@
-use Rattle.policy_nodes.proofs.UseLaws.{use-root, use-left, use-right, use-none, use-none-right}
+use Rattle.policy_nodes.proofs.UseLaws.{use-right, use-none-right}
 use mathlib.Core.Path.{sym}
 use native.Mathlib.Omega.{arith}
 use borrow.Author.Needs.{needs}

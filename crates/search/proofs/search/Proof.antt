@@ -1,6 +1,5 @@
 use Rattle.search.proofs.FoundLaws.{coded, found-start, found-least}
 use borrow.Author.Needs.{needs}
-use borrow.Author.Needs.{needs}
 use Rattle.search.proofs.search.Statement.{statement}
 use Rattle.search.proofs.search.Tie as tie
 

@@ -1,12 +1,11 @@
 -- The two searches, the verdict on them, and the path that is shown for it.
-use Prim.Native.Nat.{ℕ, _+_, _*_, _≤_, _<_}
+use Prim.Native.Nat.{ℕ}
 use mathlib.Core.List.{List}
 use mathlib.Core.Logic.{inl, inr}
-use mathlib.Core.Path.{_≡_, refl, sym, subst, _∙_}
+use mathlib.Core.Path.{_≡_, refl, subst}
 use native.Mathlib.Omega.{arith}
 use denote.Ref.{now}
 use borrow.Author.Needs.{needs}
-use Rattle.policy_image.specs.declared.counts.Counts.{Counts}
 use Rattle.paths.specs.Paths.{OrderAt, EventsAt}
 use Rattle.paths.specs.Answer.{Right}
 use Rattle.goal_model.specs.Images.{model}

@@ -1,6 +1,5 @@
 -- The loop keeps `Extracting`, whose laws say what the rules are at the chain's end.
 use mathlib.Core.Path.{_≡_, refl, sym, _∙_, ap, subst}
-use mathlib.Core.Bool.{true, false}
 use mathlib.Core.List.{List}
 use Prim.Native.Nat.{ℕ, _<_}
 use native.Mathlib.Omega.{arith}
@@ -16,7 +15,7 @@ use Rattle.policy_check.specs.Sound.{Sound}
 use Rattle.policy_check.proofs.Along.{along-less}
 use Rattle.relations.specs.Relations.{domain, targetOf}
 use Rattle.index.specs.Extract.{Room}
-use Rattle.index.proofs.ExtractLaws.{Extracting, allowing, extract-start, extract-kind, extract-pass, extract-write, extract-end}
+use Rattle.index.proofs.ExtractLaws.{Extracting, extract-start, extract-pass, extract-write, extract-end}
 use Rattle.index.proofs.extract.extract.Statement.{statement}
 use Rattle.index.proofs.extract.extract.Tie as tie
 

@@ -4,7 +4,6 @@ use borrow.Author.Tests.{not-true}
 use Rattle.nodes.proofs.TypeLaws.{type-few, start-le}
 use Rattle.memory.proofs.SettledLaws.{settled-at}
 use native.Mathlib.Omega.{arith}
-use borrow.Author.Needs.{needs}
 use Rattle.memory.proofs.settled.is_settled.Statement.{statement}
 use Rattle.memory.proofs.settled.is_settled.Tie as tie
 

@@ -1,7 +1,6 @@
 use Rattle.nodes.proofs.ArrivalLaws.{asks-not, asks-if}
 use native.Mathlib.Omega.{arith}
 use borrow.Author.Needs.{needs}
-use borrow.Author.Needs.{needs}
 use Rattle.nodes.proofs.arrival.is_asked.Statement.{statement}
 use Rattle.nodes.proofs.arrival.is_asked.Tie as tie
 

@@ -1,7 +1,6 @@
 use Rattle.nodes.proofs.TypeLaws.{roles-few, start-few}
 use native.Mathlib.Omega.{arith}
 use borrow.Author.Needs.{needs}
-use borrow.Author.Needs.{needs}
 use Rattle.nodes.proofs.places.first_place.Statement.{statement}
 use Rattle.nodes.proofs.places.first_place.Tie as tie
 

@@ -3,7 +3,6 @@ use Rattle.nodes.proofs.ArrivalLaws.{place-room}
 use mathlib.Core.Path.{refl}
 use native.Mathlib.Omega.{arith}
 use borrow.Author.Needs.{needs}
-use borrow.Author.Needs.{needs}
 use Rattle.nodes.proofs.seed.start_at.Statement.{statement}
 use Rattle.nodes.proofs.seed.start_at.Tie as tie
 

@@ -1,6 +1,5 @@
 use mathlib.Core.Path.{refl}
 use Rattle.plan.proofs.LeadLaws.{like-out, like-transition, like-then}
-use native.Mathlib.Omega.{arith}
 use borrow.Author.Needs.{needs}
 use Rattle.plan.proofs.leads.is_like.Statement.{statement}
 use Rattle.plan.proofs.leads.is_like.Tie as tie

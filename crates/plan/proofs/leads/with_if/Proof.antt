@@ -1,5 +1,4 @@
 use Rattle.plan.proofs.LeadLaws.{with-yes, with-no}
-use native.Mathlib.Omega.{arith}
 use borrow.Author.Needs.{needs}
 use Rattle.plan.proofs.leads.with_if.Statement.{statement}
 use Rattle.plan.proofs.leads.with_if.Tie as tie

@@ -1,6 +1,5 @@
 use Rattle.plan.proofs.KnownLaws.{both-not, both-then}
 use borrow.Author.Needs.{needs}
-use borrow.Author.Needs.{needs}
 use Rattle.plan.proofs.make.is_held.Statement.{statement}
 use Rattle.plan.proofs.make.is_held.Tie as tie
 

@@ -2,7 +2,6 @@ use Rattle.plan.proofs.BlockLaws.{types-few, last-few, all-few, all-som
 use mathlib.Core.Path.{refl}
 use native.Mathlib.Omega.{arith}
 use borrow.Author.Needs.{needs}
-use borrow.Author.Needs.{needs}
 use Rattle.plan.proofs.make.put_blocks.Statement.{statement}
 use Rattle.plan.proofs.make.put_blocks.Tie as tie
 

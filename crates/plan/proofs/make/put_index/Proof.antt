@@ -1,7 +1,6 @@
 use Rattle.plan.proofs.BlockLaws.{types-few, counted}
 use native.Mathlib.Omega.{arith}
 use borrow.Author.Needs.{needs}
-use borrow.Author.Needs.{needs}
 use Rattle.plan.proofs.make.put_index.Statement.{statement}
 use Rattle.plan.proofs.make.put_index.Tie as tie
 

@@ -2,7 +2,6 @@ use Rattle.plan.proofs.KnownLaws.{tabled}
 use lib.ListN.{length-set}
 use native.Mathlib.Omega.{arith}
 use borrow.Author.Needs.{needs}
-use borrow.Author.Needs.{needs}
 use Rattle.plan.proofs.make.put_tables.Statement.{statement}
 use Rattle.plan.proofs.make.put_tables.Tie as tie
 

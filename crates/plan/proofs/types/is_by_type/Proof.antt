@@ -1,5 +1,4 @@
 use Rattle.plan.proofs.TypeLaws.{all-skip, all-one}
-use native.Mathlib.Omega.{arith}
 use borrow.Author.Needs.{needs}
 use Rattle.plan.proofs.types.is_by_type.Statement.{statement}
 use Rattle.plan.proofs.types.is_by_type.Tie as tie

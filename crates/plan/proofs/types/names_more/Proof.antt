@@ -2,8 +2,6 @@ use mathlib.Core.Path.{refl}
 use borrow.Author.Tests.{not-false, eqb-true}
 use Rattle.base.proofs.UptoLaws.{clash}
 use Rattle.plan.proofs.TypeLaws.{other-type, no-names}
-use native.Mathlib.Omega.{arith}
-use borrow.Author.Needs.{needs}
 use Rattle.plan.proofs.types.names_more.Statement.{statement}
 use Rattle.plan.proofs.types.names_more.Tie as tie
 

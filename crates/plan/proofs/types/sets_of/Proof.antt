@@ -1,5 +1,4 @@
 use mathlib.Core.Path.{refl}
-use native.Mathlib.Omega.{arith}
 use borrow.Author.Needs.{needs}
 use Rattle.plan.proofs.types.sets_of.Statement.{statement}
 use Rattle.plan.proofs.types.sets_of.Tie as tie

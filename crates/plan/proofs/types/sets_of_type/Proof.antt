@@ -1,6 +1,5 @@
 use mathlib.Core.Path.{refl}
 use Rattle.plan.proofs.TypeLaws.{sets-kept, sets-known}
-use native.Mathlib.Omega.{arith}
 use borrow.Author.Needs.{needs}
 use Rattle.plan.proofs.types.sets_of_type.Statement.{statement}
 use Rattle.plan.proofs.types.sets_of_type.Tie as tie

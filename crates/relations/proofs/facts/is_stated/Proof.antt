@@ -3,7 +3,6 @@ use mathlib.Core.Path.{_≡_, refl, sym, ap, _∙_}
 use native.Mathlib.Omega.{arith}
 use lib.Dec.{eqb}
 use mathlib.Core.Bool.{Bool}
-use mathlib.Core.Logic.{⊎-elim}
 use Rattle.base.proofs.Numbers.{two-of, three-of, table-other}
 use Rattle.policy_image.specs.declared.records.Record.{Record}
 use Rattle.relations.specs.Facts.{statements, statesOf, never}

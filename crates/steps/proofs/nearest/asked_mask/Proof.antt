@@ -5,7 +5,6 @@ use Prim.Native.Nat.{ℕ}
 use Rattle.steps.proofs.NearestLaws.{asked-all, asked-special}
 use native.Mathlib.Omega.{arith}
 use borrow.Author.Needs.{needs}
-use borrow.Author.Needs.{needs}
 use Rattle.steps.proofs.nearest.asked_mask.Statement.{statement}
 use Rattle.steps.proofs.nearest.asked_mask.Tie as tie
 

@@ -1,6 +1,5 @@
 use Rattle.steps.proofs.LowestLaws.{from-first, from-later}
 use borrow.Author.Needs.{needs}
-use borrow.Author.Needs.{needs}
 use Rattle.steps.proofs.nearest.entry_step.Statement.{statement}
 use Rattle.steps.proofs.nearest.entry_step.Tie as tie
 

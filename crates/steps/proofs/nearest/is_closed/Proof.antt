@@ -1,6 +1,5 @@
 use Rattle.steps.proofs.NearestLaws.{key-few, closed-first, closed-second}
 use borrow.Author.Needs.{needs}
-use borrow.Author.Needs.{needs}
 use Rattle.steps.proofs.nearest.is_closed.Statement.{statement}
 use Rattle.steps.proofs.nearest.is_closed.Tie as tie
 

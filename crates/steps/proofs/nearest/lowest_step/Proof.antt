@@ -1,7 +1,6 @@
 use Rattle.steps.proofs.LowestLaws.{no-perm, none-left, lowest-left}
 use native.Mathlib.Omega.{arith}
 use borrow.Author.Needs.{needs}
-use borrow.Author.Needs.{needs}
 use Rattle.steps.proofs.nearest.lowest_step.Statement.{statement}
 use Rattle.steps.proofs.nearest.lowest_step.Tie as tie
 

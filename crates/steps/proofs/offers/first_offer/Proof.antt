@@ -2,7 +2,6 @@ use Rattle.steps.proofs.OfferLaws.{type-few, block-top, block-order, cu
 use mathlib.Core.Path.{refl}
 use native.Mathlib.Omega.{arith}
 use borrow.Author.Needs.{needs}
-use borrow.Author.Needs.{needs}
 use Rattle.steps.proofs.offers.first_offer.Statement.{statement}
 use Rattle.steps.proofs.offers.first_offer.Tie as tie
 

@@ -1,7 +1,6 @@
 use Rattle.steps.proofs.OfferLaws.{type-few, block-top, block-order, block-law, next-law}
 use native.Mathlib.Omega.{arith}
 use borrow.Author.Needs.{needs}
-use borrow.Author.Needs.{needs}
 use Rattle.steps.proofs.offers.next_offer.Statement.{statement}
 use Rattle.steps.proofs.offers.next_offer.Tie as tie
 

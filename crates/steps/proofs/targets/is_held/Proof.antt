@@ -28,4 +28,3 @@ is-held-spec =
     shared-slice-read-has-bit
     has-bit-requires
     returns)
-

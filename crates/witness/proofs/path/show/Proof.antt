@@ -1,11 +1,9 @@
-use mathlib.Core.Path.{_≡_, sym, subst}
+use mathlib.Core.Path.{subst}
 use native.Mathlib.Omega.{arith}
 use borrow.Author.Needs.{needs}
 use denote.Ref.{now}
 use lib.ListN.{length-set}
-use Rattle.search.specs.declared.levels.Found.{Found}
-use Rattle.search.specs.Found.{FoundLeast}
-use Rattle.witness.specs.Shown.{Shown, Something, stepsTo}
+use Rattle.witness.specs.Shown.{Something}
 use Rattle.witness.proofs.PathLaws.{shown-start}
 use Rattle.witness.proofs.path.show.Statement.{statement}
 use Rattle.witness.proofs.path.show.Tie as tie
