@@ -64,13 +64,13 @@ outcomeNumber (outcome.Events m) = 256 * m + 2
 outcomeNumber (outcome.Refused k) = 4 * k + 3
 outcomeNumber (outcome.NoRoom m) = 256 * m + 4 * 12 + 3
 
--- ---- what the call's parts hand on
--- n is the number of an outcome that keeps the promise P
+-- the promise of the call's form for C: n is the number of an outcome that keeps the promise P
 pub record OutcomeNumber (P : Outcome → Type 0) (n : ℕ) : Type 0 where
   pub outcome : Outcome
   pub promised : P outcome
   pub number : n ≡ outcomeNumber outcome
 
+-- ---- what the call's parts hand on
 -- "A refused image stops the goal question with the image's own number"; 0 where it is accepted
 abbrev pub refusalOf : Checked → ℕ
 refusalOf (policy.Accepted n) = 0

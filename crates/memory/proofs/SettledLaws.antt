@@ -9,7 +9,6 @@ use borrow.Author.Tests.{not-true}
 use lib.Arith.{digits-lt}
 use lib.Dec.{T}
 use lib.ListN.{getD}
-use Rattle.base.specs.Bits.{bit}
 use Rattle.base.proofs.Numbers.{split-le}
 use Rattle.base.proofs.UptoLaws.{clash}
 use Rattle.policy_image.specs.declared.counts.Counts.{Counts}
@@ -22,7 +21,6 @@ use Rattle.goal_image.specs.Goal.{goalOf}
 use Rattle.goal_image.specs.Sets.{EventSets}
 use Rattle.paths.specs.Model.{Model}
 use Rattle.goal_model.specs.Images.{held, model}
-use Rattle.plan.specs.Plan.{contextsAt, Planned}
 use Rattle.nodes.specs.declared.arrival.Arrival.{Arrival}
 use Rattle.nodes.specs.declared.arrival.Arrival.the-variants.{Enter, Dropped}
 use Rattle.nodes.specs.declared.monitor.Mode.{Mode}
@@ -33,7 +31,7 @@ use Rattle.nodes.proofs.ModelLaws.{bounded}
 use Rattle.nodes.proofs.LevelLaws.{whole}
 use Rattle.memory.specs.Memory.{OfEvent, Settled}
 
-module _ {s g : List ℕ} {n : Counts} {l : Legs} (A : Task s g n l) (m : Mode) {plan : List ℕ} (P : Planned s g n plan) (back : List ℕ) (state by y : ℕ) (h : y < contextCount n) where
+module _ {s g : List ℕ} {n : Counts} {l : Legs} (A : Task s g n l) (m : Mode) (back : List ℕ) (state by y : ℕ) (h : y < contextCount n) where
   abbrev M : Model
   M = model s g
 
@@ -47,11 +45,11 @@ module _ {s g : List ℕ} {n : Counts} {l : Legs} (A : Task s g n l) (m : Mode) 
   place-of w lo hi = omega arith
 
   -- the context does not meet ρ and μ
-  pub settled-unheld : {b : Bool} → b ≡ bit (contextsAt plan y) 31 → not b ≡ true → Settled s g n m back state by y (y + 1)
+  pub settled-unheld : {b : Bool} → b ≡ held (policyOf s) (contextAtIndex n y) → not b ≡ true → Settled s g n m back state by y (y + 1)
   settled-unheld {b} q f =
       record {
         all = λ e w _ lo hi k _ _.
-            absurd (clash (ap (λ (i : ℕ). held (policyOf s) (contextAtIndex n i)) (sym (place-of w lo hi)) ∙ k) (sym (P .policy .meets y h) ∙ sym q ∙ not-true b f));
+            absurd (clash (ap (λ (i : ℕ). held (policyOf s) (contextAtIndex n i)) (sym (place-of w lo hi)) ∙ k) (sym q ∙ not-true b f));
       }
 
   module _ (r : Arrival) (Z : Arriving g n l m state by y r) where

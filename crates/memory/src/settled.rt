@@ -1,12 +1,11 @@
 // Whether all that a sweep could enter is entered, so that no later one need go through the contexts of the type again.
-use base::bits::has_bit;
 use goal_image::check::Legs;
 use nodes::arrival::Arrival;
 use nodes::arrival::arrive;
 use nodes::monitor::Mode;
 use nodes::places::first_place;
-use plan::regions::CONTEXTS;
 use policy_image::counts::Counts;
+use steps::targets::is_held;
 ghost use mathlib.Core.Path.{_≡_};
 ghost use mathlib.Core.Bool.{true, false};
 ghost use mathlib.Core.Logic.{_⊎_};
@@ -36,8 +35,7 @@ fn is_entered(
     requires { ⌜ Task (now policy) (now goal) counts legs × Planned (now policy) (now goal) counts (now plan) × OfEvent (now goal) by × (graphOf (now policy) (now goal) counts mode .k ≤ length (now back)) × (y < contextCount counts) ⌝ }
     ensures { λ r. ⌜ (r ≡ true → Settled (now (policy .entry)) (now (goal .entry)) counts mode (now (back .entry)) state by y (y + 1)) ⌝ }
 {
-    let place = CONTEXTS + (y as usize);
-    if !has_bit(plan[place], 31) {
+    if !is_held(policy, counts, plan, y) {
         return true;
     }
     match arrive(goal, counts, plan, legs, mode, state, by, y) {

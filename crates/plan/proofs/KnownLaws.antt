@@ -40,15 +40,15 @@ both-not {a} {r} b p t = let q : a ≡ false = sym p ∙ not-true r t in rw q
 pub both-then : {a b r t : Bool} → r ≡ a → not r ≡ false → t ≡ b → t ≡ (a && b)
 both-then {a} {b} {r} {t} p n e = let q : a ≡ true = sym p ∙ not-false r n in rw q e
 
-or-nothing : (a : Bool) → (a || false) ≡ a
+pub or-nothing : (a : Bool) → (a || false) ≡ a
 or-nothing true = refl
 or-nothing false = refl
 
-and-false : (a : Bool) → (a && false) ≡ false
+pub and-false : (a : Bool) → (a && false) ≡ false
 and-false true = refl
 and-false false = refl
 
-and-yes : (a : Bool) → (a && true) ≡ a
+pub and-yes : (a : Bool) → (a && true) ≡ a
 and-yes true = refl
 and-yes false = refl
 

@@ -21,19 +21,8 @@ use Rattle.context.specs.Codes.{eventAt, eventOf, isTransition}
 use Rattle.constraints.specs.Constraints.{constrains}
 use Rattle.tables.specs.Groups.{ConstraintGroups}
 use Rattle.plan.specs.Plan.{firstAt, keyAt, outsAt, insAt, eventsAt, leadsAt, Blocks, Alike, Leader, Leads, LeadsPut}
+use Rattle.plan.proofs.KnownLaws.{or-nothing, and-false, and-yes}
 use Rattle.plan.specs.Leads.{likes, WithIf, SameSets, AlikeTable, Led, Leading, EntryLeads}
-
-or-nothing : (a : Bool) → (a || false) ≡ a
-or-nothing true = refl
-or-nothing false = refl
-
-and-false : (a : Bool) → (a && false) ≡ false
-and-false true = refl
-and-false false = refl
-
-and-yes : (a : Bool) → (a && true) ≡ a
-and-yes true = refl
-and-yes false = refl
 
 -- ---- events in the same sets
 pub sets-begin : (plan : List ℕ) (event group : ℕ) → SameSets plan event group 0 0
@@ -61,9 +50,6 @@ with-yes {m} {q} t W = record { at = λ i. W .at i ∙ ap (λ (b : Bool). bit m 
 
 pub with-no : {m q : ℕ} {yes : Bool} → yes ≡ false → WithIf m q yes m
 with-no {m} {q} f = record { at = λ i. sym (or-nothing (bit m i)) ∙ ap (λ (b : Bool). bit m i || (b && eqb q i)) (sym f) }
-
-pub like-out : {a r : Bool} (b : Bool) → r ≡ a → not r ≡ true → false ≡ (a && b)
-like-out {a} {r} b p t = let q : a ≡ false = sym p ∙ not-true r t in rw q
 
 pub like-transition : {a r : Bool} (f : ℕ) (b : Bool) → r ≡ a → not r ≡ false → f ≡ 32 → false ≡ (a && (not (eqb f 32) && b))
 like-transition {a} {r} f b p n e = let q : a ≡ true = sym p ∙ not-false r n in let z : eqb f 32 ≡ true = eq-eqb f 32 e in rw (q, z)

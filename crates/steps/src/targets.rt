@@ -103,8 +103,7 @@ pub fn is_target(
     requires { ⌜ Ready (now policy) counts × PolicyPlan (now policy) counts (now plan) × ContextInRange counts x × (y < contextCount counts) × Facing (policyOf (now policy)) (now plan) x event (contextAtIndex counts y .ty) entry guarded ⌝ }
     ensures { λ r. ⌜ r ≡ flow (policyOf (now (policy .entry))) (eventOf event) x (contextAtIndex counts y) ⌝ }
 {
-    let at = CONTEXTS + (y as usize);
-    if !has_bit(plan[at], 31) {
+    if !is_held(policy, counts, plan, y) {
         return false;
     }
     if !guarded {

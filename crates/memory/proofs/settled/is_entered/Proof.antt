@@ -1,29 +1,20 @@
 use mathlib.Core.Path.{refl}
+use native.Mathlib.Omega.{arith}
+use borrow.Author.Needs.{needs}
 use borrow.Author.Tests.{not-true, eq-eqb}
 use Rattle.base.proofs.UptoLaws.{clash}
 use Rattle.memory.proofs.SettledLaws.{settled-unheld, settled-dropped, entered-below, settled-entered}
-use native.Mathlib.Omega.{arith}
-use borrow.Author.Needs.{needs}
 use Rattle.memory.proofs.settled.is_entered.Statement.{statement}
 use Rattle.memory.proofs.settled.is_entered.Tie as tie
 
-add-place : tie.Need-add-place
-add-place c = omega (arith, c .before .before .before .before .pre .4, c .before .before .before .before .pre .0 .legs .countable .few)
-
-mul-has-bit : tie.Need-mul-has-bit
-mul-has-bit c = omega (arith, c .before .before .before .before .pre .4, c .before .before .before .before .pre .0 .legs .countable .few)
-
-shared-slice-read-has-bit : tie.Need-shared-slice-read-has-bit
-shared-slice-read-has-bit c = omega (arith, c .before .before .before .before .before .pre .4, c .before .before .before .before .before .pre .1 .policy .size)
-
-has-bit-requires : tie.Need-has-bit-requires
-has-bit-requires c κs = search needs
+is-held-requires : tie.Need-is-held-requires
+is-held-requires c κs = let s = c .before .before .before .before in (s .pre .1 .policy, s .pre .4)
 
 returns : tie.Need-returns
-returns c = λ _. settled-unheld (c .before .before .before .before .before .before .before .pre .0) (c .before .before .before .before .before .before .before .args .mode) (c .before .before .before .before .before .before .before .pre .1) (c .before .before .before .before .before .before .before .args .back .now) (c .before .before .before .before .before .before .before .args .state) (c .before .before .before .before .before .before .before .args .by) (c .before .before .before .before .before .before .before .args .y) (c .before .before .before .before .before .before .before .pre .4) (c .before .has-bit .ensures) (c .if1 .taken)
+returns c = let s = c .before .before .before .before .before .before in λ _. settled-unheld (s .pre .0) (s .args .mode) (s .args .back .now) (s .args .state) (s .args .by) (s .args .y) (s .pre .4) (c .before .is-held .ensures) (c .if1 .taken)
 
 arrive-requires : tie.Need-arrive-requires
-arrive-requires c κs = (c .before .before .before .before .before .before .before .pre .0 .legs, c .before .before .before .before .before .before .before .pre .1 .goal, c .before .before .before .before .before .before .before .pre .4)
+arrive-requires c κs = let s = c .before .before .before .before .before .before in (s .pre .0 .legs, s .pre .1 .goal, s .pre .4)
 
 enum-known-v : tie.Need-enum-known-v
 enum-known-v c = search needs
@@ -35,7 +26,10 @@ mul-result : tie.Need-mul-result
 mul-result c = search needs
 
 shared-slice-read-result : tie.Need-shared-slice-read-result
-shared-slice-read-result c = let h = entered-below (c .before .before .before .before .before .before .before .before .before .before .before .before .pre .0) (c .before .before .before .before .before .before .before .before .before .before .before .before .args .mode) (c .before .before .before .before .before .before .before .before .before .before .before .before .pre .1) (c .before .before .before .before .before .before .before .before .before .before .before .before .args .back .now) (c .before .before .before .before .before .before .before .before .before .before .before .before .args .state) (c .before .before .before .before .before .before .before .before .before .before .before .before .args .by) (c .before .before .before .before .before .before .before .before .before .before .before .before .args .y) (c .before .before .before .before .before .before .before .before .before .before .before .before .pre .4) _ (c .before .before .before .before .arrive .ensures) (c .before .before .v .given .1) (c .before .before .before .before .before .before .before .before .before .before .before .before .pre .2) in omega (arith, c .before .before .before .before .before .before .before .before .before .before .before .before .pre .3)
+shared-slice-read-result c =
+    let s = c .before .before .before .before .before .before .before .before .before .before .before in
+    let h = entered-below (s .pre .0) (s .args .mode) (s .args .back .now) (s .args .state) (s .args .by) (s .args .y) (s .pre .4) _ (c .before .before .before .before .arrive .ensures) (c .before .before .v .given .1) (s .pre .2) in
+    omega (arith, s .pre .3)
 
 enum-told : tie.Need-enum-told
 enum-told c = search needs
@@ -44,10 +38,12 @@ enum-told-2 : tie.Need-enum-told-2
 enum-told-2 c = search needs
 
 returns-2 : tie.Need-returns-2
-returns-2 c = λ t. settled-entered (c .before .before .before .before .before .before .before .before .before .before .before .before .pre .0) (c .before .before .before .before .before .before .before .before .before .before .before .before .args .mode) (c .before .before .before .before .before .before .before .before .before .before .before .before .pre .1) (c .before .before .before .before .before .before .before .before .before .before .before .before .args .back .now) (c .before .before .before .before .before .before .before .before .before .before .before .before .args .state) (c .before .before .before .before .before .before .before .before .before .before .before .before .args .by) (c .before .before .before .before .before .before .before .before .before .before .before .before .args .y) (c .before .before .before .before .before .before .before .before .before .before .before .before .pre .4) _ (c .before .before .before .before .arrive .ensures) (c .before .before .v .given .1) (λ z. clash (eq-eqb _ 0 z) (not-true _ t))
+returns-2 c =
+    let s = c .before .before .before .before .before .before .before .before .before .before .before in
+    λ t. settled-entered (s .pre .0) (s .args .mode) (s .args .back .now) (s .args .state) (s .args .by) (s .args .y) (s .pre .4) _ (c .before .before .before .before .arrive .ensures) (c .before .before .v .given .1) (λ z. clash (eq-eqb _ 0 z) (not-true _ t))
 
 returns-3 : tie.Need-returns-3
-returns-3 c = λ _. settled-dropped (c .before .before .before .before .before .before .before .before .before .before .pre .0) (c .before .before .before .before .before .before .before .before .before .before .args .mode) (c .before .before .before .before .before .before .before .before .before .before .pre .1) (c .before .before .before .before .before .before .before .before .before .before .args .back .now) (c .before .before .before .before .before .before .before .before .before .before .args .state) (c .before .before .before .before .before .before .before .before .before .before .args .by) (c .before .before .before .before .before .before .before .before .before .before .args .y) (c .before .before .before .before .before .before .before .before .before .before .pre .4) _ (c .before .before .arrive .ensures) (c .enum-told .given .1)
+returns-3 c = let s = c .before .before .before .before .before .before .before .before .before in λ _. settled-dropped (s .pre .0) (s .args .mode) (s .args .back .now) (s .args .state) (s .args .by) (s .args .y) (s .pre .4) _ (c .before .before .arrive .ensures) (c .enum-told .given .1)
 
 returns-4 : tie.Need-returns-4
 returns-4 c = λ t. absurd (clash t refl)
@@ -56,10 +52,7 @@ pub is-entered-spec : {M : Type 1} → statement M
 is-entered-spec =
     tie.close
     (tie.spec
-    add-place
-    mul-has-bit
-    shared-slice-read-has-bit
-    has-bit-requires
+    is-held-requires
     returns
     arrive-requires
     enum-known-v

@@ -1,5 +1,6 @@
 use mathlib.Core.Path.{refl}
-use Rattle.plan.proofs.LeadLaws.{like-out, like-transition, like-then}
+use Rattle.plan.proofs.LeadLaws.{like-transition, like-then}
+use Rattle.plan.proofs.KnownLaws.{both-not}
 use borrow.Author.Needs.{needs}
 use Rattle.plan.proofs.leads.is_like.Statement.{statement}
 use Rattle.plan.proofs.leads.is_like.Tie as tie
@@ -8,7 +9,7 @@ has-bit-requires : tie.Need-has-bit-requires
 has-bit-requires c κs = search needs
 
 returns : tie.Need-returns
-returns c = like-out _ (c .before .has-bit .ensures) (c .if1 .taken)
+returns c = both-not _ (c .before .has-bit .ensures) (c .if1 .taken)
 
 mul-other : tie.Need-mul-other
 mul-other c = search needs
