@@ -28,7 +28,7 @@ use Rattle.steps.specs.declared.nearest.Asker.{Asker}
 use Rattle.steps.specs.declared.nearest.Offer.{Offer}
 use Rattle.steps.specs.Nearest.{firstStep, closed, Passed, Block, Cursor, Nearest}
 use Rattle.steps.specs.Steps.{Offering, NextOffer}
-use Rattle.steps.proofs.FlowLaws.{alpha-defined, defined-class, flow-alpha, flow-class, flow-held, flow-by, plain-conditions, conditions}
+use Rattle.steps.proofs.FlowLaws.{alpha-defined, defined-class, flow-class, flow-held, flow-by, plain-conditions, conditions}
 use Rattle.steps.proofs.AlikeLaws.{special-same, conditions-same}
 
 module _ {s : List ℕ} {n : Counts} {plan : List ℕ} (R : Ready s n) (P : PolicyPlan s n plan) where
@@ -110,32 +110,6 @@ module _ {s : List ℕ} {n : Counts} {plan : List ℕ} (R : Ready s n) (P : Poli
 
           same′ : (α p o (x .ty) (eventAt c q) && readLike p (eventAt c q)) ≡ (α p o′ (x .ty) (eventOf e) && readLike p (eventOf e))
           same′ = λ i. α p (qo i) (x .ty) (eventAt (qc i) (qq i)) && readLike p (eventAt (qc i) (qq i))
-
-    -- a flow is offered by an entry
-    flow-entry : (i : ℕ) (y : Context) → ContextInRange (p .counts) y → flow p (eventOf i) x y ≡ true
-        → (j : ℕ) × (lo ≤ j) × (j < hi) × (keyAt plan j ≡ 4096 * (i / 32) + y .ty) × (bit (bitOr (outsAt plan j) (insAt plan j)) (i % 32) ≡ true)
-    flow-entry i y r t =
-        let small : i / 32 < 32 = (let w = flow-class {s = s} (eventOf i) x y (R .sound) t .high in omega (arith, R .sound .range .classes .high)) in
-        let few : y .ty < 4096 = (let w = r .ty .high in omega (arith, R .sound .range .types .high)) in
-        let lq : i % 32 < 32 = omega arith in
-        ⊎-elim
-        (λ w.
-        let E = block-of h .whole (i / 32) (y .ty) (i % 32) small few lq (inl (w .0)) in
-        let kc : keyAt plan (E .place) / 4096 ≡ i / 32 = omega (arith, E .key) in
-        let ko : keyAt plan (E .place) % 4096 ≡ y .ty = omega (arith, E .key) in
-        let b : bit (outsAt plan (E .place)) (i % 32) ≡ true = block-of h .outs (E .place) (i % 32) (E .low) (E .high) lq
-        ∙ (λ z. α p (x .ty) (ko z) (eventAt (kc z) (i % 32)) && writeLike p (eventAt (kc z) (i % 32)))
-        ∙ and-true (α p (x .ty) (y .ty) (eventOf i)) (writeLike p (eventOf i)) (w .0) (w .1) in
-        (E .place, E .low, E .high, E .key, bit-or (outsAt plan (E .place)) (insAt plan (E .place)) (i % 32) ∙ or-left (bit (outsAt plan (E .place)) (i % 32)) (bit (insAt plan (E .place)) (i % 32)) b))
-        (λ w.
-        let E = block-of h .whole (i / 32) (y .ty) (i % 32) small few lq (inr (w .0)) in
-        let kc : keyAt plan (E .place) / 4096 ≡ i / 32 = omega (arith, E .key) in
-        let ko : keyAt plan (E .place) % 4096 ≡ y .ty = omega (arith, E .key) in
-        let b : bit (insAt plan (E .place)) (i % 32) ≡ true = block-of h .ins (E .place) (i % 32) (E .low) (E .high) lq
-        ∙ (λ z. α p (ko z) (x .ty) (eventAt (kc z) (i % 32)) && readLike p (eventAt (kc z) (i % 32)))
-        ∙ and-true (α p (y .ty) (x .ty) (eventOf i)) (readLike p (eventOf i)) (w .0) (w .1) in
-        (E .place, E .low, E .high, E .key, bit-or (outsAt plan (E .place)) (insAt plan (E .place)) (i % 32) ∙ or-true (bit (outsAt plan (E .place)) (i % 32)) (bit (insAt plan (E .place)) (i % 32)) b))
-        (flow-alpha p (eventOf i) x y t)
 
     -- a flow, and the leading permission of its entry that stands for it
     record LedFlow (i : ℕ) (y : Context) : Type 0 where
@@ -277,25 +251,33 @@ module _ {s : List ℕ} {n : Counts} {plan : List ℕ} (R : Ready s n) (P : Poli
     -- no entry has a special permission, and the others are done
     pub none-special : {swept : List ℕ} {a : Asker} {group entry : ℕ} → a .spent ≡ true → guardsAt plan (x .ty) ≡ 0 → group ≡ firstAt plan (x .ty)
         → NextOffer p plan swept a x 0 (record { group = group; entry = entry; at = 4194304 })
-    none-special {swept} {a} e z q =
+    none-special {swept} {a} spent z₀ q =
         record {
           low = omega arith;
           high = omega arith;
           none = λ i y w _ _ t.
-              let (j, l, k, key, b) = flow-entry i y w t in
-              let small : i / 32 < 32 = (let v = flow-class {s = s} (eventOf i) x y (R .sound) t .high in omega (arith, R .sound .range .classes .high)) in
-              let few : y .ty < 4096 = (let v = w .ty .high in omega (arith, R .sound .range .types .high)) in
-              let c : keyAt plan j / 4096 % 32 ≡ i / 32 = omega arith in
+              let F = flow-led i y w t in
+              let u = F .under in
+              let c : i / 32 < 32 = small i y w t in
+              let z : y .ty < 4096 = few i y w t in
+              let key = F .key in
+              let e : ℕ = 32 * (i / 32) + F .perm in
+              let class : (32 * (i / 32) + F .perm) / 32 ≡ keyAt plan (F .entry) / 4096 % 32 = omega arith in
+              let perm : (32 * (i / 32) + F .perm) % 32 ≡ F .perm = omega arith in
+              let at : special p (eventOf i) ≡ true → bit (specialAt plan (keyAt plan (F .entry) / 4096 % 32)) (F .perm) ≡ true
+              = λ k. ap₂ (λ (a b : ℕ). bit (specialAt plan a) b) (sym class) (sym perm) ∙ P .tables .special-at (e / 32) (e % 32) (omega arith) ∙ special-same (F .alike) ∙ k in
               inl (inr (
-                e,
-                ⊎-elim
-                    (λ (h : bit (specialAt plan (i / 32)) (i % 32) ≡ true).
-                    absurd (clash (P .guards (x .ty) (type-in h₀) .at j (i % 32) l k
-                    (bit-and (bitOr (outsAt plan j) (insAt plan j)) (specialAt plan (keyAt plan j / 4096 % 32)) (i % 32)
-                    ∙ and-true (bit (bitOr (outsAt plan j) (insAt plan j)) (i % 32)) (bit (specialAt plan (keyAt plan j / 4096 % 32)) (i % 32)) b (ap (λ (v : ℕ). bit (specialAt plan v) (i % 32)) c ∙ h)))
-                    (ap (λ (v : ℕ). bit v (i % 32)) z ∙ bit-zero (i % 32))))
-                    (λ f. f)
-                    (true-or-false (bit (specialAt plan (i / 32)) (i % 32))),
+                spent,
+                P .tables .special-at (i / 32) (i % 32) c
+                    ∙ ⊎-elim
+                    (λ (k : special p (eventOf i) ≡ true).
+                    absurd (clash (P .guards (x .ty) (type-in h₀) .at (F .entry) (F .perm) (F .low) (F .high)
+                    (bit-and (bitOr (outsAt plan (F .entry)) (insAt plan (F .entry))) (specialAt plan (keyAt plan (F .entry) / 4096 % 32)) (F .perm)
+                    ∙ and-true (bit (bitOr (outsAt plan (F .entry)) (insAt plan (F .entry))) (F .perm)) (bit (specialAt plan (keyAt plan (F .entry) / 4096 % 32)) (F .perm))
+                    (bears (F .entry) (F .perm) (F .low) (F .high) (omega arith) (F .leading)) (at k)))
+                    (ap (λ (v : ℕ). bit v (F .perm)) z₀ ∙ bit-zero (F .perm))))
+                    (λ k. k)
+                    (true-or-false (special p (eventOf i))),
               ));
           offers = λ h. absurd (omega arith);
           unclosed = λ h. absurd (omega arith);
