@@ -1,7 +1,8 @@
 //! One case of the bare questions: contexts and events of the policy, and some that are out of range.
-use crate::calls::{bare, Bare};
+use crate::calls::bare;
 use crate::cases::Case;
 use crate::tally::Tally;
+use flowgoal_calls::Bare;
 use second_search::answer::bare_question;
 use second_search::gen::Rng;
 use second_search::policy::{Context, Event};

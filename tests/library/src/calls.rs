@@ -1,44 +1,6 @@
-//! The outward calls of the library as C declares them, and the slices that are lent to them.
+//! The outward calls, and the slices that are lent to them.
+use flowgoal_calls::Bare;
 use second_search::policy::{Context, Event};
-
-extern "C" {
-    fn flowgoal_check(
-        policy: *const u8,
-        policy_length: usize,
-        goal: *const u8,
-        goal_length: usize,
-        work1: *mut u32,
-        work1_length: usize,
-        work2: *mut u32,
-        work2_length: usize,
-        path: *mut u32,
-        path_length: usize,
-    ) -> u64;
-    fn flowgoal_authorized(
-        policy: *const u8,
-        policy_length: usize,
-        t1: u32,
-        r1: u32,
-        u1: u32,
-        t2: u32,
-        r2: u32,
-        u2: u32,
-        class: u32,
-        permission: u32,
-    ) -> u64;
-    fn flowgoal_flows(
-        policy: *const u8,
-        policy_length: usize,
-        t1: u32,
-        r1: u32,
-        u1: u32,
-        t2: u32,
-        r2: u32,
-        u2: u32,
-        class: u32,
-        permission: u32,
-    ) -> u64;
-}
 
 /// Entries on either side of a lent slice that no call may touch.
 const GUARD: usize = 4;
@@ -58,8 +20,8 @@ impl Lent {
     pub fn new(length: usize) -> Lent {
         Lent { all: (0..length + 2 * GUARD).map(canary).collect(), length }
     }
-    fn start(&mut self) -> *mut u32 {
-        self.all[GUARD..].as_mut_ptr()
+    fn lend(&mut self) -> &mut [u32] {
+        &mut self.all[GUARD..GUARD + self.length]
     }
     pub fn entries(&self) -> &[u32] {
         &self.all[GUARD..GUARD + self.length]
@@ -78,35 +40,9 @@ impl Lent {
 /// The goal question; both work slices and the path slice keep what the call left in them.
 pub fn check(policy: &[u8], goal: &[u8], work: &mut [Lent; 2], path: &mut Lent) -> u64 {
     let [work1, work2] = work;
-    // SAFETY: each pointer leads to as many entries as its length says, and no two of them to the same ones.
-    unsafe {
-        flowgoal_check(
-            policy.as_ptr(),
-            policy.len(),
-            goal.as_ptr(),
-            goal.len(),
-            work1.start(),
-            work1.length,
-            work2.start(),
-            work2.length,
-            path.start(),
-            path.length,
-        )
-    }
-}
-
-/// The two bare questions.
-#[derive(Clone, Copy, PartialEq, Eq, PartialOrd, Ord, Debug)]
-pub enum Bare {
-    Authorized,
-    Flows,
+    flowgoal_calls::check(policy, goal, work1.lend(), work2.lend(), path.lend())
 }
 
 pub fn bare(question: Bare, policy: &[u8], x: Context, y: Context, e: Event) -> u64 {
-    let call = match question {
-        Bare::Authorized => flowgoal_authorized,
-        Bare::Flows => flowgoal_flows,
-    };
-    // SAFETY: the pointer leads to as many bytes as the length says.
-    unsafe { call(policy.as_ptr(), policy.len(), x.t, x.r, x.u, y.t, y.r, y.u, e.c, e.p) }
+    flowgoal_calls::bare(question, policy, [x.t, x.r, x.u], [y.t, y.r, y.u], [e.c, e.p])
 }

@@ -1,5 +1,5 @@
 //! How often each answer and each refusal was met.
-use crate::calls::Bare;
+use flowgoal_calls::Bare;
 use std::collections::BTreeMap;
 
 /// Each answer must be met at least so often.

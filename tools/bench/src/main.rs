@@ -9,21 +9,6 @@ mod sizes;
 use sizes::{Goals, Masks, Size};
 use std::time::Instant;
 
-extern "C" {
-    fn flowgoal_check(
-        policy: *const u8,
-        policy_length: usize,
-        goal: *const u8,
-        goal_length: usize,
-        work1: *mut u32,
-        work1_length: usize,
-        work2: *mut u32,
-        work2_length: usize,
-        path: *mut u32,
-        path_length: usize,
-    ) -> u64;
-}
-
 const ANSWERS: [&str; 3] = ["holds", "order", "events"];
 /// A measured round takes at least so long, where one call does not take longer; the best of the rounds counts.
 const ROUND_SECONDS: f64 = 0.2;
@@ -92,21 +77,7 @@ impl Ours {
     /// The call with so many entries of each work slice.
     fn ask_with(&mut self, policy: &[u8], goal: &[u8], entries: usize) -> (String, u64) {
         let [work1, work2] = self.work.each_mut().map(|work| &mut work[..entries]);
-        // SAFETY: each pointer leads to as many entries as its length says, and no two of them to the same ones.
-        let number = unsafe {
-            flowgoal_check(
-                policy.as_ptr(),
-                policy.len(),
-                goal.as_ptr(),
-                goal.len(),
-                work1.as_mut_ptr(),
-                work1.len(),
-                work2.as_mut_ptr(),
-                work2.len(),
-                self.path.as_mut_ptr(),
-                self.path.len(),
-            )
-        };
+        let number = flowgoal_calls::check(policy, goal, work1, work2, &mut self.path);
         match ANSWERS.get(number as usize % 4) {
             Some(answer) => (answer.to_string(), number / 256),
             None => (format!("refused {}", number / 4 % 64), number / 256),
