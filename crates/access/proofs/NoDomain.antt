@@ -6,10 +6,10 @@ use mathlib.Core.Logic.{⊎-elim}
 use mathlib.Core.Path.{_≡_, refl, sym, subst, _∙_}
 use borrow.Author.Tests.{ne-eqb}
 use Rattle.base.proofs.Numbers.{split-eq}
-use Rattle.policy_image.specs.Layout.{countsOf, recordCount, recordOf, headOf, payloadOf, decoded}
+use Rattle.policy_image.specs.Layout.{countsOf, recordCount, recordOf, policyHead, payloadOf, decoded}
 use Rattle.policy_image.specs.Policy.{policyOf}
 use Rattle.policy_image.specs.OfKind.{some, every}
-use Rattle.policy_image.specs.Weir.{weir, weirAllow31}
+use Rattle.policy_image.specs.cases.Weir.{weir, weirAllow31}
 use Rattle.policy_nodes.specs.Nodes.{useOf}
 use Rattle.policy_check.proofs.Tests.{Accepted, accepted}
 use Rattle.context.specs.declared.Context.{Context}
@@ -19,7 +19,7 @@ use Rattle.constraints.specs.Constraints.{constraintsHold}
 use Rattle.access.specs.Authorization.{χ, roleRule, authorized, flow}
 
 pub w9-accepted : Accepted weirAllow31
-unfolding countsOf recordCount recordOf headOf payloadOf decoded useOf
+unfolding countsOf recordCount recordOf policyHead payloadOf decoded useOf
 w9-accepted = accepted refl refl refl refl refl refl
 
 -- no action from type 3

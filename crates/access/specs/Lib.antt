@@ -1,2 +1,2 @@
 pub mod Authorization
-pub mod Gate
+pub mod cases

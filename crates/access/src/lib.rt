@@ -12,12 +12,11 @@ ghost use mathlib.Core.Path.{_≡_};
 ghost use mathlib.Core.Bool.{_&&_};
 ghost use Prim.Native.Nat.{_<_};
 ghost use Rattle.policy_image.specs.Policy.{policyOf};
-ghost use Rattle.policy_check.specs.Sound.{Sound};
+ghost use Rattle.policy_check.specs.inner.Sound.{Sound};
 ghost use Rattle.context.specs.Codes.{eventOf};
-ghost use Rattle.context.specs.Ranges.{Coded};
+ghost use Rattle.context.specs.inner.Coding.{Coded};
 ghost use Rattle.relations.specs.Relations.{flowsAs};
-ghost use Rattle.access.specs.Authorization.{χ, roleRule, clausesOf, allHold};
-ghost use Rattle.access.specs.Authorization.{authorized as authorizedOf, flow};
+ghost use Rattle.access.specs.Authorization.{χ, roleRule, clausesOf, allHold, authorized as authorizedOf, flow};
 
 // The value of each clause of the authorization formula, in its order: 1 for the context that acts, 2 for the other.
 pub struct Clauses {

@@ -10,7 +10,8 @@ use lib.Pow.{pow-pos, pow-mono, pow-lt, pow-add, shr-shr, shl-shr, split, field,
 use lib.Bits.{bitAnd, bitOr, bitXor, and-shr, or-shr, xor-shr, and-mod, or-mod, xor-mod, and-le-l, and-mask, and-block, and-zero-r}
 use borrow.Author.Tests.{lt-ltb, le-ltb, eq-eqb, ne-eqb}
 use native.Mathlib.Numerals.{one-add}
-use Rattle.base.specs.Bits.{bit, With, Without}
+use Rattle.base.specs.Bits.{bit}
+use Rattle.base.specs.inner.Masks.{With, Without}
 
 -- an operation on digits that acts on each digit apart
 module _ (op : ℕ → ℕ → ℕ) (f : Bool → Bool → Bool)

@@ -7,7 +7,7 @@ use native.Mathlib.Omega.{arith}
 use lib.ListN.{length, getD, set}
 use lib.Seq.{getD-set-same, getD-set-other}
 use Rattle.base.proofs.Numbers.{split-eq}
-use Rattle.base.specs.Fill.{Filled}
+use Rattle.base.specs.inner.Fill.{Filled}
 
 module _ (P : ℕ → ℕ → Type 0) where
   pub fill-begin : (l : List ℕ) (at a : ℕ) → Filled P l l at a a

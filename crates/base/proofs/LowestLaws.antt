@@ -7,7 +7,8 @@ use native.Mathlib.Decide.{decLt}
 use native.Mathlib.Omega.{arith}
 use lib.Count.{trailingZeros, under}
 use borrow.Author.Tests.{eq-eqb}
-use Rattle.base.specs.Bits.{bit, Lowest}
+use Rattle.base.specs.Bits.{bit}
+use Rattle.base.specs.inner.Masks.{Lowest}
 use Rattle.base.proofs.BitLaws.{bit-above, bit-shl-low}
 use Rattle.base.proofs.UptoLaws.{clash}
 

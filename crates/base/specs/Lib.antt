@@ -1,8 +1,7 @@
 pub mod Bytes
 pub mod Bits
-pub mod Decides
 pub mod Ranges
 pub mod Upto
 pub mod Questions
 pub mod Chain
-pub mod Fill
+pub mod inner

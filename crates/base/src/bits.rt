@@ -1,7 +1,8 @@
 // Bits of a mask, and single bits of a set of 64.
 ghost use mathlib.Core.Path.{_≡_};
 ghost use Prim.Native.Nat.{_<_};
-ghost use Rattle.base.specs.Bits.{bit, Lowest, With, Without};
+ghost use Rattle.base.specs.Bits.{bit};
+ghost use Rattle.base.specs.inner.Masks.{Lowest, With, Without};
 
 // Whether bit p of the mask is set.
 pub fn has_bit(mask: u32, p: u32) -> bool

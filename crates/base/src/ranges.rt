@@ -1,5 +1,5 @@
 // Ranges of numbers, both ends included.
-ghost use Rattle.base.specs.Decides.{Decides};
+ghost use Rattle.base.specs.inner.Decides.{Decides};
 ghost use Rattle.base.specs.Ranges.{Within};
 
 // Whether n lies from low to high.

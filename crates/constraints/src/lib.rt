@@ -8,18 +8,18 @@ use policy_image::records::record_at;
 ghost use mathlib.Core.Path.{_≡_};
 ghost use mathlib.Core.Bool.{not, _||_};
 ghost use Prim.Native.Nat.{_<_};
-ghost use Rattle.policy_image.specs.Layout.{Exact, rootOf};
+ghost use Rattle.policy_image.specs.Layout.{PolicyExact, rootOf};
 ghost use Rattle.policy_image.specs.Policy.{policyOf};
-ghost use Rattle.policy_image.specs.Reading.{Bytes};
+ghost use Rattle.policy_image.specs.inner.Reading.{Bytes};
 ghost use Rattle.policy_nodes.specs.Nodes.{NodesInOrder, IsNode};
-ghost use Rattle.policy_check.specs.Sound.{Sound};
+ghost use Rattle.policy_check.specs.inner.Sound.{Sound};
 ghost use Rattle.constraints.specs.Eval.{evalNode};
 ghost use Rattle.constraints.specs.Constraints.{constrains, constraintsHold};
 
 // The value of a node: x is the process's context, y the resource's.
 // A tree of 4,095 nodes in a row has as many calls on the stack at once.
 pub fn eval(image: &[u8], node: usize, x: Context, y: Context) -> bool
-    requires { ⌜ Exact (now image) × NodesInOrder (policyOf (now image)) × IsNode (policyOf (now image)) node ⌝ }
+    requires { ⌜ PolicyExact (now image) × NodesInOrder (policyOf (now image)) × IsNode (policyOf (now image)) node ⌝ }
     ensures { λ r. ⌜ r ≡ evalNode (policyOf (now (image .entry))) x y node ⌝ }
 {
     let r = record_at(image, node);
@@ -58,7 +58,7 @@ pub fn eval(image: &[u8], node: usize, x: Context, y: Context) -> bool
 
 // Whether the constraint r is true, or is not on the event: x acts, y is acted on.
 fn constraint_holds(image: &[u8], r: Record, e: Event, x: Context, y: Context) -> bool
-    requires { ⌜ Exact (now image) × NodesInOrder (policyOf (now image)) × IsNode (policyOf (now image)) (rootOf r) ⌝ }
+    requires { ⌜ PolicyExact (now image) × NodesInOrder (policyOf (now image)) × IsNode (policyOf (now image)) (rootOf r) ⌝ }
     requires { ⌜ Bytes r × (e .perm < 32) ⌝ }
     ensures { λ t. ⌜ t ≡ (not (constrains r e) || evalNode (policyOf (now (image .entry))) x y (rootOf r)) ⌝ }
 {

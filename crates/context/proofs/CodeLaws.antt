@@ -8,8 +8,8 @@ use borrow.Author.Tests.{eq-eqb, ne-eqb}
 use Rattle.base.proofs.Numbers.{split-eq}
 use Rattle.context.specs.declared.Context.{Context}
 use Rattle.context.specs.declared.Event.{Event}
-use Rattle.context.specs.Ranges.{Coded}
-use Rattle.context.specs.Codes.{contextCode, contextOf, eventCode, eventOf, isTransition}
+use Rattle.context.specs.inner.Coding.{Coded, contextCode, eventCode}
+use Rattle.context.specs.Codes.{contextOf, eventOf, isTransition}
 
 pub context-code-of : (n : ℕ) → contextCode (contextOf n) ≡ n
 context-code-of n = omega arith

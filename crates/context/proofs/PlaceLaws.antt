@@ -7,7 +7,7 @@ use lib.Arith.{digits-div, digits-mod, digits-lt}
 use Rattle.policy_image.specs.declared.counts.Counts.{Counts}
 use Rattle.context.specs.declared.Context.{Context}
 use Rattle.context.specs.Ranges.{ContextInRange}
-use Rattle.context.specs.Places.{Countable, contextCount, contextIndex, contextAtIndex}
+use Rattle.context.specs.inner.Places.{Countable, contextCount, contextIndex, contextAtIndex}
 
 module _ (n : Counts) where
   pub at-index : (x : Context) → ContextInRange n x → contextAtIndex n (contextIndex n x) ≡ x

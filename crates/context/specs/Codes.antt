@@ -1,6 +1,6 @@
 -- The numbers that stand for contexts and events in a path slice (paper 01): "entry 2j is xj as 256t + 16r + u, entry 2j + 1
 -- is ej as 32c + p".
-use Prim.Native.Nat.{ℕ, _+_, _*_, _/_, _%_}
+use Prim.Native.Nat.{ℕ, _/_, _%_}
 use mathlib.Core.Bool.{Bool, _&&_}
 use lib.Dec.{eqb}
 use Rattle.context.specs.declared.Context.{Context}
@@ -14,15 +14,11 @@ contextAt t r u = record { ty = t; role = r; user = u }
 abbrev pub eventAt : ℕ → ℕ → Event
 eventAt c p = record { class = c; perm = p }
 
-abbrev pub contextCode : Context → ℕ
-contextCode x = 256 * x .ty + 16 * x .role + x .user
-
+-- the context with the code 256t + 16r + u; the laws `context-of-code` and `context-code-of` of proofs/CodeLaws.antt
 abbrev pub contextOf : ℕ → Context
 contextOf n = contextAt (n / 256) (n / 16 % 16) (n % 16)
 
-abbrev pub eventCode : Event → ℕ
-eventCode e = 32 * e .class + e .perm
-
+-- the event with the code 32c + p; the laws `event-of-code` and `event-code-of` of proofs/CodeLaws.antt
 abbrev pub eventOf : ℕ → Event
 eventOf n = eventAt (n / 32) (n % 32)
 

@@ -1,5 +1,4 @@
 -- Contexts and events in range, for a policy with the counts n.
-use Prim.Native.Nat.{_<_}
 use Rattle.base.specs.Ranges.{Within}
 use Rattle.policy_image.specs.declared.counts.Counts.{Counts}
 use Rattle.context.specs.declared.Context.{Context}
@@ -15,8 +14,3 @@ pub record ContextInRange (n : Counts) (x : Context) : Type 0 where
 pub record EventInRange (n : Counts) (e : Event) : Type 0 where
   pub class : Within 1 (n .classes) (e .class)
   pub perm : Within 0 31 (e .perm)
-
--- an event that its code stands for; every event in range is one
-pub record Coded (e : Event) : Type 0 where
-  pub class : e .class < 65536
-  pub perm : e .perm < 32

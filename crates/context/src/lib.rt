@@ -3,10 +3,11 @@ use base::ranges::within;
 use policy_image::counts::Counts;
 ghost use mathlib.Core.Path.{_≡_};
 ghost use Prim.Native.Nat.{_<_};
-ghost use Rattle.base.specs.Decides.{Decides};
-ghost use Rattle.context.specs.Codes.{contextAt, eventAt, contextCode, contextOf, eventCode, eventOf, isTransition};
-ghost use Rattle.context.specs.Ranges.{ContextInRange, EventInRange, Coded};
-ghost use Rattle.context.specs.Places.{Countable, contextCount, contextIndex, contextAtIndex};
+ghost use Rattle.base.specs.inner.Decides.{Decides};
+ghost use Rattle.context.specs.Codes.{contextAt, eventAt, contextOf, eventOf, isTransition};
+ghost use Rattle.context.specs.inner.Coding.{contextCode, eventCode, Coded};
+ghost use Rattle.context.specs.Ranges.{ContextInRange, EventInRange};
+ghost use Rattle.context.specs.inner.Places.{Countable, contextCount, contextIndex, contextAtIndex};
 
 // A security context: a type, a role and a user, each from 1.
 pub struct Context {

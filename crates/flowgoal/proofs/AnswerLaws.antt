@@ -11,35 +11,38 @@ use Rattle.base.proofs.QuestionLaws.{passed-first, passed-then}
 use Rattle.policy_image.specs.declared.counts.Counts.{Counts}
 use Rattle.policy_image.specs.Layout.{countsOf}
 use Rattle.policy_image.specs.Counts.{CountsInRange}
-use Rattle.policy_check.specs.Answer.{policyQuestions}
-use Rattle.policy_check.specs.Sound.{Sound}
+use Rattle.policy_check.specs.Questions.{policyQuestions}
+use Rattle.policy_check.specs.inner.Sound.{Sound}
 use Rattle.policy_check.proofs.AnswerLaws.{sound}
-use Rattle.context.specs.Places.{contextCount}
+use Rattle.context.specs.inner.Places.{contextCount}
 use Rattle.goal_image.specs.declared.check.Legs.{Legs}
 use Rattle.goal_image.specs.Layout.{legsOf}
 use Rattle.goal_image.specs.Questions.{goalQuestions}
-use Rattle.goal_image.specs.Sound.{SoundGoal}
+use Rattle.goal_image.specs.inner.Sound.{SoundGoal}
 use Rattle.goal_image.proofs.AnswerLaws.{sound as goal-sound}
 use Rattle.paths.specs.Model.{Model}
 use Rattle.paths.specs.Paths.{OrderAt, EventsAt}
-use Rattle.paths.specs.Answer.{Right}
-use Rattle.paths.proofs.Monitor.{Monitor}
-use Rattle.paths.proofs.Monitors.{trackerN, stagerN, order-iff, events-iff}
-use Rattle.paths.proofs.Verdict.{Least, at, answer, answers}
+use Rattle.paths.specs.inner.Answer.{Right}
+use Rattle.paths.specs.inner.Monitor.{Monitor}
+use Rattle.paths.specs.inner.Monitors.{trackerN, stagerN}
+use Rattle.paths.proofs.Monitors.{order-iff, events-iff}
+use Rattle.paths.specs.inner.Verdict.{Least, at, answer}
+use Rattle.paths.proofs.Verdict.{answers}
 use Rattle.goal_model.specs.Images.{model}
 use Rattle.search.specs.declared.levels.Found.{Found}
 use Rattle.search.specs.declared.levels.Found.the-variants.{Nothing, Start, At}
 use Rattle.nodes.specs.declared.monitor.Mode.{Mode}
 use Rattle.nodes.specs.declared.monitor.Mode.the-variants.{Order, Events}
-use Rattle.search.specs.Found.{FoundLeast}
-use Rattle.nodes.specs.Nodes.{watchOf, monitorOf}
-use Rattle.nodes.specs.Seeds.{Roomy}
-use Rattle.nodes.specs.Tasks.{Task}
+use Rattle.search.specs.inner.Found.{FoundLeast}
+use Rattle.nodes.specs.inner.Nodes.{watchOf, monitorOf}
+use Rattle.nodes.specs.inner.Seeds.{Roomy}
+use Rattle.nodes.specs.inner.Tasks.{Task}
 use Rattle.search.proofs.FoundLaws.{task-of}
 use Rattle.witness.specs.declared.verdict.Verdict.{Verdict}
-use Rattle.witness.specs.Shown.{reachedBy, Something, stepsTo, Short, answerOf, Shown}
+use Rattle.witness.specs.inner.Shown.{reachedBy, Something, stepsTo, Short, answerOf, Shown}
 use Rattle.flowgoal.specs.declared.goal.Outcome.the-variants as outcome
-use Rattle.flowgoal.specs.GoalQuestion.{workLength, WorkFits, GoalPromise, Passed}
+use Rattle.flowgoal.specs.GoalQuestion.{workLength, WorkFits, GoalPromise}
+use Rattle.flowgoal.specs.inner.Parts.{Passed}
 
 -- ---- what a search found
 -- two counts that are least are one

@@ -10,17 +10,20 @@ use Rattle.policy_image.specs.declared.counts.Counts.{Counts}
 use Rattle.policy_image.specs.declared.counts.Checked.{Checked}
 use Rattle.policy_image.specs.declared.counts.Checked.the-variants as policy
 use Rattle.policy_image.specs.Layout.{countsOf}
-use Rattle.policy_check.specs.Answer.{policyQuestions, PolicyAnswer}
+use Rattle.policy_check.specs.Questions.{policyQuestions}
+use Rattle.policy_check.specs.inner.Answer.{PolicyAnswer}
 use Rattle.policy_check.proofs.AnswerLaws.{sound}
-use Rattle.context.specs.Places.{contextCount}
+use Rattle.context.specs.inner.Places.{contextCount}
 use Rattle.goal_image.specs.declared.check.Legs.{Legs}
 use Rattle.goal_image.specs.declared.check.CheckedGoal.{CheckedGoal}
 use Rattle.goal_image.specs.declared.check.CheckedGoal.the-variants as goal
-use Rattle.goal_image.specs.Questions.{goalQuestions, GoalAnswer}
+use Rattle.goal_image.specs.Questions.{goalQuestions}
+use Rattle.goal_image.specs.inner.Answer.{GoalAnswer}
 use Rattle.goal_image.proofs.AnswerLaws.{sound as goal-sound}
-use Rattle.nodes.specs.Tasks.{Task}
+use Rattle.nodes.specs.inner.Tasks.{Task}
 use Rattle.search.proofs.FoundLaws.{task-of}
-use Rattle.flowgoal.specs.GoalQuestion.{workLength, WorkFits, allQuestions, refusalOf, goalRefusalOf, Passed}
+use Rattle.flowgoal.specs.GoalQuestion.{workLength, WorkFits, allQuestions}
+use Rattle.flowgoal.specs.inner.Parts.{refusalOf, goalRefusalOf, Passed}
 
 module _ (s g : List ℕ) (work1 work2 : ℕ) where
   abbrev eleven : List Question

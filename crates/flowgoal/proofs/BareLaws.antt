@@ -7,13 +7,13 @@ use native.Mathlib.Omega.{arith}
 use Rattle.base.specs.Questions.{Question, ask, AllYes}
 use Rattle.base.proofs.QuestionLaws.{passed-first, passed-then, passed-not-refused, one-number}
 use Rattle.policy_image.specs.Layout.{countsOf}
-use Rattle.policy_check.specs.Answer.{policyQuestions}
-use Rattle.policy_check.specs.Sound.{Sound}
+use Rattle.policy_check.specs.Questions.{policyQuestions}
+use Rattle.policy_check.specs.inner.Sound.{Sound}
 use Rattle.policy_check.proofs.AnswerLaws.{sound}
 use Rattle.context.specs.declared.Context.{Context}
 use Rattle.context.specs.declared.Event.{Event}
-use Rattle.context.specs.Codes.{eventCode, eventOf}
-use Rattle.context.specs.Ranges.{Coded}
+use Rattle.context.specs.inner.Coding.{eventCode, Coded}
+use Rattle.context.specs.Codes.{eventOf}
 use Rattle.context.proofs.CodeLaws.{event-of-code, code-below}
 use Rattle.flowgoal.specs.declared.bare.Answer.{Answer}
 use Rattle.flowgoal.specs.declared.bare.Answer.the-variants.{Yes, No, Refused}

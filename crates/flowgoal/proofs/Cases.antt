@@ -11,9 +11,9 @@ use Rattle.base.proofs.Decide.{Says, says-yes, says-no, says-iff, _both_, withi
 use Rattle.base.proofs.QuestionLaws.{refused-first, refused-then, passed-both}
 use Rattle.policy_image.specs.declared.counts.Counts.{Counts}
 use Rattle.policy_image.specs.Layout.{countsOf, recordCount}
-use Rattle.policy_image.specs.Written.{image, chainOf, constraint}
-use Rattle.policy_image.specs.Weir.{weir}
-use Rattle.policy_check.specs.Answer.{policyQuestions}
+use Rattle.policy_image.specs.cases.Written.{image, chainOf, constraint}
+use Rattle.policy_image.specs.cases.Weir.{weir}
+use Rattle.policy_check.specs.Questions.{policyQuestions}
 use Rattle.policy_check.proofs.Cases.{weir-accepted, root-zero}
 use Rattle.context.specs.declared.Context.{Context}
 use Rattle.context.specs.declared.Event.{Event}

@@ -8,7 +8,7 @@ use lib.ListN.{length}
 use Rattle.base.proofs.QuestionLaws.{passed-not-refused, one-number}
 use Rattle.paths.specs.Model.{Model}
 use Rattle.paths.specs.Paths.{Holds, OrderAt, EventsAt}
-use Rattle.paths.specs.Answer.{holds, order, events}
+use Rattle.paths.specs.inner.Answer.{holds, order, events}
 use Rattle.paths.proofs.Verdict.{right-unique}
 use Rattle.goal_model.specs.Images.{model}
 use Rattle.flowgoal.specs.declared.goal.Outcome.{Outcome}

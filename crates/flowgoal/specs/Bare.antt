@@ -7,11 +7,9 @@ use mathlib.Core.List.{List, [], _∷_, _++_}
 use mathlib.Core.Path.{_≡_}
 use Rattle.base.specs.Questions.{Question, ask, AllYes, RefusedWith}
 use Rattle.policy_image.specs.declared.counts.Counts.{Counts}
-use Rattle.policy_image.specs.declared.counts.Checked.{Checked}
-use Rattle.policy_image.specs.declared.counts.Checked.the-variants.{Accepted, Refused}
 use Rattle.policy_image.specs.Layout.{countsOf}
 use Rattle.policy_image.specs.Policy.{policyOf}
-use Rattle.policy_check.specs.Answer.{policyQuestions}
+use Rattle.policy_check.specs.Questions.{policyQuestions}
 use Rattle.context.specs.declared.Context.{Context}
 use Rattle.context.specs.declared.Event.{Event}
 use Rattle.context.specs.Ranges.{ContextInRange, EventInRange}
@@ -29,11 +27,6 @@ pub record AskedInRange (n : Counts) (x y : Context) (e : Event) : Type 0 where
 -- questions 1 to 6, then 13
 abbrev pub bareQuestions : List ℕ → Context → Context → Event → List Question
 bareQuestions s x y e = policyQuestions s ++ (ask 13 (AskedInRange (countsOf s) x y e) ∷ [])
-
--- what a check that asks them all answers
-abbrev pub AskedAnswer : List ℕ → Context → Context → Event → Checked → Type 0
-AskedAnswer s x y e (Accepted c) = AllYes (bareQuestions s x y e)
-AskedAnswer s x y e (Refused n) = RefusedWith (bareQuestions s x y e) n
 
 -- what each case of the answer says, where `holds` is the truth of what was asked: yes or no where every question is
 -- passed, else refused with the number of the first that is not

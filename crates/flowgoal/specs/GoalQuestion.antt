@@ -8,17 +8,12 @@ use mathlib.Core.Logic.{_⊎_}
 use mathlib.Core.Path.{_≡_}
 use lib.ListN.{length}
 use Rattle.base.specs.Questions.{Question, ask, AllYes, RefusedWith}
-use Rattle.policy_image.specs.declared.counts.Counts.{Counts}
-use Rattle.policy_image.specs.declared.counts.Checked.{Checked}
 use Rattle.policy_image.specs.declared.counts.Checked.the-variants as policy
 use Rattle.policy_image.specs.Layout.{countsOf}
-use Rattle.policy_check.specs.Answer.{policyQuestions}
-use Rattle.goal_image.specs.declared.check.Legs.{Legs}
-use Rattle.goal_image.specs.declared.check.CheckedGoal.{CheckedGoal}
+use Rattle.policy_check.specs.Questions.{policyQuestions}
 use Rattle.goal_image.specs.declared.check.CheckedGoal.the-variants as goal
 use Rattle.goal_image.specs.Layout.{legsOf}
-use Rattle.goal_image.specs.Goal.{goalOf}
-use Rattle.goal_image.specs.Questions.{goalQuestions, legsIn}
+use Rattle.goal_image.specs.Questions.{goalQuestions}
 use Rattle.paths.specs.Paths.{BreaksOrder, BreaksEvents, Holds, OrderAt, EventsAt}
 use Rattle.paths.specs.Slice.{contextsIn, eventsIn, Shows}
 use Rattle.goal_model.specs.Images.{model}
@@ -69,19 +64,3 @@ pub record OutcomeNumber (P : Outcome → Type 0) (n : ℕ) : Type 0 where
   pub outcome : Outcome
   pub promised : P outcome
   pub number : n ≡ outcomeNumber outcome
-
--- ---- what the call's parts hand on
--- "A refused image stops the goal question with the image's own number"; 0 where it is accepted
-abbrev pub refusalOf : Checked → ℕ
-refusalOf (policy.Accepted n) = 0
-refusalOf (policy.Refused k) = k
-
-abbrev pub goalRefusalOf : CheckedGoal → ℕ
-goalRefusalOf (goal.Accepted l) = 0
-goalRefusalOf (goal.Refused k) = k
-
--- questions 1 to 11 are passed, and the counts and the legs are the images'
-pub record Passed (s g : List ℕ) (n : Counts) (l : Legs) (work1 work2 : ℕ) : Type 0 where
-  pub questions : AllYes (allQuestions s g work1 work2)
-  pub counts : n ≡ countsOf s
-  pub legs : l ≡ legsIn (goalOf g)

@@ -7,9 +7,10 @@ use policy_check::check;
 use policy_image::counts::Checked;
 use policy_image::counts::Counts;
 ghost use mathlib.Core.Path.{_≡_};
-ghost use Rattle.base.specs.Decides.{Decides};
+ghost use Rattle.base.specs.inner.Decides.{Decides};
 ghost use Rattle.context.specs.Codes.{contextAt, eventAt};
-ghost use Rattle.flowgoal.specs.Bare.{AskedInRange, AskedAnswer, AuthorizationAnswer, FlowAnswer, numberOf, NumberOf};
+ghost use Rattle.flowgoal.specs.Bare.{AskedInRange, AuthorizationAnswer, FlowAnswer, numberOf, NumberOf};
+ghost use Rattle.flowgoal.specs.inner.Parts.{AskedAnswer};
 
 // The answer to a bare question.
 pub enum Answer {

@@ -18,10 +18,11 @@ use witness::verdict::search_order;
 ghost use mathlib.Core.Path.{_≡_};
 ghost use Prim.Native.Nat.{_*_, _^_, _≤_, _<_};
 ghost use lib.ListN.{length};
-ghost use Rattle.base.specs.Decides.{Decides};
-ghost use Rattle.context.specs.Places.{Countable, contextCount};
-ghost use Rattle.plan.specs.Plan.{Planned};
-ghost use Rattle.flowgoal.specs.GoalQuestion.{Passed, refusalOf, goalRefusalOf, GoalPromise, outcomeNumber, OutcomeNumber};
+ghost use Rattle.base.specs.inner.Decides.{Decides};
+ghost use Rattle.context.specs.inner.Places.{Countable, contextCount};
+ghost use Rattle.plan.specs.inner.Plan.{Planned};
+ghost use Rattle.flowgoal.specs.inner.Parts.{Passed, refusalOf, goalRefusalOf};
+ghost use Rattle.flowgoal.specs.GoalQuestion.{GoalPromise, outcomeNumber, OutcomeNumber};
 
 // The answer to the goal question: m is a number of steps.
 pub enum Outcome {

@@ -7,8 +7,9 @@ use Rattle.base.proofs.QuestionLaws.{passed-not-refused, one-number}
 use Rattle.policy_image.specs.declared.counts.Counts.{Counts}
 use Rattle.goal_image.specs.declared.check.CheckedGoal.{CheckedGoal}
 use Rattle.goal_image.specs.declared.check.CheckedGoal.the-variants.{Accepted, Refused}
-use Rattle.goal_image.specs.Questions.{GoalAnswer, goalQuestions}
-use Rattle.goal_image.specs.Sound.{SoundGoal}
+use Rattle.goal_image.specs.inner.Answer.{GoalAnswer}
+use Rattle.goal_image.specs.Questions.{goalQuestions}
+use Rattle.goal_image.specs.inner.Sound.{SoundGoal}
 
 -- two answers that the promise allows for one goal put to one policy are the same answer
 pub one-answer : (n : Counts) (g : List ℕ) (q r : CheckedGoal) → GoalAnswer n g q → GoalAnswer n g r → q ≡ r

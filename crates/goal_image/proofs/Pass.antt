@@ -9,7 +9,7 @@ use Rattle.base.specs.Chain.{Linked, Meets, OnChain}
 use Rattle.base.specs.Chain.Meets.{here}
 use Rattle.base.proofs.Numbers.{split-eq, split-le, upto-none, upto-more}
 use Rattle.base.proofs.ChainLaws.{meets-zero, meets-step, meets-next, meets-low, meets-range}
-use Rattle.goal_image.specs.Reading.{First, LinksRise, EachOnce}
+use Rattle.goal_image.specs.inner.Reading.{First, LinksRise, EachOnce}
 
 -- cur h is where chain h goes on
 pub record Pass (l : Linked) (i : ℕ) (cur : ℕ → ℕ) : Type 0 where
@@ -48,7 +48,7 @@ module _ (l : Linked) (L : LinksRise l) where
 
     -- no cursor stands at i
     pub pass-none : ((h : ℕ) → h < 15 → cur h ≡ i → ⊥) → EachOnce l → ⊥
-    pass-none n O = let h = O .held i low high in n (h .0) (h .1) (stands (h .0) (h .1) (h .2))
+    pass-none n O = let h = O .on i low high in n (h .0) (h .1) (stands (h .0) (h .1) (h .2))
 
     -- two cursors stand at i
     pub pass-two : (h k : ℕ) → h < 15 → k < 15 → (h ≡ k → ⊥) → cur h ≡ i → cur k ≡ i → EachOnce l → ⊥
@@ -98,7 +98,7 @@ module _ (l : Linked) (L : LinksRise l) where
   pub pass-end : (cur : ℕ → ℕ) → Pass l (l .size + 1) cur → EachOnce l
   pass-end cur w =
       record {
-        held = λ i a b. w .held i a (omega arith);
+        on = λ i a b. w .held i a (omega arith);
         once = λ h k i a b r s.
             let m = meets-range l (L .nexts) (L .heads h a) r in
             w .once i (meets-low l r) (omega arith) h k a b r s;

@@ -13,7 +13,7 @@ use Rattle.base.proofs.ChainLaws.{meets-zero, meets-step}
 use Rattle.base.proofs.UptoLaws.{or-true, or-left, or-cases, and-true, true-or-false}
 use Rattle.context.specs.declared.Context.{Context}
 use Rattle.context.specs.declared.Event.{Event}
-use Rattle.goal_image.specs.Goal.{Goal, linksOf}
+use Rattle.goal_image.specs.Goal.{Goal, goalLinks}
 use Rattle.goal_image.specs.Questions.{OneChainEach}
 use Rattle.goal_image.specs.Sets.{fits, matchesContext, matchesEvent, along, contextIn, eventIn}
 
@@ -42,7 +42,7 @@ module _ (l : Linked) (f : ℕ → Bool) where
 
 -- some record of chain h passes the test
 abbrev pub Some : Goal → (ℕ → Bool) → ℕ → Type 0
-Some g f h = (i : ℕ) × OnChain (linksOf g) h i × (f i ≡ true)
+Some g f h = (i : ℕ) × OnChain (goalLinks g) h i × (f i ≡ true)
 
 abbrev pub Iff : Type 0 → Type 0 → Type 0
 Iff P Q = (P → Q) × (Q → P)
@@ -50,13 +50,13 @@ Iff P Q = (P → Q) × (Q → P)
 -- ---- the set of chain h of a goal that passes question 9
 module _ (g : Goal) (O : OneChainEach g) (h : ℕ) (low : h < 15) where
   -- M steps are enough
-  pub chain-iff : (f : ℕ → Bool) → Iff (along (linksOf g) f (g .size) (g .head h) ≡ true) (Some g f h)
-  chain-iff f = (along-found (linksOf g) f (g .size) (g .head h), λ r. back r)
+  pub chain-iff : (f : ℕ → Bool) → Iff (along (goalLinks g) f (g .size) (g .head h) ≡ true) (Some g f h)
+  chain-iff f = (along-found (goalLinks g) f (g .size) (g .head h), λ r. back r)
     where
-      back : Some g f h → along (linksOf g) f (g .size) (g .head h) ≡ true
+      back : Some g f h → along (goalLinks g) f (g .size) (g .head h) ≡ true
       back r =
-          let n : g .head h ≡ 0 → ⊥ = meets-zero (linksOf g) (r .1) in
-          along-meets (linksOf g) f (O .nexts) (g .size) (g .head h) (O .heads h low) (omega arith) (r .0) (r .1) (r .2)
+          let n : g .head h ≡ 0 → ⊥ = meets-zero (goalLinks g) (r .1) in
+          along-meets (goalLinks g) f (O .nexts) (g .size) (g .head h) (O .heads h low) (omega arith) (r .0) (r .1) (r .2)
 
   -- a context, or an event, is in the set exactly when some record of the chain matches it
   pub set-iff : (x : Context) → Iff (contextIn g h x ≡ true) (Some g (λ i. matchesContext (g .context i) x) h)
@@ -68,7 +68,7 @@ module _ (g : Goal) (O : OneChainEach g) (h : ℕ) (low : h < 15) where
   set-iff-event e = chain-iff (λ i. matchesEvent (g .event i) e)
 
   -- and is not, exactly when none does
-  none-of : (b : Bool) (f : ℕ → Bool) → Iff (b ≡ true) (Some g f h) → ((i : ℕ) → OnChain (linksOf g) h i → f i ≡ false) → b ≡ false
+  none-of : (b : Bool) (f : ℕ → Bool) → Iff (b ≡ true) (Some g f h) → ((i : ℕ) → OnChain (goalLinks g) h i → f i ≡ false) → b ≡ false
   none-of b f q n =
       ⊎-elim
       (λ t.
@@ -80,24 +80,24 @@ module _ (g : Goal) (O : OneChainEach g) (h : ℕ) (low : h < 15) where
       (λ t. t)
       (true-or-false b)
 
-  pub set-none : (x : Context) → ((i : ℕ) → OnChain (linksOf g) h i → matchesContext (g .context i) x ≡ false) → contextIn g h x ≡ false
+  pub set-none : (x : Context) → ((i : ℕ) → OnChain (goalLinks g) h i → matchesContext (g .context i) x ≡ false) → contextIn g h x ≡ false
   set-none x n = none-of (contextIn g h x) (λ i. matchesContext (g .context i) x) (set-iff x) n
 
-  pub set-none-event : (e : Event) → ((i : ℕ) → OnChain (linksOf g) h i → matchesEvent (g .event i) e ≡ false) → eventIn g h e ≡ false
+  pub set-none-event : (e : Event) → ((i : ℕ) → OnChain (goalLinks g) h i → matchesEvent (g .event i) e ≡ false) → eventIn g h e ≡ false
   set-none-event e n = none-of (eventIn g h e) (λ i. matchesEvent (g .event i) e) (set-iff-event e) n
 
   -- "an empty chain is the empty set"
   pub empty-chain : g .head h ≡ 0 → (x : Context) → contextIn g h x ≡ false
-  empty-chain z x = set-none x (λ i r. absurd (meets-zero (linksOf g) r z))
+  empty-chain z x = set-none x (λ i r. absurd (meets-zero (goalLinks g) r z))
 
   pub empty-chain-event : g .head h ≡ 0 → (e : Event) → eventIn g h e ≡ false
-  empty-chain-event z e = set-none-event e (λ i r. absurd (meets-zero (linksOf g) r z))
+  empty-chain-event z e = set-none-event e (λ i r. absurd (meets-zero (goalLinks g) r z))
 
   -- "0 in a field means any": a record of zeros makes the set everything
   any-field : (a v : ℕ) → a ≡ 0 → fits a v ≡ true
   any-field a v e = or-left (eqb a 0) (eqb a v) (eq-eqb a 0 e)
 
-  pub any-context : (i : ℕ) → OnChain (linksOf g) h i → g .context i .ty ≡ 0 → g .context i .role ≡ 0 → g .context i .user ≡ 0 → (x : Context)
+  pub any-context : (i : ℕ) → OnChain (goalLinks g) h i → g .context i .ty ≡ 0 → g .context i .role ≡ 0 → g .context i .user ≡ 0 → (x : Context)
       → contextIn g h x ≡ true
   any-context i r a b c x =
       set-iff x .1 (
@@ -108,6 +108,6 @@ module _ (g : Goal) (O : OneChainEach g) (h : ℕ) (low : h < 15) where
       )
 
   -- a record of class 0 holds the permissions of its mask in every class
-  pub any-class : (i : ℕ) → OnChain (linksOf g) h i → g .event i .class ≡ 0 → (e : Event) → bit (g .event i .mask) (e .perm) ≡ true → eventIn g h e ≡ true
+  pub any-class : (i : ℕ) → OnChain (goalLinks g) h i → g .event i .class ≡ 0 → (e : Event) → bit (g .event i .mask) (e .perm) ≡ true → eventIn g h e ≡ true
   any-class i r a e b =
       set-iff-event e .1 (i, r, and-true (fits (g .event i .class) (e .class)) (bit (g .event i .mask) (e .perm)) (any-field _ _ a) b)

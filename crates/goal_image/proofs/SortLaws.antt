@@ -6,14 +6,14 @@ use mathlib.Core.Path.{_≡_}
 use native.Mathlib.Omega.{arith}
 use lib.Dec.{leb, ltb, eqb}
 use borrow.Author.Tests.{le-leb, lt-ltb, eq-eqb, leb-true, ltb-true, eqb-true}
-use Rattle.base.specs.Decides.{Decides}
+use Rattle.base.specs.inner.Decides.{Decides}
 use Rattle.base.proofs.Decide.{decides-iff}
 use Rattle.base.proofs.Numbers.{split-le, split-eq}
 use Rattle.base.proofs.UptoLaws.{or-true, or-left, or-cases, and-true, and-first, and-second}
 use Rattle.policy_image.specs.declared.counts.Counts.{Counts}
 use Rattle.goal_image.specs.Goal.{Goal, isContextChain, isEventChain}
 use Rattle.goal_image.specs.Questions.{ContextFits, EventFits}
-use Rattle.goal_image.specs.Reading.{RecordFits}
+use Rattle.goal_image.specs.inner.Reading.{RecordFits}
 
 pub context-chain : (h : ℕ) → isContextChain h ≡ true → (h < 7) ⊎ (h ≡ 13)
 context-chain h e = ⊎-elim (λ a. inl (ltb-true h 7 a)) (λ a. inr (eqb-true h 13 a)) (or-cases (ltb h 7) (eqb h 13) e)

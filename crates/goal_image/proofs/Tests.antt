@@ -10,7 +10,7 @@ use native.Mathlib.Omega.{arith}
 use borrow.Author.Tests.{eqb-true, eqb-false, not-true}
 use lib.Dec.{leb, eqb}
 use lib.ListN.{length}
-use Rattle.base.specs.Decides.{Decides}
+use Rattle.base.specs.inner.Decides.{Decides}
 use Rattle.base.specs.Chain.{Linked, OnChain}
 use Rattle.base.specs.Upto.{allUpto}
 use Rattle.base.specs.Questions.{AllYes, RefusedWith}
@@ -20,10 +20,10 @@ use Rattle.base.proofs.Decide.{Says, says-yes, says-no, says-iff, dec-le, dec-e
 use Rattle.policy_image.specs.declared.counts.Counts.{Counts}
 use Rattle.goal_image.specs.declared.records.ContextRecord.{ContextRecord}
 use Rattle.goal_image.specs.declared.records.EventRecord.{EventRecord}
-use Rattle.goal_image.specs.Layout.{Exact, goalCount}
-use Rattle.goal_image.specs.Goal.{Goal, goalOf, linksOf, σ, γ, isContextChain}
+use Rattle.goal_image.specs.Layout.{GoalExact, goalCount}
+use Rattle.goal_image.specs.Goal.{Goal, goalOf, goalLinks, σChain, γChain, isContextChain}
 use Rattle.goal_image.specs.Questions.{LegsInRange, OneChainEach, ContextFits, EventFits, FieldsFit, goalQuestions}
-use Rattle.goal_image.specs.Reading.{First, LinksRise, EachOnce, RecordFits}
+use Rattle.goal_image.specs.inner.Reading.{First, LinksRise, EachOnce, RecordFits}
 use Rattle.goal_image.specs.Sets.{along}
 use Rattle.goal_image.proofs.LegLaws.{flags-yes, flags-no}
 use Rattle.goal_image.proofs.Pass.{Pass, pass-start, pass-none, pass-two, pass-step, pass-end, only-one}
@@ -58,7 +58,7 @@ dec-below {P} {f} (suc n) d =
 abbrev pub exactB : List ℕ → Bool
 exactB g = leb 34 (length g) && (leb (goalCount g) 255 && eqb (length g) (34 + 8 * goalCount g))
 
-pub dec-exact : (g : List ℕ) → Says (exactB g) (Exact g)
+pub dec-exact : (g : List ℕ) → Says (exactB g) (GoalExact g)
 dec-exact g =
     says-iff (λ h. record { whole = omega arith; few = omega arith; exact = omega arith }) (λ h. (omega arith, (omega arith, omega arith)))
     (dec-le 34 (length g) both dec-le (goalCount g) 255 both dec-eq (length g) (34 + 8 * goalCount g))
@@ -68,7 +68,7 @@ abbrev pub legsB : Goal → Bool
 legsB g =
     withinB 1 6 (g .legs)
     && (eqb (g .flags / 2 ^ g .legs) 0
-    && (allUpto (λ i. leb i (g .legs) || eqb (g .head (σ i)) 0) 6 && allUpto (λ i. leb (suc i) (g .legs) || eqb (g .head (γ i)) 0) 5))
+    && (allUpto (λ i. leb i (g .legs) || eqb (g .head (σChain i)) 0) 6 && allUpto (λ i. leb (suc i) (g .legs) || eqb (g .head (γChain i)) 0) 5))
 
 pub dec-legs : (g : Goal) → Says (legsB g) (LegsInRange g)
 dec-legs g =
@@ -93,8 +93,8 @@ dec-legs g =
     ))
     (dec-within 1 6 (g .legs)
     both dec-eq (g .flags / 2 ^ g .legs) 0
-    both dec-all (λ i. dec-le i (g .legs) or dec-eq (g .head (σ i)) 0) 6
-    both dec-all (λ i. dec-le (suc i) (g .legs) or dec-eq (g .head (γ i)) 0) 5)
+    both dec-all (λ i. dec-le i (g .legs) or dec-eq (g .head (σChain i)) 0) 6
+    both dec-all (λ i. dec-le (suc i) (g .legs) or dec-eq (g .head (γChain i)) 0) 5)
 
 -- ---- question 9
 abbrev pub risesB : Linked → ℕ → Bool
@@ -189,25 +189,25 @@ dec-pass l L (suc m) i cur low e w =
         (moved-at cur κ (l .next i)) (λ h n. moved-off cur κ (l .next i) h n)
 
 abbrev pub onesB : Goal → Bool
-onesB g = linksB (linksOf g) && passB (linksOf g) (g .size) 1 (g .head)
+onesB g = linksB (goalLinks g) && passB (goalLinks g) (g .size) 1 (g .head)
 
 pub dec-ones : (g : Goal) → Says (onesB g) (OneChainEach g)
 dec-ones g =
     says-iff (λ x. record {
       heads = x .0 .heads;
       nexts = x .0 .nexts;
-      held = λ i a b. x .1 .held i (omega arith) (omega arith);
+      on = λ i a b. x .1 .on i (omega arith) (omega arith);
       once = λ h k i a b. x .1 .once h k i (omega arith) (omega arith);
     })
     (λ o. (
       record { heads = o .heads; nexts = o .nexts },
       record {
-        held = λ i a b. o .held i (omega arith) (omega arith);
+        on = λ i a b. o .on i (omega arith) (omega arith);
         once = λ h k i a b. o .once h k i (omega arith) (omega arith);
       },
     ))
-    (next-says (dec-links (linksOf g))
-    (λ L. dec-pass (linksOf g) L (g .size) 1 (g .head) (omega arith) (omega arith) (pass-start (linksOf g) L (g .head) (λ h b. refl))))
+    (next-says (dec-links (goalLinks g))
+    (λ L. dec-pass (goalLinks g) L (g .size) 1 (g .head) (omega arith) (omega arith) (pass-start (goalLinks g) L (g .head) (λ h b. refl))))
 
 -- ---- question 10
 abbrev pub contextFitsB : Counts → ContextRecord → Bool
@@ -238,15 +238,15 @@ dec-record n g h i b = record { it = go (isContextChain h) refl }
 
 -- no record of chain h is wrong
 abbrev pub chainB : Counts → Goal → ℕ → Bool
-chainB n g h = not (along (linksOf g) (λ i. not (recordB n g h i)) (g .size) (g .head h))
+chainB n g h = not (along (goalLinks g) (λ i. not (recordB n g h i)) (g .size) (g .head h))
 
-dec-chain : (n : Counts) (g : Goal) → OneChainEach g → (h : ℕ) → h < 15 → Says (chainB n g h) ((i : ℕ) → OnChain (linksOf g) h i → RecordFits n g h i)
-dec-chain n g O h b = record { it = go (along (linksOf g) wrong (g .size) (g .head h)) refl }
+dec-chain : (n : Counts) (g : Goal) → OneChainEach g → (h : ℕ) → h < 15 → Says (chainB n g h) ((i : ℕ) → OnChain (goalLinks g) h i → RecordFits n g h i)
+dec-chain n g O h b = record { it = go (along (goalLinks g) wrong (g .size) (g .head h)) refl }
   where
     wrong : ℕ → Bool
     wrong i = not (recordB n g h i)
 
-    go : (t : Bool) → along (linksOf g) wrong (g .size) (g .head h) ≡ t → Decides (not t) ((i : ℕ) → OnChain (linksOf g) h i → RecordFits n g h i)
+    go : (t : Bool) → along (goalLinks g) wrong (g .size) (g .head h) ≡ t → Decides (not t) ((i : ℕ) → OnChain (goalLinks g) h i → RecordFits n g h i)
     go true e = λ f. let r = chain-iff g O h b wrong .0 e in says-no (dec-record n g h (r .0) b) (not-true (recordB n g h (r .0)) (r .2)) (f (r .0) (r .1))
     go false e = λ i r.
         ⊎-elim (λ t. says-yes (dec-record n g h i b) t)

@@ -1,7 +1,6 @@
 -- The sets of a goal: "A set is the union of its chain; an empty chain is the empty set." (paper 01)
 use Prim.Native.Nat.{ℕ, zero, suc}
 use mathlib.Core.Bool.{Bool, false, _&&_, _||_}
-use mathlib.Core.Path.{_≡_}
 use lib.Dec.{eqb}
 use Rattle.base.specs.Bits.{bit}
 use Rattle.base.specs.Chain.{Linked}
@@ -9,7 +8,7 @@ use Rattle.context.specs.declared.Context.{Context}
 use Rattle.context.specs.declared.Event.{Event}
 use Rattle.goal_image.specs.declared.records.ContextRecord.{ContextRecord}
 use Rattle.goal_image.specs.declared.records.EventRecord.{EventRecord}
-use Rattle.goal_image.specs.Goal.{Goal, linksOf, isContextChain, isEventChain}
+use Rattle.goal_image.specs.Goal.{Goal, goalLinks}
 
 -- "0 in a field means any"
 abbrev pub fits : ℕ → ℕ → Bool
@@ -31,15 +30,7 @@ along l f (suc steps) (suc k) = f (suc k) || along l f steps (l .next (suc k))
 
 -- whether a context, or an event, is in the set of chain h
 unfoldable pub contextIn : Goal → ℕ → Context → Bool
-contextIn g h x = along (linksOf g) (λ i. matchesContext (g .context i) x) (g .size) (g .head h)
+contextIn g h x = along (goalLinks g) (λ i. matchesContext (g .context i) x) (g .size) (g .head h)
 
 unfoldable pub eventIn : Goal → ℕ → Event → Bool
-eventIn g h e = along (linksOf g) (λ i. matchesEvent (g .event i) e) (g .size) (g .head h)
-
--- "σ0 to σn", "σe": bit h of m says whether the context is in the set of σ chain h, and no other bit is set
-pub record ContextSets (g : Goal) (x : Context) (m : ℕ) : Type 0 where
-  pub at : (h : ℕ) → bit m h ≡ (isContextChain h && contextIn g h x)
-
--- "γ0 to γ(n−1)", "γe": bit h of m says whether the event is in the set of γ chain h, and no other bit is set
-pub record EventSets (g : Goal) (e : Event) (m : ℕ) : Type 0 where
-  pub at : (h : ℕ) → bit m h ≡ (isEventChain h && eventIn g h e)
+eventIn g h e = along (goalLinks g) (λ i. matchesEvent (g .event i) e) (g .size) (g .head h)

@@ -5,17 +5,17 @@ use crate::records::next_at;
 ghost use mathlib.Core.Path.{_≡_};
 ghost use Prim.Native.Nat.{ℕ, _≤_, _<_};
 ghost use lib.ListN.{getD};
-ghost use Rattle.base.specs.Decides.{Decides};
+ghost use Rattle.base.specs.inner.Decides.{Decides};
 ghost use Rattle.base.specs.Chain.{Rises};
-ghost use Rattle.goal_image.specs.Layout.{Exact, goalCount, headOf};
-ghost use Rattle.goal_image.specs.Goal.{goalOf, linksOf};
+ghost use Rattle.goal_image.specs.Layout.{GoalExact, goalCount, goalHead};
+ghost use Rattle.goal_image.specs.Goal.{goalOf, goalLinks};
 ghost use Rattle.goal_image.specs.Questions.{OneChainEach};
-ghost use Rattle.goal_image.specs.Reading.{Opened, First, LinksRise, EachOnce};
+ghost use Rattle.goal_image.specs.inner.Reading.{Opened, First, LinksRise, EachOnce};
 
 // Whether every head is at most M.
 fn heads_in_range(goal: &[u8], legs: Legs) -> bool
     requires { ⌜ Opened (now goal) legs ⌝ }
-    ensures { λ r. ⌜ Decides r ((h : ℕ) → h < 15 → headOf (now (goal .entry)) h ≤ goalCount (now (goal .entry))) ⌝ }
+    ensures { λ r. ⌜ Decides r ((h : ℕ) → h < 15 → goalHead (now (goal .entry)) h ≤ goalCount (now (goal .entry))) ⌝ }
 {
     let m = legs.records;
     let mut h = 0;
@@ -31,7 +31,7 @@ fn heads_in_range(goal: &[u8], legs: Legs) -> bool
 // Whether every next is 0, or above its record and at most M.
 fn nexts_rise(goal: &[u8], legs: Legs) -> bool
     requires { ⌜ Opened (now goal) legs ⌝ }
-    ensures { λ r. ⌜ Decides r ((i : ℕ) → 1 ≤ i → i ≤ goalCount (now (goal .entry)) → Rises (linksOf (goalOf (now (goal .entry)))) i) ⌝ }
+    ensures { λ r. ⌜ Decides r ((i : ℕ) → 1 ≤ i → i ≤ goalCount (now (goal .entry)) → Rises (goalLinks (goalOf (now (goal .entry)))) i) ⌝ }
 {
     let m = legs.records;
     let mut i = 1;
@@ -52,8 +52,8 @@ fn nexts_rise(goal: &[u8], legs: Legs) -> bool
 
 // The fifteen heads.
 fn heads(goal: &[u8]) -> [usize; 15]
-    requires { ⌜ Exact (now goal) ⌝ }
-    ensures { λ r. ⌜ ((h : ℕ) → h < 15 → getD r h 0 ≡ headOf (now (goal .entry)) h) ⌝ }
+    requires { ⌜ GoalExact (now goal) ⌝ }
+    ensures { λ r. ⌜ ((h : ℕ) → h < 15 → getD r h 0 ≡ goalHead (now (goal .entry)) h) ⌝ }
 {
     let mut c = [0usize; 15];
     let mut h = 0;
@@ -81,8 +81,8 @@ fn first_at(cursor: [usize; 15], h: usize, i: usize) -> usize
 
 // Whether each record lies on exactly one chain: one pass, in which a cursor for each chain stands at the chain's next record.
 fn each_on_one(goal: &[u8], legs: Legs) -> bool
-    requires { ⌜ Opened (now goal) legs × LinksRise (linksOf (goalOf (now goal))) ⌝ }
-    ensures { λ r. ⌜ Decides r (EachOnce (linksOf (goalOf (now (goal .entry))))) ⌝ }
+    requires { ⌜ Opened (now goal) legs × LinksRise (goalLinks (goalOf (now goal))) ⌝ }
+    ensures { λ r. ⌜ Decides r (EachOnce (goalLinks (goalOf (now (goal .entry))))) ⌝ }
 {
     let m = legs.records;
     let mut cursor = heads(goal);

@@ -8,11 +8,12 @@ use base::ranges::within;
 use policy_image::counts::Counts;
 ghost use mathlib.Core.Path.{_≡_};
 ghost use Prim.Native.Nat.{ℕ, _≤_, _<_};
-ghost use Rattle.base.specs.Decides.{Decides};
-ghost use Rattle.goal_image.specs.Layout.{Exact, headOf};
+ghost use Rattle.base.specs.inner.Decides.{Decides};
+ghost use Rattle.goal_image.specs.Layout.{GoalExact, goalHead};
 ghost use Rattle.goal_image.specs.Goal.{goalOf};
-ghost use Rattle.goal_image.specs.Reading.{Opened};
-ghost use Rattle.goal_image.specs.Questions.{LegsInRange, GoalAnswer};
+ghost use Rattle.goal_image.specs.inner.Reading.{Opened};
+ghost use Rattle.goal_image.specs.Questions.{LegsInRange};
+ghost use Rattle.goal_image.specs.inner.Answer.{GoalAnswer};
 
 // The legs of a goal: how many, which of them are repeated (bit i for leg i), and how many records the goal has.
 pub struct Legs {
@@ -29,7 +30,7 @@ pub enum CheckedGoal {
 
 // Question 7.
 fn is_exact(goal: &[u8]) -> bool
-    ensures { λ r. ⌜ Decides r (Exact (now (goal .entry))) ⌝ }
+    ensures { λ r. ⌜ Decides r (GoalExact (now (goal .entry))) ⌝ }
 {
     if goal.len() < 34 {
         return false;
@@ -46,7 +47,7 @@ fn is_exact(goal: &[u8]) -> bool
 
 // The legs, as they stand in the bytes.
 fn legs_at(goal: &[u8]) -> Legs
-    requires { ⌜ Exact (now goal) ⌝ }
+    requires { ⌜ GoalExact (now goal) ⌝ }
     ensures { λ r. ⌜ Opened (now (goal .entry)) r ⌝ }
 {
     Legs {
@@ -58,8 +59,8 @@ fn legs_at(goal: &[u8]) -> Legs
 
 // Whether the heads of the chains from a to below b are 0.
 fn heads_are_zero(goal: &[u8], a: usize, b: usize) -> bool
-    requires { ⌜ Exact (now goal) × (b ≤ 15) ⌝ }
-    ensures { λ r. ⌜ Decides r ((h : ℕ) → a ≤ h → h < b → headOf (now (goal .entry)) h ≡ 0) ⌝ }
+    requires { ⌜ GoalExact (now goal) × (b ≤ 15) ⌝ }
+    ensures { λ r. ⌜ Decides r ((h : ℕ) → a ≤ h → h < b → goalHead (now (goal .entry)) h ≡ 0) ⌝ }
 {
     let mut h = a;
     while h < b {

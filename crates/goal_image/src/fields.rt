@@ -9,11 +9,11 @@ use policy_image::counts::Counts;
 ghost use mathlib.Core.Path.{_≡_};
 ghost use Prim.Native.Nat.{ℕ, _≤_, _<_};
 ghost use Rattle.base.specs.Chain.{OnChain};
-ghost use Rattle.base.specs.Decides.{Decides};
-ghost use Rattle.goal_image.specs.Layout.{Exact, goalCount};
-ghost use Rattle.goal_image.specs.Goal.{goalOf, linksOf, isContextChain, isEventChain};
+ghost use Rattle.base.specs.inner.Decides.{Decides};
+ghost use Rattle.goal_image.specs.Layout.{GoalExact, goalCount};
+ghost use Rattle.goal_image.specs.Goal.{goalOf, goalLinks, isContextChain, isEventChain};
 ghost use Rattle.goal_image.specs.Questions.{OneChainEach, ContextFits, EventFits, FieldsFit};
-ghost use Rattle.goal_image.specs.Reading.{RecordFits};
+ghost use Rattle.goal_image.specs.inner.Reading.{RecordFits};
 
 // Whether h is the number of a σ chain: σ0 to σ6, σe.
 pub fn is_context_chain(h: usize) -> bool
@@ -72,7 +72,7 @@ fn event_fits(r: EventRecord, counts: Counts) -> bool
 
 // Whether record i keeps the rules, as one of chain h.
 fn record_fits(goal: &[u8], counts: Counts, h: usize, i: usize) -> bool
-    requires { ⌜ Exact (now goal) × (1 ≤ i) × (i ≤ goalCount (now goal)) × (h < 15) ⌝ }
+    requires { ⌜ GoalExact (now goal) × (1 ≤ i) × (i ≤ goalCount (now goal)) × (h < 15) ⌝ }
     ensures { λ r. ⌜ Decides r (RecordFits counts (goalOf (now (goal .entry))) h i) ⌝ }
 {
     if is_context_chain(h) {
@@ -83,8 +83,8 @@ fn record_fits(goal: &[u8], counts: Counts, h: usize, i: usize) -> bool
 
 // Whether every record of chain h keeps the rules.
 fn chain_fits(goal: &[u8], counts: Counts, h: usize) -> bool
-    requires { ⌜ Exact (now goal) × OneChainEach (goalOf (now goal)) × (h < 15) ⌝ }
-    ensures { λ r. ⌜ Decides r ((i : ℕ) → OnChain (linksOf (goalOf (now (goal .entry)))) h i → RecordFits counts (goalOf (now (goal .entry))) h i) ⌝ }
+    requires { ⌜ GoalExact (now goal) × OneChainEach (goalOf (now goal)) × (h < 15) ⌝ }
+    ensures { λ r. ⌜ Decides r ((i : ℕ) → OnChain (goalLinks (goalOf (now (goal .entry)))) h i → RecordFits counts (goalOf (now (goal .entry))) h i) ⌝ }
 {
     let mut i = head_at(goal, h);
     while i != 0 {
@@ -98,7 +98,7 @@ fn chain_fits(goal: &[u8], counts: Counts, h: usize) -> bool
 
 // Question 10.
 pub fn fields_fit(goal: &[u8], counts: Counts) -> bool
-    requires { ⌜ Exact (now goal) × OneChainEach (goalOf (now goal)) ⌝ }
+    requires { ⌜ GoalExact (now goal) × OneChainEach (goalOf (now goal)) ⌝ }
     ensures { λ r. ⌜ Decides r (FieldsFit counts (goalOf (now (goal .entry)))) ⌝ }
 {
     let mut h = 0;

@@ -4,7 +4,7 @@ use base::bytes::u32_at;
 use base::bytes::wide;
 ghost use mathlib.Core.Path.{_≡_};
 ghost use Prim.Native.Nat.{_≤_, _<_};
-ghost use Rattle.goal_image.specs.Layout.{Exact, goalCount, headOf, nextOf, contextRecordOf, eventRecordOf};
+ghost use Rattle.goal_image.specs.Layout.{GoalExact, goalCount, goalHead, nextOf, contextRecordOf, eventRecordOf};
 
 // A record of a σ chain, its next aside: 0 in a field means any.
 pub struct ContextRecord {
@@ -23,15 +23,15 @@ pub struct EventRecord {
 
 // The head of chain h.
 pub fn head_at(goal: &[u8], h: usize) -> usize
-    requires { ⌜ Exact (now goal) × (h < 15) ⌝ }
-    ensures { λ r. ⌜ r ≡ headOf (now (goal .entry)) h ⌝ }
+    requires { ⌜ GoalExact (now goal) × (h < 15) ⌝ }
+    ensures { λ r. ⌜ r ≡ goalHead (now (goal .entry)) h ⌝ }
 {
     u16_at(goal, 4 + 2 * h) as usize
 }
 
 // The number of record k's follower on its chain, 0 for none.
 pub fn next_at(goal: &[u8], k: usize) -> usize
-    requires { ⌜ Exact (now goal) × (1 ≤ k) × (k ≤ goalCount (now goal)) ⌝ }
+    requires { ⌜ GoalExact (now goal) × (1 ≤ k) × (k ≤ goalCount (now goal)) ⌝ }
     ensures { λ r. ⌜ r ≡ nextOf (now (goal .entry)) k ⌝ }
 {
     u16_at(goal, 34 + 8 * (k - 1)) as usize
@@ -39,7 +39,7 @@ pub fn next_at(goal: &[u8], k: usize) -> usize
 
 // Record k, as one of a σ chain.
 pub fn context_at(goal: &[u8], k: usize) -> ContextRecord
-    requires { ⌜ Exact (now goal) × (1 ≤ k) × (k ≤ goalCount (now goal)) ⌝ }
+    requires { ⌜ GoalExact (now goal) × (1 ≤ k) × (k ≤ goalCount (now goal)) ⌝ }
     ensures { λ r. ⌜ r ≡ contextRecordOf (now (goal .entry)) k ⌝ }
 {
     let at = 34 + 8 * (k - 1);
@@ -53,7 +53,7 @@ pub fn context_at(goal: &[u8], k: usize) -> ContextRecord
 
 // Record k, as one of a γ chain.
 pub fn event_at(goal: &[u8], k: usize) -> EventRecord
-    requires { ⌜ Exact (now goal) × (1 ≤ k) × (k ≤ goalCount (now goal)) ⌝ }
+    requires { ⌜ GoalExact (now goal) × (1 ≤ k) × (k ≤ goalCount (now goal)) ⌝ }
     ensures { λ r. ⌜ r ≡ eventRecordOf (now (goal .entry)) k ⌝ }
 {
     let at = 34 + 8 * (k - 1);

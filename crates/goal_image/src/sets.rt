@@ -15,8 +15,9 @@ ghost use mathlib.Core.Path.{_≡_};
 ghost use Prim.Native.Nat.{_<_};
 ghost use mathlib.Core.Bool.{_&&_};
 ghost use Rattle.goal_image.specs.Goal.{goalOf, isContextChain, isEventChain};
-ghost use Rattle.goal_image.specs.Sets.{fits, matchesContext, matchesEvent, contextIn, eventIn, ContextSets, EventSets};
-ghost use Rattle.goal_image.specs.Sound.{SoundGoal};
+ghost use Rattle.goal_image.specs.Sets.{fits, matchesContext, matchesEvent, contextIn, eventIn};
+ghost use Rattle.goal_image.specs.inner.Memberships.{ContextSets, EventSets};
+ghost use Rattle.goal_image.specs.inner.Sound.{SoundGoal};
 
 // Whether the field of a record is any, or the value.
 fn fits_field(field: u32, value: u32) -> bool

@@ -2,25 +2,27 @@
 -- stand for. What the path definitions say of a model is shown case by case in crate paths.
 use mathlib.Core.Bool.{not}
 use mathlib.Core.List.{List, [], _∷_}
+use mathlib.Core.Path.{refl}
 use Prim.Native.Nat.{ℕ}
 use lib.Dec.{T}
 use Rattle.base.specs.Bits.{bit}
-use Rattle.policy_image.specs.Layout.{countsOf, recordCount, recordOf, payloadOf, decoded}
+use Rattle.policy_image.specs.Layout.{countsOf, recordCount, recordOf, policyHead, payloadOf, decoded}
 use Rattle.policy_image.specs.Policy.{policyOf}
 use Rattle.policy_image.specs.OfKind.{some, every}
-use Rattle.policy_image.specs.Written.{image, roleType, userRole}
-use Rattle.policy_image.specs.Weir.{weir}
+use Rattle.policy_image.specs.cases.Weir.{weir}
+use Rattle.policy_nodes.specs.Nodes.{useOf}
+use Rattle.policy_check.proofs.Tests.{Accepted, accepted}
 use Rattle.relations.specs.Relations.{domain, Γ, writeLike, readLike, allowed, α, ρ, μ, roleChange}
 use Rattle.constraints.specs.Constraints.{constraintsHold}
 use Rattle.access.specs.Authorization.{χ, roleRule, authorized, flow}
-use Rattle.goal_image.specs.Layout.{legsOf, flagsOf, goalCount, headOf, nextOf, contextRecordOf, eventRecordOf}
+use Rattle.goal_image.specs.Layout.{legsOf, flagsOf, goalCount, goalHead, nextOf, contextRecordOf, eventRecordOf}
 use Rattle.goal_image.specs.Goal.{goalOf}
 use Rattle.goal_image.specs.Sets.{contextIn, eventIn}
-use Rattle.goal_image.specs.Written.{context, event, chains, goal}
-use Rattle.goal_image.specs.WeirGoal.{goalG}
+use Rattle.goal_image.specs.cases.WeirGoal.{goalG}
 use Rattle.paths.specs.Paths.{Holds, EventsAt}
 use Rattle.paths.proofs.Decide.{holds-by, events-by}
-use Rattle.goal_model.specs.Images.{inRange, held, model}
+use Rattle.goal_model.specs.Images.{inRange, meetsρμ, model}
+use Rattle.goal_model.specs.cases.OwnGoals.{writeOnly, anyClass, roleTwo, roleOne, users, userTwo, userOne}
 use Rattle.goal_model.proofs.Cover.{Step, uncovered, finite}
 
 abbrev pub step : ℕ → ℕ → ℕ → Step
@@ -36,68 +38,43 @@ covers = tt
 
 -- G holds
 pub goal-g : Holds (model weir goalG)
-unfolding inRange held flow authorized χ roleRule constraintsHold domain Γ writeLike readLike allowed α ρ μ roleChange some every bit countsOf recordCount recordOf payloadOf decoded legsOf flagsOf goalCount headOf nextOf contextRecordOf eventRecordOf contextIn eventIn
+unfolding inRange meetsρμ flow authorized χ roleRule constraintsHold domain Γ writeLike readLike allowed α ρ μ roleChange some every bit countsOf recordCount recordOf payloadOf decoded legsOf flagsOf goalCount goalHead nextOf contextRecordOf eventRecordOf contextIn eventIn
 goal-g = holds-by (model weir goalG) (finite (policyOf weir) steps covers (goalOf goalG)) 4 tt
-
--- G with leg 1 by write alone
-abbrev pub writeOnly : List ℕ
-writeOnly =
-    goal 2 2 (chains (1 ∷ 2 ∷ 3 ∷ []) (4 ∷ 5 ∷ []) 0 0)
-    (context 0 1 0 0 ∷ context 0 2 0 0 ∷ context 0 4 0 0 ∷ event 0 2 1 ∷ event 0 2 2 ∷ [])
 
 -- "0 in a field means any": with 0 read as no number, σ0 to σ2 would be empty, and the goal would hold
 pub zero-is-any : EventsAt (model weir writeOnly) 3
-unfolding inRange held flow authorized χ roleRule constraintsHold domain Γ writeLike readLike allowed α ρ μ roleChange some every bit countsOf recordCount recordOf payloadOf decoded legsOf flagsOf goalCount headOf nextOf contextRecordOf eventRecordOf contextIn eventIn
+unfolding inRange meetsρμ flow authorized χ roleRule constraintsHold domain Γ writeLike readLike allowed α ρ μ roleChange some every bit countsOf recordCount recordOf payloadOf decoded legsOf flagsOf goalCount goalHead nextOf contextRecordOf eventRecordOf contextIn eventIn
 zero-is-any = events-by (model weir writeOnly) (finite (policyOf weir) steps covers (goalOf writeOnly)) 3 tt
-
--- γ0 by class 0, any class; σ0 by role 1 alone; σ1 by role 2 and user 1
-abbrev pub anyClass : List ℕ
-anyClass =
-    goal 2 2 (chains (1 ∷ 2 ∷ 3 ∷ []) (4 ∷ 5 ∷ []) 0 0)
-    (context 0 1 1 0 ∷ context 0 2 2 1 ∷ context 0 4 0 0 ∷ event 0 0 1 ∷ event 0 0 3 ∷ [])
 
 -- a class of 0 is any class, and fields that are not 0 are held to the number
 pub any-class : Holds (model weir anyClass)
-unfolding inRange held flow authorized χ roleRule constraintsHold domain Γ writeLike readLike allowed α ρ μ roleChange some every bit countsOf recordCount recordOf payloadOf decoded legsOf flagsOf goalCount headOf nextOf contextRecordOf eventRecordOf contextIn eventIn
+unfolding inRange meetsρμ flow authorized χ roleRule constraintsHold domain Γ writeLike readLike allowed α ρ μ roleChange some every bit countsOf recordCount recordOf payloadOf decoded legsOf flagsOf goalCount goalHead nextOf contextRecordOf eventRecordOf contextIn eventIn
 any-class = holds-by (model weir anyClass) (finite (policyOf weir) steps covers (goalOf anyClass)) 4 tt
-
--- one leg from the contexts of type 1 and role 2 to themselves
-abbrev pub roleTwo : List ℕ
-roleTwo = goal 1 0 (chains (1 ∷ 2 ∷ []) [] 0 0) (context 0 1 2 0 ∷ context 0 1 2 0 ∷ [])
 
 -- "x0 .. meets ρ": role 2 does not hold type 1, so no path starts there. With ρ not asked: events 0
 pub start-fails-rho : Holds (model weir roleTwo)
-unfolding inRange held flow authorized χ roleRule constraintsHold domain Γ writeLike readLike allowed α ρ μ roleChange some every bit countsOf recordCount recordOf payloadOf decoded legsOf flagsOf goalCount headOf nextOf contextRecordOf eventRecordOf contextIn eventIn
+unfolding inRange meetsρμ flow authorized χ roleRule constraintsHold domain Γ writeLike readLike allowed α ρ μ roleChange some every bit countsOf recordCount recordOf payloadOf decoded legsOf flagsOf goalCount goalHead nextOf contextRecordOf eventRecordOf contextIn eventIn
 start-fails-rho = holds-by (model weir roleTwo) (finite (policyOf weir) steps covers (goalOf roleTwo)) 0 tt
-
-abbrev pub roleOne : List ℕ
-roleOne = goal 1 0 (chains (1 ∷ 2 ∷ []) [] 0 0) (context 0 1 1 0 ∷ context 0 1 1 0 ∷ [])
 
 -- .. and role 1 does
 pub start-meets-rho : EventsAt (model weir roleOne) 0
-unfolding inRange held flow authorized χ roleRule constraintsHold domain Γ writeLike readLike allowed α ρ μ roleChange some every bit countsOf recordCount recordOf payloadOf decoded legsOf flagsOf goalCount headOf nextOf contextRecordOf eventRecordOf contextIn eventIn
+unfolding inRange meetsρμ flow authorized χ roleRule constraintsHold domain Γ writeLike readLike allowed α ρ μ roleChange some every bit countsOf recordCount recordOf payloadOf decoded legsOf flagsOf goalCount goalHead nextOf contextRecordOf eventRecordOf contextIn eventIn
 start-meets-rho = events-by (model weir roleOne) (finite (policyOf weir) steps covers (goalOf roleOne)) 0 tt
 
--- a policy of two users, of whom user 1 holds role 2, which holds type 1; nothing flows
-abbrev pub users : List ℕ
-users = image 1 2 2 1 (0 ∷ 0 ∷ 0 ∷ 0 ∷ 1 ∷ 2 ∷ 0 ∷ 0 ∷ 0 ∷ []) (roleType 0 2 1 ∷ userRole 0 1 2 ∷ [])
+pub users-accepted : Accepted users
+unfolding countsOf recordCount recordOf policyHead payloadOf decoded useOf
+users-accepted = accepted refl refl refl refl refl refl
 
 covers-users : T (not (uncovered (policyOf users) []))
 unfolding uncovered inRange flow authorized χ roleRule constraintsHold domain Γ writeLike readLike allowed α ρ μ roleChange some every bit countsOf recordCount recordOf payloadOf decoded
 covers-users = tt
 
-abbrev pub userTwo : List ℕ
-userTwo = goal 1 0 (chains (1 ∷ 2 ∷ []) [] 0 0) (context 0 1 2 2 ∷ context 0 1 2 2 ∷ [])
-
 -- "x0 .. meets .. μ": user 2 does not hold role 2. With μ not asked: events 0
 pub start-fails-mu : Holds (model users userTwo)
-unfolding inRange held flow authorized χ roleRule constraintsHold domain Γ writeLike readLike allowed α ρ μ roleChange some every bit countsOf recordCount recordOf payloadOf decoded legsOf flagsOf goalCount headOf nextOf contextRecordOf eventRecordOf contextIn eventIn
+unfolding inRange meetsρμ flow authorized χ roleRule constraintsHold domain Γ writeLike readLike allowed α ρ μ roleChange some every bit countsOf recordCount recordOf payloadOf decoded legsOf flagsOf goalCount goalHead nextOf contextRecordOf eventRecordOf contextIn eventIn
 start-fails-mu = holds-by (model users userTwo) (finite (policyOf users) [] covers-users (goalOf userTwo)) 0 tt
-
-abbrev pub userOne : List ℕ
-userOne = goal 1 0 (chains (1 ∷ 2 ∷ []) [] 0 0) (context 0 1 2 1 ∷ context 0 1 2 1 ∷ [])
 
 -- .. and user 1 does
 pub start-meets-mu : EventsAt (model users userOne) 0
-unfolding inRange held flow authorized χ roleRule constraintsHold domain Γ writeLike readLike allowed α ρ μ roleChange some every bit countsOf recordCount recordOf payloadOf decoded legsOf flagsOf goalCount headOf nextOf contextRecordOf eventRecordOf contextIn eventIn
+unfolding inRange meetsρμ flow authorized χ roleRule constraintsHold domain Γ writeLike readLike allowed α ρ μ roleChange some every bit countsOf recordCount recordOf payloadOf decoded legsOf flagsOf goalCount goalHead nextOf contextRecordOf eventRecordOf contextIn eventIn
 start-meets-mu = events-by (model users userOne) (finite (policyOf users) [] covers-users (goalOf userOne)) 0 tt

@@ -18,7 +18,7 @@ use Rattle.context.specs.Codes.{contextOf, eventOf}
 use Rattle.relations.specs.Relations.{Γ, α, writeLike, readLike}
 use Rattle.access.specs.Authorization.{authorized, flow}
 use Rattle.goal_image.specs.Goal.{Goal}
-use Rattle.paths.specs.Below.{anyBelow}
+use Rattle.paths.specs.inner.Below.{anyBelow}
 use Rattle.paths.proofs.Any.{any-witness, any-of, and-T, or-cases, or-left, or-right, T-dec}
 use Rattle.paths.proofs.Finite.{Finite}
 use Rattle.goal_model.specs.Images.{inRange, modelOf}

@@ -11,7 +11,7 @@ use Rattle.context.specs.declared.Context.{Context}
 use Rattle.context.specs.Codes.{contextOf, eventOf}
 use Rattle.relations.specs.Relations.{ρ, μ}
 use Rattle.access.specs.Authorization.{flow}
-use Rattle.goal_image.specs.Goal.{Goal, goalOf, σ, γ, σe, γe}
+use Rattle.goal_image.specs.Goal.{Goal, goalOf, σChain, γChain, σeChain, γeChain}
 use Rattle.goal_image.specs.Sets.{contextIn, eventIn}
 use Rattle.paths.specs.Model.{Model}
 
@@ -22,22 +22,22 @@ inRange n x =
     && ((leb 1 (x .role) && leb (x .role) (n .roles)) && (leb 1 (x .user) && leb (x .user) (n .users)))
 
 -- "meets ρ and μ"
-unfoldable pub held : Policy → Context → Bool
-held p x = ρ p (x .role) (x .ty) && μ p (x .user) (x .role)
+unfoldable pub meetsρμ : Policy → Context → Bool
+meetsρμ p x = ρ p (x .role) (x .ty) && μ p (x .user) (x .role)
 
 -- contexts and events are their codes
 abbrev pub modelOf : Policy → Goal → Model
 modelOf p g =
     record {
-      flow = λ x e y. flow p (eventOf e) (contextOf x) (contextOf y);
+      flowBy = λ x e y. flow p (eventOf e) (contextOf x) (contextOf y);
       context = λ x. inRange (p .counts) (contextOf x);
-      held = λ x. held p (contextOf x);
+      held = λ x. meetsρμ p (contextOf x);
       legs = g .legs;
-      σ = λ i x. contextIn g (σ i) (contextOf x);
-      γ = λ i e. eventIn g (γ i) (eventOf e);
+      σ = λ i x. contextIn g (σChain i) (contextOf x);
+      γ = λ i e. eventIn g (γChain i) (eventOf e);
       repeated = λ i. bit (g .flags) i;
-      σe = λ x. contextIn g σe (contextOf x);
-      γe = λ e. eventIn g γe (eventOf e);
+      σe = λ x. contextIn g σeChain (contextOf x);
+      γe = λ e. eventIn g γeChain (eventOf e);
     }
 
 -- from the bytes of the two images

@@ -11,11 +11,11 @@ use lib.Bits.{bitAnd}
 use lib.ListN.{getD}
 use Rattle.base.specs.Bits.{bit}
 use Rattle.base.specs.Ranges.{Within}
-use Rattle.index.specs.Rules.{Rules, Acts, swap}
-use Rattle.index.specs.Chained.{Chained, used}
-use Rattle.index.specs.Index.{Bears, Shows, Block}
-use Rattle.index.specs.Insert.{Merged, Below, Inserted}
-use Rattle.index.specs.Build.{Added}
+use Rattle.index.specs.inner.Rules.{Rules, Acts, swap}
+use Rattle.index.specs.inner.Chained.{Chained, used}
+use Rattle.index.specs.inner.Index.{Bears, Shows, Block}
+use Rattle.index.specs.inner.Insert.{Merged, Below, Inserted}
+use Rattle.index.specs.inner.Build.{Added}
 use Rattle.index.proofs.MaskLaws.{below-or, no-bit, bit-and-first, bit-and-second, bit-and-join}
 use Rattle.index.proofs.ChainedLaws.{used-le, used-mono, used-more}
 

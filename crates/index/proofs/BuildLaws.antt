@@ -7,11 +7,11 @@ use native.Mathlib.Nat.{le-refl}
 use native.Mathlib.Omega.{arith}
 use lib.ListN.{length, getD, set, replicate, length-set}
 use lib.Seq.{getD-set-same, getD-set-other}
-use Rattle.index.specs.Rules.{Rules, swap, RulesInRange}
-use Rattle.index.specs.Chained.{used}
-use Rattle.index.specs.Index.{Block, Blocks}
-use Rattle.index.specs.Insert.{Below}
-use Rattle.index.specs.Build.{Added, Space}
+use Rattle.index.specs.inner.Rules.{Rules, swap, RulesInRange}
+use Rattle.index.specs.inner.Chained.{used}
+use Rattle.index.specs.inner.Index.{Block, Blocks}
+use Rattle.index.specs.inner.Insert.{Below}
+use Rattle.index.specs.inner.Build.{Added, Space}
 use Rattle.index.proofs.ChainedLaws.{used-le}
 use Rattle.index.proofs.BlockLaws.{block-below, block-swap, below-trans, below-swap}
 use Rattle.index.proofs.MaskLaws.{below-or}

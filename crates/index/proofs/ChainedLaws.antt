@@ -11,7 +11,7 @@ use lib.Dec.{ltb}
 use lib.ListN.{length, getD, set}
 use lib.Seq.{getD-set-same, getD-set-other}
 use borrow.Author.Tests.{lt-ltb, le-ltb}
-use Rattle.index.specs.Chained.{Chained, one, used}
+use Rattle.index.specs.inner.Chained.{Chained, one, used}
 
 -- ---- how many
 

@@ -15,16 +15,16 @@ use Rattle.base.proofs.Numbers.{split-eq}
 use Rattle.base.proofs.ChainLaws.{Visit, visit-map}
 use Rattle.base.proofs.UptoLaws.{and-true, and-first, and-second}
 use Rattle.policy_image.specs.declared.records.Record.{Record}
-use Rattle.policy_image.specs.Layout.{headOf}
-use Rattle.policy_image.specs.Policy.{Policy, policyOf, linksOf}
-use Rattle.policy_fields.specs.Fields.{Meets, limitsOf}
+use Rattle.policy_image.specs.Layout.{policyHead}
+use Rattle.policy_image.specs.Policy.{Policy, policyOf, policyLinks}
+use Rattle.policy_fields.specs.Fields.{WithinLimits, limitsOf}
 use Rattle.policy_chains.proofs.KindLaws.{OfKind, some-yes, some-record}
-use Rattle.policy_check.specs.Sound.{Sound}
+use Rattle.policy_check.specs.inner.Sound.{Sound}
 use Rattle.policy_check.proofs.Along.{along-start, along-step, along-kind, along-end}
 use Rattle.context.specs.Codes.{eventAt}
 use Rattle.relations.specs.Relations.{domain, allowed, targetOf}
-use Rattle.index.specs.Rules.{Gives}
-use Rattle.index.specs.Extract.{Extracted}
+use Rattle.index.specs.inner.Rules.{Gives}
+use Rattle.index.specs.inner.Extract.{Extracted}
 use Rattle.index.proofs.MaskLaws.{clash, below-or}
 
 -- rule `at` is the record's
@@ -51,7 +51,7 @@ abbrev Left : Policy → (src dst class mask : List ℕ) → ℕ → ℕ → Typ
 Left p src dst class mask n j = domain p (p .rec j .a) ≡ true → Written src dst class mask n (p .rec j)
 
 pub record Extracting (p : Policy) (src dst class mask : List ℕ) (n i : ℕ) : Type 0 where
-  pub visit : Visit (linksOf p) 4 (Left p src dst class mask n) i
+  pub visit : Visit (policyLinks p) 4 (Left p src dst class mask n) i
   pub taken : (at : ℕ) → at < n → Taken p src dst class mask at
   pub few : n ≤ p .size
   -- links rise, so fewer rules are written than the number of the record at hand
@@ -74,8 +74,8 @@ module _ (s : List ℕ) (S : Sound s) where
 
   pub allowing : (j : ℕ) → OfKind p 4 j → Allowing p (p .rec j)
   allowing j o =
-      let m : Meets (limitsOf (p .counts) 4 (p .rec j .a)) (p .rec j) =
-      subst (λ (k : ℕ). Meets (limitsOf (p .counts) k (p .rec j .a)) (p .rec j)) (o .kind) (S .fields .each j (o .low) (o .high)) in
+      let m : WithinLimits (limitsOf (p .counts) 4 (p .rec j .a)) (p .rec j) =
+      subst (λ (k : ℕ). WithinLimits (limitsOf (p .counts) k (p .rec j .a)) (p .rec j)) (o .kind) (S .fields .each j (o .low) (o .high)) in
       let a = m .a in
       let b = m .b in
       record {
@@ -84,7 +84,7 @@ module _ (s : List ℕ) (S : Sound s) where
         class = m .c;
       }
 
-  pub extract-start : (src dst class mask : List ℕ) (i : ℕ) → i ≡ headOf s 4 → Extracting p src dst class mask 0 i
+  pub extract-start : (src dst class mask : List ℕ) (i : ℕ) → i ≡ policyHead s 4 → Extracting p src dst class mask 0 i
   extract-start src dst class mask i e =
       record {
         visit = along-start s S 4 (omega arith) (omega arith) (Left p src dst class mask 0) i e;
@@ -154,7 +154,7 @@ module _ (s : List ℕ) (S : Sound s) where
       extract-write =
           record {
             visit = along-step s S 4 (omega arith) (omega arith) (Left p src′ dst′ class′ mask′ (n + 1)) i nz
-                (visit-map (linksOf p) 4 i (Left p src dst class mask n) (Left p src′ dst′ class′ mask′ (n + 1)) kept (x .visit)) i′ next
+                (visit-map (policyLinks p) 4 i (Left p src dst class mask n) (Left p src′ dst′ class′ mask′ (n + 1)) kept (x .visit)) i′ next
                 (λ e. record { at = n; below = omega arith; line = fresh });
             taken = λ at l. ⊎-elim
                 (λ (q : at ≡ n). subst (λ (y : ℕ). Taken p src′ dst′ class′ mask′ y) (sym q) (record { number = i; kind = extract-kind; source = d; line = fresh }))

@@ -11,14 +11,14 @@ use Rattle.base.proofs.UptoLaws.{and-true, and-first, and-second, same-truth}
 use Rattle.base.proofs.Numbers.{split-eq, split-le}
 use Rattle.policy_image.specs.Layout.{recordCount}
 use Rattle.policy_image.specs.Policy.{Policy, policyOf}
-use Rattle.policy_check.specs.Sound.{Sound}
+use Rattle.policy_check.specs.inner.Sound.{Sound}
 use Rattle.context.specs.Codes.{eventAt}
 use Rattle.relations.specs.Relations.{domain, Γ, allowed, α}
-use Rattle.tables.specs.Tables.{GammaMasks}
-use Rattle.index.specs.Rules.{Rules, rulesOf, Gives, Acts, swap, RulesInRange}
-use Rattle.index.specs.Index.{Has, Ranged, Sorted, Shows, Block, Blocks}
-use Rattle.index.specs.Extract.{Room, Extracted}
-use Rattle.index.specs.Meaning.{AllowBlock, AllowIndex}
+use Rattle.tables.specs.inner.Tables.{GammaMasks}
+use Rattle.index.specs.inner.Rules.{Rules, rulesOf, Gives, Acts, swap, RulesInRange}
+use Rattle.index.specs.inner.Index.{Has, Ranged, Sorted, Shows, Block, Blocks}
+use Rattle.index.specs.inner.Extract.{Room, Extracted}
+use Rattle.index.specs.inner.Meaning.{AllowBlock, AllowIndex}
 use Rattle.index.proofs.BlockLaws.{shows-map}
 
 -- a rule seen from the other side

@@ -1,9 +1,9 @@
 // The builder: the block of each type, from rules in four lists.
 use crate::chain::chain;
 use crate::insert::insert;
-ghost use Rattle.index.specs.Rules.{rulesOf, RulesInRange};
-ghost use Rattle.index.specs.Index.{Block, Blocks};
-ghost use Rattle.index.specs.Build.{Space, Adds, Added};
+ghost use Rattle.index.specs.inner.Rules.{rulesOf, RulesInRange};
+ghost use Rattle.index.specs.inner.Index.{Block, Blocks};
+ghost use Rattle.index.specs.inner.Build.{Space, Adds, Added};
 
 // Puts the rules whose `own` is t into t's block from lo to m, their permissions that the class has into `mine`. `rest` has
 // what the other direction gave: the same function goes over the sources and then, with the lists swapped, over the targets.

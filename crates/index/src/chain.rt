@@ -2,7 +2,7 @@
 ghost use mathlib.Core.Path.{_≡_};
 ghost use Prim.Native.Nat.{ℕ, _<_, _≤_};
 ghost use lib.ListN.{length, getD};
-ghost use Rattle.index.specs.Chained.{Chained};
+ghost use Rattle.index.specs.inner.Chained.{Chained};
 
 // For each number the first rule with it, and for each rule the next one with the same number; n where there is none.
 // From the last rule down, so that a walk meets the rules in their order.

@@ -7,11 +7,11 @@ use tables::tables::TYPES;
 ghost use mathlib.Core.Path.{_≡_};
 ghost use Rattle.policy_image.specs.Layout.{recordCount};
 ghost use Rattle.policy_image.specs.Policy.{policyOf};
-ghost use Rattle.policy_image.specs.Reading.{Bytes};
-ghost use Rattle.policy_check.specs.Sound.{Sound};
+ghost use Rattle.policy_image.specs.inner.Reading.{Bytes};
+ghost use Rattle.policy_check.specs.inner.Sound.{Sound};
 ghost use Rattle.relations.specs.Relations.{targetOf};
-ghost use Rattle.tables.specs.Tables.{DomainTable};
-ghost use Rattle.index.specs.Extract.{Room, Extracted};
+ghost use Rattle.tables.specs.inner.Tables.{DomainTable};
+ghost use Rattle.index.specs.inner.Extract.{Room, Extracted};
 
 // The target type of an allow record, which is its source type where b is 0.
 fn target(r: Record) -> u16

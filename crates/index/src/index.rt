@@ -6,12 +6,12 @@ use tables::tables::CLASSES;
 use tables::tables::TYPES;
 ghost use Rattle.policy_image.specs.Layout.{recordCount};
 ghost use Rattle.policy_image.specs.Policy.{policyOf};
-ghost use Rattle.policy_image.specs.Reading.{Counted};
-ghost use Rattle.policy_check.specs.Sound.{Sound};
-ghost use Rattle.tables.specs.Tables.{GammaMasks, DomainTable};
-ghost use Rattle.index.specs.Extract.{Room};
-ghost use Rattle.index.specs.Build.{Space};
-ghost use Rattle.index.specs.Meaning.{AllowIndex};
+ghost use Rattle.policy_image.specs.inner.Reading.{Counted};
+ghost use Rattle.policy_check.specs.inner.Sound.{Sound};
+ghost use Rattle.tables.specs.inner.Tables.{GammaMasks, DomainTable};
+ghost use Rattle.index.specs.inner.Extract.{Room};
+ghost use Rattle.index.specs.inner.Build.{Space};
+ghost use Rattle.index.specs.inner.Meaning.{AllowIndex};
 
 // Makes the index of the image's allow records in `first`, `keys`, `towards` and `from`; the other lent slices are for the
 // rules on the way there.

@@ -13,13 +13,13 @@ use Rattle.base.specs.Bits.{bit}
 use Rattle.base.proofs.BitLaws.{bit-and, bit-or, bit-shr, bit-zero, bit-pow}
 use Rattle.steps.proofs.NearestLaws.{keeps-all}
 use Rattle.paths.specs.Model.{Model}
-use Rattle.paths.proofs.Numbers.{pack, digit}
-use Rattle.paths.proofs.Events.{goes, enters, opens}
+use Rattle.paths.specs.inner.Pack.{pack, digit}
+use Rattle.paths.specs.inner.Monitors.{goes, enters, opens}
 use Rattle.nodes.specs.declared.monitor.Mode.{Mode}
 use Rattle.nodes.specs.declared.monitor.Mode.the-variants.{Order, Events}
-use Rattle.nodes.specs.Nodes.{watchOf}
-use Rattle.nodes.specs.Watching.{By}
-use Rattle.memory.specs.Memory.{keepsOf, Marks}
+use Rattle.nodes.specs.inner.Nodes.{watchOf}
+use Rattle.nodes.specs.inner.Watching.{By}
+use Rattle.memory.specs.inner.Memory.{keepsOf, Marks}
 
 -- what an event in the sets by keeps of a state
 abbrev pub kept : Mode → ℕ → ℕ → ℕ

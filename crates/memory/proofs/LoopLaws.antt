@@ -14,31 +14,32 @@ use Rattle.policy_image.specs.declared.counts.Counts.{Counts}
 use Rattle.policy_image.specs.Policy.{Policy, policyOf}
 use Rattle.context.specs.declared.Context.{Context}
 use Rattle.context.specs.Codes.{eventOf}
-use Rattle.context.specs.Places.{contextCount, contextAtIndex}
+use Rattle.context.specs.inner.Places.{contextCount, contextAtIndex}
 use Rattle.access.specs.Authorization.{flow}
 use Rattle.goal_image.specs.declared.check.Legs.{Legs}
 use Rattle.goal_image.specs.Layout.{legsOf}
-use Rattle.goal_image.specs.Goal.{Goal, goalOf, γe}
-use Rattle.goal_image.specs.Sets.{eventIn, EventSets}
-use Rattle.goal_model.specs.Images.{held, model}
-use Rattle.plan.specs.Plan.{eventsAt, special, Planned}
+use Rattle.goal_image.specs.Goal.{Goal, goalOf, γeChain}
+use Rattle.goal_image.specs.Sets.{eventIn}
+use Rattle.goal_image.specs.inner.Memberships.{EventSets}
+use Rattle.goal_model.specs.Images.{meetsρμ, model}
+use Rattle.plan.specs.inner.Plan.{eventsAt, special, Planned}
 use Rattle.steps.specs.declared.nearest.Asker.{Asker}
 use Rattle.steps.specs.declared.nearest.Offer.{Offer}
-use Rattle.steps.specs.Nearest.{keyOf}
-use Rattle.steps.specs.Steps.{Offering, NextOffer, Facing}
+use Rattle.steps.specs.inner.Nearest.{keyOf}
+use Rattle.steps.specs.inner.Steps.{Offering, NextOffer, Facing}
 use Rattle.base.proofs.UptoLaws.{first-false}
 use Rattle.steps.proofs.NearestLaws.{key-few}
 use Rattle.steps.proofs.FlowLaws.{no-flow}
 use Rattle.nodes.specs.declared.arrival.Arrival.{Arrival}
 use Rattle.nodes.specs.declared.arrival.Arrival.the-variants.{Enter, Dropped, Broken}
 use Rattle.nodes.specs.declared.monitor.Mode.{Mode}
-use Rattle.nodes.specs.Graph.{Graph, FoundAt}
-use Rattle.nodes.specs.State.{Inv, Turn}
-use Rattle.nodes.specs.Nodes.{watchOf, codeAt}
-use Rattle.nodes.specs.Arrivals.{Lands, LandsOpen, LandsGood, LandsBad, Arriving}
-use Rattle.nodes.specs.Blocks.{startOf, Asks, Ahead, FirstStep}
-use Rattle.memory.specs.Memory.{Marks, OfEvent, Settled, Memory}
-use Rattle.nodes.specs.Tasks.{Task, graphOf, Stands, Asked, Faced}
+use Rattle.nodes.specs.inner.Graph.{Graph, FoundAt}
+use Rattle.nodes.specs.inner.State.{Inv, Turn}
+use Rattle.nodes.specs.inner.Nodes.{watchOf, codeAt}
+use Rattle.nodes.specs.inner.Arrivals.{Lands, LandsOpen, LandsGood, LandsBad, Arriving}
+use Rattle.nodes.specs.inner.Blocks.{startOf, Asks, Ahead, FirstStep}
+use Rattle.memory.specs.inner.Memory.{Marks, OfEvent, Settled, Memory}
+use Rattle.nodes.specs.inner.Tasks.{Task, graphOf, Stands, Asked, Faced}
 use Rattle.nodes.proofs.SearchLaws.{enter, take-up, turn-chain, chain-bound, end-turn}
 use Rattle.nodes.proofs.ArrivalLaws.{later}
 use Rattle.nodes.proofs.TypeLaws.{type-is, start-le, start-next}
@@ -220,7 +221,7 @@ module _ {s g : List ℕ} {n : Counts} {plan : List ℕ} {l : Legs} {m : Mode} {
     pub of-event : OfEvent g (eventsAt plan (o .at / 4096))
     of-event = record { event = o .at / 4096; sets = sets-at }
 
-    not-excepted : eventIn (goalOf g) γe (eventOf (o .at / 4096)) ≡ false
+    not-excepted : eventIn (goalOf g) γeChain (eventOf (o .at / 4096)) ≡ false
     not-excepted = sym (sets-at .at 14) ∙ first-false (bit (eventsAt plan (o .at / 4096)) 14) _ (I .ahead .unclosed)
 
     module _ (h : y < end) where
@@ -247,7 +248,7 @@ module _ {s g : List ℕ} {n : Counts} {plan : List ℕ} {l : Legs} {m : Mode} {
           → Turn (graphOf s g n m) back queue head tail stop depth u (o .at / 4096) ((y + 1) * 2 ^ legsOf g)
       inner-skip p f = not-target (I .fixed .task) m (I .stands) (I .turn) inner-place (sym p ∙ f)
 
-      pub inner-unheld : {b : Bool} → b ≡ held (policyOf s) (contextAtIndex n y) → not b ≡ true
+      pub inner-unheld : {b : Bool} → b ≡ meetsρμ (policyOf s) (contextAtIndex n y) → not b ≡ true
           → Turn (graphOf s g n m) back queue head tail stop depth u (o .at / 4096) ((y + 1) * 2 ^ legsOf g)
       inner-unheld {b} q t = not-target (I .fixed .task) m (I .stands) (I .turn) inner-place (no-flow (policyOf s) (eventOf (o .at / 4096)) x (contextAtIndex n y) (sym q ∙ not-true b t))
 

@@ -19,30 +19,30 @@ use Rattle.policy_image.specs.declared.counts.Counts.{Counts}
 use Rattle.policy_image.specs.Policy.{policyOf}
 use Rattle.context.specs.declared.Context.{Context}
 use Rattle.context.specs.Codes.{eventOf}
-use Rattle.context.specs.Places.{contextCount, contextAtIndex}
+use Rattle.context.specs.inner.Places.{contextCount, contextAtIndex}
 use Rattle.context.proofs.PlaceLaws.{at-in-range}
 use Rattle.access.specs.Authorization.{flow}
 use Rattle.goal_image.specs.declared.check.Legs.{Legs}
 use Rattle.goal_image.specs.Layout.{legsOf}
-use Rattle.goal_image.specs.Goal.{goalOf, σe, γe}
+use Rattle.goal_image.specs.Goal.{goalOf, σeChain, γeChain}
 use Rattle.goal_image.specs.Sets.{contextIn, eventIn}
 use Rattle.paths.specs.Model.{Model}
-use Rattle.goal_model.specs.Images.{held, model}
-use Rattle.plan.specs.Plan.{eventsAt, special, Planned}
+use Rattle.goal_model.specs.Images.{meetsρμ, model}
+use Rattle.plan.specs.inner.Plan.{eventsAt, special, Planned}
 use Rattle.steps.specs.declared.nearest.Asker.{Asker}
 use Rattle.steps.specs.declared.nearest.Offer.{Offer}
-use Rattle.steps.specs.Nearest.{keyOf, Passed}
-use Rattle.steps.specs.Steps.{Offering}
+use Rattle.steps.specs.inner.Nearest.{keyOf, Passed}
+use Rattle.steps.specs.inner.Steps.{Offering}
 use Rattle.steps.proofs.FlowLaws.{flow-class, flow-held, plain-same}
 use Rattle.steps.proofs.OfferLaws.{plain-flow}
 use Rattle.nodes.specs.declared.monitor.Mode.{Mode}
-use Rattle.nodes.specs.Graph.{Graph}
-use Rattle.nodes.specs.State.{Turn, Clear}
-use Rattle.nodes.specs.Nodes.{Watch, watchOf, placeOf, stateOf, codeOf}
-use Rattle.nodes.specs.Watching.{By}
-use Rattle.nodes.specs.Tasks.{typeOf, Task, graphOf, Stands}
-use Rattle.nodes.specs.Blocks.{startOf, Asks, Ahead}
-use Rattle.memory.specs.Memory.{keepsOf, stateKey, Marks, Settled, Memory}
+use Rattle.nodes.specs.inner.Graph.{Graph}
+use Rattle.nodes.specs.inner.State.{Turn, Clear}
+use Rattle.nodes.specs.inner.Nodes.{Watch, watchOf, placeOf, stateOf, codeOf}
+use Rattle.nodes.specs.inner.Watching.{By}
+use Rattle.nodes.specs.inner.Tasks.{typeOf, Task, graphOf, Stands}
+use Rattle.nodes.specs.inner.Blocks.{startOf, Asks, Ahead}
+use Rattle.memory.specs.inner.Memory.{keepsOf, stateKey, Marks, Settled, Memory}
 use Rattle.nodes.proofs.SearchLaws.{clear-keep, turn-chain}
 use Rattle.nodes.proofs.ArrivalLaws.{by-of}
 use Rattle.nodes.proofs.TypeLaws.{type-lt, type-le}
@@ -135,8 +135,8 @@ module _ {s g : List ℕ} {n : Counts} {l : Legs} (A : Task s g n l) (m : Mode) 
   by-at e a b = by-of (A .legs) s (P .goal .events e a b)
 
   -- an edge from another node to w, as one from u by another event
-  module _ {u state : ℕ} {x : Context} (S : Stands g n u x state) (first : ¬ T (M .σ (M .legs) (codeOf n K u))) (free : contextIn (goalOf g) σe x ≡ false) where
-    pub edge-from : (u′ e e₀ w : ℕ) → w < G .k → G .Edge u′ e w → eventIn (goalOf g) γe (eventOf e₀) ≡ false
+  module _ {u state : ℕ} {x : Context} (S : Stands g n u x state) (first : ¬ T (M .σ (M .legs) (codeOf n K u))) (free : contextIn (goalOf g) σeChain x ≡ false) where
+    pub edge-from : (u′ e e₀ w : ℕ) → w < G .k → G .Edge u′ e w → eventIn (goalOf g) γeChain (eventOf e₀) ≡ false
         → flow (policyOf s) (eventOf e₀) x (contextAtIndex n (placeOf K w)) ≡ true
         → W .step (stateOf K u′) e (codeOf n K w) ≡ W .step state e₀ (codeOf n K w) → G .Edge u e₀ w
     edge-from u′ e e₀ w lw ed freeE f q =
@@ -173,7 +173,7 @@ module _ {s g : List ℕ} {n : Counts} {l : Legs} (A : Task s g n l) (m : Mode) 
         let r = sets-of i x y (edge-flow A m S lw ed) in
         let r′ = sets-of e x y f in
         let few : state < 64 = subst (λ (k : ℕ). k < 64) (Q .state-is) (Q .few) in
-        let free : eventIn (goalOf g) γe (eventOf e) ≡ false = sym (P .goal .events e (r′ .0) (r′ .1) .at 14) ∙ ap (λ (k : ℕ). bit k 14) q ∙ P .goal .events i (r .0) (r .1) .at 14 ∙ edge-freeE A m S ed in
+        let free : eventIn (goalOf g) γeChain (eventOf e) ≡ false = sym (P .goal .events e (r′ .0) (r′ .1) .at 14) ∙ ap (λ (k : ℕ). bit k 14) q ∙ P .goal .events i (r .0) (r .1) .at 14 ∙ edge-freeE A m S ed in
         edge-from S first (edge-free A m S ed) u i e w lw ed free f
         (ap (λ (k : ℕ). W .step k i (codeOf n K w)) (sym (S .at))
         ∙ step-by-key m state state (codeOf n K w) few few (by-at i (r .0) (r .1)) (by-at e (r′ .0) (r′ .1)) (ap (λ (k : ℕ). kept m state k) (sym q)))
@@ -193,7 +193,7 @@ module _ {s g : List ℕ} {n : Counts} {l : Legs} (A : Task s g n l) (m : Mode) 
       e₀-high : e₀ < 32 * (n .classes + 1)
       e₀-high = let c = classes-same in omega (arith, O .offering .event .high)
 
-      not-excepted : eventIn (goalOf g) γe (eventOf e₀) ≡ false
+      not-excepted : eventIn (goalOf g) γeChain (eventOf e₀) ≡ false
       not-excepted = sym (P .goal .events e₀ e₀-low e₀-high .at 14) ∙ first-false (bit (eventsAt plan e₀) 14) (bit (getD swept (o .at % 4096) 0) (keyOf a (eventsAt plan e₀))) (O .unclosed)
 
       -- where another edge with the same key leads
@@ -204,7 +204,7 @@ module _ {s g : List ℕ} {n : Counts} {l : Legs} (A : Task s g n l) (m : Mode) 
           step-by-key m (stateOf K u′) state (codeOf n K w) (state-small u′) (subst (λ (i : ℕ). i < 64) (Q .state-is) (Q .few)) (by-at e (r .0) (r .1)) (by-at e₀ e₀-low e₀-high)
           (sym key ∙ ap₂ (λ (i j : ℕ). bitAnd i (bitOr j (eventsAt plan e₀ / 2 ^ 7))) (Q .state-is) (Q .keeps-are))
 
-      arrival-held : (u′ e w : ℕ) → u′ < G .k → w < G .k → G .Edge u′ e w → held (policyOf s) (contextAtIndex n (placeOf K w)) ≡ true
+      arrival-held : (u′ e w : ℕ) → u′ < G .k → w < G .k → G .Edge u′ e w → meetsρμ (policyOf s) (contextAtIndex n (placeOf K w)) ≡ true
       arrival-held u′ e w lu′ lw ed = flow-held (policyOf s) (eventOf e) (contextAtIndex n (placeOf K u′)) (contextAtIndex n (placeOf K w)) (edge-flow A m (stands-any u′ lu′) lw ed) .1
 
       -- without conditions it is one from u
@@ -257,7 +257,7 @@ module _ {s g : List ℕ} {n : Counts} {l : Legs} (A : Task s g n l) (m : Mode) 
 
     -- ---- the steps of a state are taken
     module _ {queue : List ℕ} {head tail stop depth at v : ℕ} (t : Turn G back queue head tail stop depth u (at / 4096) v) (end : 4194304 ≤ at) where
-      spent-edge : contextIn (goalOf g) σe x ≡ false → held (policyOf s) x ≡ true → (u′ e w : ℕ) → u′ < G .k → w < G .k → G .Edge u′ e w → special (policyOf s) (eventOf e) ≡ false
+      spent-edge : contextIn (goalOf g) σeChain x ≡ false → meetsρμ (policyOf s) x ≡ true → (u′ e w : ℕ) → u′ < G .k → w < G .k → G .Edge u′ e w → special (policyOf s) (eventOf e) ≡ false
           → typeOf g n u′ ≡ x .ty → state ≡ stateOf K u′ → Clear G back w
       spent-edge free meets u′ e w lu′ lw ed plain ty st =
           let f = edge-flow A m (stands-any u′ lu′) lw ed in

@@ -14,22 +14,22 @@ use Rattle.base.proofs.UptoLaws.{clash}
 use Rattle.policy_image.specs.declared.counts.Counts.{Counts}
 use Rattle.policy_image.specs.Policy.{policyOf}
 use Rattle.context.specs.Codes.{eventOf}
-use Rattle.context.specs.Places.{contextCount, contextAtIndex}
+use Rattle.context.specs.inner.Places.{contextCount, contextAtIndex}
 use Rattle.goal_image.specs.declared.check.Legs.{Legs}
 use Rattle.goal_image.specs.Layout.{legsOf}
 use Rattle.goal_image.specs.Goal.{goalOf}
-use Rattle.goal_image.specs.Sets.{EventSets}
+use Rattle.goal_image.specs.inner.Memberships.{EventSets}
 use Rattle.paths.specs.Model.{Model}
-use Rattle.goal_model.specs.Images.{held, model}
+use Rattle.goal_model.specs.Images.{meetsρμ, model}
 use Rattle.nodes.specs.declared.arrival.Arrival.{Arrival}
 use Rattle.nodes.specs.declared.arrival.Arrival.the-variants.{Enter, Dropped}
 use Rattle.nodes.specs.declared.monitor.Mode.{Mode}
-use Rattle.nodes.specs.Nodes.{Watch, watchOf, codeAt, placeOf}
-use Rattle.nodes.specs.Arrivals.{Lands, LandsOpen, LandsGood, Arriving}
-use Rattle.nodes.specs.Tasks.{Task}
+use Rattle.nodes.specs.inner.Nodes.{Watch, watchOf, codeAt, placeOf}
+use Rattle.nodes.specs.inner.Arrivals.{Lands, LandsOpen, LandsGood, Arriving}
+use Rattle.nodes.specs.inner.Tasks.{Task}
 use Rattle.nodes.proofs.ModelLaws.{bounded}
 use Rattle.nodes.proofs.LevelLaws.{whole}
-use Rattle.memory.specs.Memory.{OfEvent, Settled}
+use Rattle.memory.specs.inner.Memory.{OfEvent, Settled}
 
 module _ {s g : List ℕ} {n : Counts} {l : Legs} (A : Task s g n l) (m : Mode) (back : List ℕ) (state by y : ℕ) (h : y < contextCount n) where
   abbrev M : Model
@@ -45,11 +45,11 @@ module _ {s g : List ℕ} {n : Counts} {l : Legs} (A : Task s g n l) (m : Mode) 
   place-of w lo hi = omega arith
 
   -- the context does not meet ρ and μ
-  pub settled-unheld : {b : Bool} → b ≡ held (policyOf s) (contextAtIndex n y) → not b ≡ true → Settled s g n m back state by y (y + 1)
+  pub settled-unheld : {b : Bool} → b ≡ meetsρμ (policyOf s) (contextAtIndex n y) → not b ≡ true → Settled s g n m back state by y (y + 1)
   settled-unheld {b} q f =
       record {
         all = λ e w _ lo hi k _ _.
-            absurd (clash (ap (λ (i : ℕ). held (policyOf s) (contextAtIndex n i)) (sym (place-of w lo hi)) ∙ k) (sym q ∙ not-true b f));
+            absurd (clash (ap (λ (i : ℕ). meetsρμ (policyOf s) (contextAtIndex n i)) (sym (place-of w lo hi)) ∙ k) (sym q ∙ not-true b f));
       }
 
   module _ (r : Arrival) (Z : Arriving g n l m state by y r) where

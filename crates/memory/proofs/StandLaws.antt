@@ -10,16 +10,16 @@ use lib.Pow.{pow-pos}
 use Rattle.base.specs.Bits.{bit}
 use Rattle.policy_image.specs.declared.counts.Counts.{Counts}
 use Rattle.context.specs.declared.Context.{Context}
-use Rattle.context.specs.Places.{contextCount, contextAtIndex}
+use Rattle.context.specs.inner.Places.{contextCount, contextAtIndex}
 use Rattle.context.proofs.PlaceLaws.{at-in-range}
 use Rattle.goal_image.specs.declared.check.Legs.{Legs}
 use Rattle.goal_image.specs.Layout.{legsOf}
-use Rattle.plan.specs.Plan.{Planned}
+use Rattle.plan.specs.inner.Plan.{Planned}
 use Rattle.nodes.specs.declared.monitor.Mode.{Mode}
-use Rattle.nodes.specs.Nodes.{placeOf, stateOf}
-use Rattle.nodes.specs.Arrivals.{States}
-use Rattle.memory.specs.Memory.{keepsOf}
-use Rattle.nodes.specs.Tasks.{Task, Stands}
+use Rattle.nodes.specs.inner.Nodes.{placeOf, stateOf}
+use Rattle.nodes.specs.inner.Arrivals.{States}
+use Rattle.memory.specs.inner.Memory.{keepsOf}
+use Rattle.nodes.specs.inner.Tasks.{Task, Stands}
 use Rattle.memory.proofs.MemoryLaws.{AskerOf, state-small}
 
 -- what does not change

@@ -1,1 +1,1 @@
-pub mod Memory
+pub mod inner

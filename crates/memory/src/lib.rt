@@ -4,7 +4,7 @@ pub mod settled;
 use nodes::monitor::Mode;
 ghost use mathlib.Core.Path.{_≡_};
 ghost use Prim.Native.Nat.{_<_};
-ghost use Rattle.memory.specs.Memory.{keepsOf, Marks};
+ghost use Rattle.memory.specs.inner.Memory.{keepsOf, Marks};
 
 // The bits of a state that every event keeps: all of them for order; for events those of the event's own legs are kept, and no others.
 pub fn keeps_of(mode: Mode) -> u32

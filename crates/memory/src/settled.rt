@@ -12,11 +12,11 @@ ghost use mathlib.Core.Logic.{_⊎_};
 ghost use Prim.Native.Nat.{_+_, _≤_, _<_};
 ghost use lib.ListN.{length};
 ghost use Rattle.base.specs.Ranges.{Within};
-ghost use Rattle.context.specs.Places.{contextCount};
-ghost use Rattle.plan.specs.Plan.{Planned};
-ghost use Rattle.nodes.specs.Blocks.{startOf};
-ghost use Rattle.nodes.specs.Tasks.{Task, graphOf};
-ghost use Rattle.memory.specs.Memory.{OfEvent, Settled};
+ghost use Rattle.context.specs.inner.Places.{contextCount};
+ghost use Rattle.plan.specs.inner.Plan.{Planned};
+ghost use Rattle.nodes.specs.inner.Blocks.{startOf};
+ghost use Rattle.nodes.specs.inner.Tasks.{Task, graphOf};
+ghost use Rattle.memory.specs.inner.Memory.{OfEvent, Settled};
 
 // Whether an arrival at the context at place y would be at a node that is entered, or at an end that breaks nothing. A context that
 // does not meet ρ and μ is never arrived at.

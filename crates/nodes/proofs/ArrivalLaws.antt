@@ -14,29 +14,30 @@ use Rattle.policy_image.specs.Policy.{Policy, policyOf}
 use Rattle.context.specs.declared.Context.{Context}
 use Rattle.context.specs.declared.Event.{Event}
 use Rattle.context.specs.Codes.{contextOf, eventOf}
-use Rattle.context.specs.Places.{contextCount, contextAtIndex}
+use Rattle.context.specs.inner.Places.{contextCount, contextAtIndex}
 use Rattle.context.proofs.CodeLaws.{context-of-code}
 use Rattle.context.proofs.PlaceLaws.{at-in-range}
 use Rattle.goal_image.specs.declared.check.Legs.{Legs}
-use Rattle.goal_image.specs.Goal.{Goal, goalOf, σe}
-use Rattle.goal_image.specs.Sets.{contextIn, eventIn, ContextSets, EventSets}
+use Rattle.goal_image.specs.Goal.{Goal, goalOf, σeChain}
+use Rattle.goal_image.specs.Sets.{contextIn, eventIn}
+use Rattle.goal_image.specs.inner.Memberships.{ContextSets, EventSets}
 use Rattle.paths.specs.Model.{Model}
 use Rattle.paths.proofs.StageLaws.{one-shl}
 use Rattle.goal_model.specs.Images.{model}
-use Rattle.plan.specs.Plan.{contextsAt, Planned}
+use Rattle.plan.specs.inner.Plan.{contextsAt, Planned}
 use Rattle.steps.specs.declared.nearest.Asker.{Asker}
 use Rattle.steps.specs.declared.nearest.Offer.{Offer}
-use Rattle.steps.specs.Nearest.{Cursor}
-use Rattle.steps.specs.Steps.{NextOffer}
+use Rattle.steps.specs.inner.Nearest.{Cursor}
+use Rattle.steps.specs.inner.Steps.{NextOffer}
 use Rattle.base.proofs.UptoLaws.{clash}
 use Rattle.steps.proofs.FlowLaws.{flow-held}
 use Rattle.nodes.specs.declared.arrival.Arrival.{Arrival}
 use Rattle.nodes.specs.declared.arrival.Arrival.the-variants.{Enter, Dropped, Broken}
 use Rattle.nodes.specs.declared.monitor.Mode.{Mode}
-use Rattle.nodes.specs.Nodes.{watchOf, codeAt}
-use Rattle.nodes.specs.Watching.{LegsOf, By, Stepped, Judged}
-use Rattle.nodes.specs.Arrivals.{GivenGoal, States, Entered, Ended, Broke, Arrived, Lands, Arriving}
-use Rattle.nodes.specs.Blocks.{Asks, FirstStep}
+use Rattle.nodes.specs.inner.Nodes.{watchOf, codeAt}
+use Rattle.nodes.specs.inner.Watching.{LegsOf, By, Stepped, Judged}
+use Rattle.nodes.specs.inner.Arrivals.{GivenGoal, States, Entered, Ended, Broke, Arrived, Lands, Arriving}
+use Rattle.nodes.specs.inner.Blocks.{Asks, FirstStep}
 use Rattle.nodes.proofs.ModelLaws.{to-true, of-true}
 
 -- a cursor is one for later steps too
@@ -141,7 +142,7 @@ arriving {g} {n} {l} {m} {state} {by} {into} {y} r G h S st a =
 
 -- ---- the first step
 module _ {s g : List ℕ} {n : Counts} {plan : List ℕ} (P : Planned s g n plan) {y : ℕ} (h : y < contextCount n) where
-  excepted : bit (contextsAt plan y % 32768) 13 ≡ contextIn (goalOf g) σe (contextAtIndex n y)
+  excepted : bit (contextsAt plan y % 32768) 13 ≡ contextIn (goalOf g) σeChain (contextAtIndex n y)
   excepted = P .goal .contexts y h .at 13
 
   pub asks-not : {b : Bool} → b ≡ bit (contextsAt plan y % 32768) 13 → b ≡ true → Asks (policyOf s) (goalOf g) (contextAtIndex n y) false

@@ -17,22 +17,22 @@ use Rattle.policy_image.specs.Policy.{policyOf}
 use Rattle.context.specs.declared.Context.{Context}
 use Rattle.context.specs.Codes.{contextOf, eventOf}
 use Rattle.context.specs.Ranges.{ContextInRange}
-use Rattle.context.specs.Places.{Countable, contextCount, contextAtIndex}
+use Rattle.context.specs.inner.Places.{Countable, contextCount, contextAtIndex}
 use Rattle.context.proofs.PlaceLaws.{at-in-range}
 use Rattle.access.specs.Authorization.{flow}
 use Rattle.goal_image.specs.declared.check.Legs.{Legs}
-use Rattle.goal_image.specs.Goal.{goalOf, σe, γe}
+use Rattle.goal_image.specs.Goal.{goalOf, σeChain, γeChain}
 use Rattle.goal_image.specs.Sets.{contextIn, eventIn}
 use Rattle.paths.specs.Model.{Model}
 use Rattle.paths.proofs.Any.{and-T, not-true}
 use Rattle.goal_model.specs.Images.{inRange, model}
 use Rattle.nodes.specs.declared.monitor.Mode.{Mode}
-use Rattle.nodes.specs.Graph.{Graph, Chain, Chain.root, Chain.link, FoundAt}
-use Rattle.nodes.specs.State.{Turn, Clear, Through}
-use Rattle.nodes.specs.Nodes.{Watch, watchOf, codeAt, placeOf, stateOf, codeOf, Bounded}
-use Rattle.nodes.specs.Arrivals.{LandsOpen, LandsGood, LandsBad}
-use Rattle.nodes.specs.Blocks.{startOf}
-use Rattle.nodes.specs.Tasks.{typeOf, Task, graphOf, Stands, Asked, Faced}
+use Rattle.nodes.specs.inner.Graph.{Graph, Chain, Chain.root, Chain.link, FoundAt}
+use Rattle.nodes.specs.inner.State.{Turn, Clear, Through}
+use Rattle.nodes.specs.inner.Nodes.{Watch, watchOf, codeAt, placeOf, stateOf, codeOf, Bounded}
+use Rattle.nodes.specs.inner.Arrivals.{LandsOpen, LandsGood, LandsBad}
+use Rattle.nodes.specs.inner.Blocks.{startOf}
+use Rattle.nodes.specs.inner.Tasks.{typeOf, Task, graphOf, Stands, Asked, Faced}
 use Rattle.nodes.proofs.SearchLaws.{pass-to, visited, found, turn-chain}
 use Rattle.nodes.proofs.NodeLaws.{place-of, state-of}
 use Rattle.nodes.proofs.ModelLaws.{to-true, of-true, bounded}
@@ -158,12 +158,12 @@ module _ {s g : List ℕ} {n : Counts} {l : Legs} (A : Task s g n l) (m : Mode) 
     pub edge-flow : {e w : ℕ} → w < G .k → G .Edge u e w → flow (policyOf s) (eventOf e) x (contextAtIndex n (placeOf K w)) ≡ true
     edge-flow {e} {w} lw ed =
         ap₂ (flow (policyOf s) (eventOf e)) (sym here) (sym (code-of-place (A .legs) (place-lt (pow-pos (M .legs)) lw)))
-        ∙ to-true (M .flow (codeOf n K u) e (codeOf n K w)) (ed .edge .flows)
+        ∙ to-true (M .flowBy (codeOf n K u) e (codeOf n K w)) (ed .edge .flows)
 
-    pub edge-free : {e w : ℕ} → G .Edge u e w → contextIn (goalOf g) σe x ≡ false
-    edge-free {e} {w} ed = ap (contextIn (goalOf g) σe) (sym here) ∙ not-true (M .σe (codeOf n K u)) (ed .edge .free)
+    pub edge-free : {e w : ℕ} → G .Edge u e w → contextIn (goalOf g) σeChain x ≡ false
+    edge-free {e} {w} ed = ap (contextIn (goalOf g) σeChain) (sym here) ∙ not-true (M .σe (codeOf n K u)) (ed .edge .free)
 
-    pub edge-freeE : {e w : ℕ} → G .Edge u e w → eventIn (goalOf g) γe (eventOf e) ≡ false
+    pub edge-freeE : {e w : ℕ} → G .Edge u e w → eventIn (goalOf g) γeChain (eventOf e) ≡ false
     edge-freeE {e} {w} ed = not-true (M .γe e) (ed .edge .freeE)
 
     pub range-at : {w : ℕ} → w < G .k → ContextInRange (policyOf s .counts) (contextAtIndex n (placeOf K w))
@@ -211,7 +211,7 @@ module _ {s g : List ℕ} {n : Counts} {l : Legs} (A : Task s g n l) (m : Mode) 
             (subst (λ (z : Context). T (inRange (countsOf s) z)) (sym (code-of-place (A .legs) h))
             (in-range-T (subst (λ (k : Counts). ContextInRange k (contextAtIndex n y)) same-counts (at-place h))))
 
-        pub edge-at : ¬ T (M .σ (M .legs) (codeOf n K u)) → contextIn (goalOf g) σe x ≡ false → eventIn (goalOf g) γe (eventOf e) ≡ false
+        pub edge-at : ¬ T (M .σ (M .legs) (codeOf n K u)) → contextIn (goalOf g) σeChain x ≡ false → eventIn (goalOf g) γeChain (eventOf e) ≡ false
             → flow (policyOf s) (eventOf e) x (contextAtIndex n y) ≡ true → (T (M .σ (M .legs) (codeAt n y)) → T (W .bad (dest e y))) → G .Edge u e v
         edge-at first free freeE flows k =
             record {
@@ -220,7 +220,7 @@ module _ {s g : List ℕ} {n : Counts} {l : Legs} (A : Task s g n l) (m : Mode) 
                 flows = of-true _
                     (ap₂ (flow (policyOf s) (eventOf e)) here (ap (λ (z : ℕ). contextOf (codeAt n z)) at-v ∙ code-of-place (A .legs) h) ∙ flows);
                 first = first;
-                free = λ z. clash (to-true (M .σe (codeOf n K u)) z) (ap (contextIn (goalOf g) σe) here ∙ free);
+                free = λ z. clash (to-true (M .σe (codeOf n K u)) z) (ap (contextIn (goalOf g) σeChain) here ∙ free);
                 freeE = λ z. clash (to-true (M .γe e) z) freeE;
               };
               state = state-v ∙ ap₂ (λ (i c : ℕ). W .step i e c) (S .at) (ap (codeAt n) (sym at-v));

@@ -8,23 +8,24 @@ use lib.Dec.{T, leb, leb→le, T-not}
 use Rattle.base.specs.Bits.{bit}
 use Rattle.policy_image.specs.declared.counts.Counts.{Counts}
 use Rattle.policy_image.specs.Layout.{countsOf}
-use Rattle.context.specs.Codes.{contextCode, contextOf}
+use Rattle.context.specs.inner.Coding.{contextCode}
+use Rattle.context.specs.Codes.{contextOf}
 use Rattle.context.specs.Ranges.{ContextInRange}
-use Rattle.context.specs.Places.{contextCount, contextIndex}
+use Rattle.context.specs.inner.Places.{contextCount, contextIndex}
 use Rattle.context.proofs.CodeLaws.{context-code-of}
 use Rattle.context.proofs.PlaceLaws.{at-index, index-lt}
-use Rattle.goal_image.specs.Sound.{SoundGoal}
+use Rattle.goal_image.specs.inner.Sound.{SoundGoal}
 use Rattle.paths.specs.Model.{Model}
 use Rattle.paths.proofs.Any.{and-T, not-true}
 use Rattle.paths.proofs.Numbers.{pack-lt, pack-top, bit-pack}
-use Rattle.paths.proofs.Events.{opens}
+use Rattle.paths.specs.inner.Monitors.{opens}
 use Rattle.paths.proofs.Bounds.{top, one-lt}
 use Rattle.goal_model.specs.Images.{inRange, model}
-use Rattle.plan.specs.Plan.{Ready}
+use Rattle.plan.specs.inner.Plan.{Ready}
 use Rattle.steps.proofs.FlowLaws.{flow-code}
 use Rattle.nodes.specs.declared.monitor.Mode.{Mode}
 use Rattle.nodes.specs.declared.monitor.Mode.the-variants.{Order, Events}
-use Rattle.nodes.specs.Nodes.{watchOf, codeAt, Bounded}
+use Rattle.nodes.specs.inner.Nodes.{watchOf, codeAt, Bounded}
 
 pub to-true : (b : Bool) → T b → b ≡ true
 to-true true t = refl
@@ -56,8 +57,8 @@ module _ {s g : List ℕ} {n : Counts} (r : Ready s n) (G : SoundGoal g) where
   some-leg : 0 < M .legs
   some-leg = G .legs .legs .low
 
-  code : (x e y : ℕ) → T (M .flow x e y) → e < 1024
-  code x e y t = flow-code {s = s} e (contextOf x) (contextOf y) (r .sound) (to-true (M .flow x e y) t)
+  code : (x e y : ℕ) → T (M .flowBy x e y) → e < 1024
+  code x e y t = flow-code {s = s} e (contextOf x) (contextOf y) (r .sound) (to-true (M .flowBy x e y) t)
 
   pub bounded : (m : Mode) → Bounded M n (watchOf m M)
   bounded Order =

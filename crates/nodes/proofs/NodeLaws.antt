@@ -6,13 +6,12 @@ use native.Mathlib.Omega.{arith}
 use lib.Arith.{digits-div, digits-mod, digits-lt}
 use lib.Dec.{T}
 use Rattle.policy_image.specs.declared.counts.Counts.{Counts}
-use Rattle.context.specs.Places.{contextCount}
+use Rattle.context.specs.inner.Places.{contextCount}
 use Rattle.paths.specs.Model.{Model}
-use Rattle.paths.proofs.Monitor.{Monitor, Start, Edge, BadNode}
-use Rattle.paths.proofs.Monitor.{Reach as Reached, begin as begins, more}
-use Rattle.paths.proofs.Verdict.{Least, at, nowhere}
-use Rattle.nodes.specs.Graph.{Reach, Reach.begin, Reach.step, Breaks, FoundAt, NoneFound}
-use Rattle.nodes.specs.Nodes.{Watch, monitorOf, codeAt, placeOf, stateOf, codeOf, states, EdgeAt, graph, BadStart, Bounded}
+use Rattle.paths.specs.inner.Monitor.{Monitor, Start, Edge, BadNode, Reach as Reached, begin as begins, more}
+use Rattle.paths.specs.inner.Verdict.{Least, at, nowhere}
+use Rattle.nodes.specs.inner.Graph.{Reach, Reach.begin, Reach.step, Breaks, FoundAt, NoneFound}
+use Rattle.nodes.specs.inner.Nodes.{Watch, monitorOf, codeAt, placeOf, stateOf, codeOf, states, EdgeAt, graph, BadStart, Bounded}
 
 -- ---- the number of a node
 pub place-of : {k s : ℕ} (y : ℕ) → s < k → placeOf k (y * k + s) ≡ y

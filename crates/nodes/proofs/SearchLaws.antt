@@ -9,8 +9,8 @@ use native.Mathlib.Decide.{ℕ-discrete, decLe}
 use native.Mathlib.Omega.{arith}
 use lib.ListN.{length, getD, set, length-set}
 use lib.Seq.{getD-set-same, getD-set-other}
-use Rattle.nodes.specs.Graph.{Graph, Reach, Reach.begin, Reach.step, Chain, Chain.root, Chain.link, Breaks, FoundAt, NoneFound}
-use Rattle.nodes.specs.State.{mark, marks, InQueue, Clear, Through, Inv, Turn, Root, Seeding}
+use Rattle.nodes.specs.inner.Graph.{Graph, Reach, Reach.begin, Reach.step, Chain, Chain.root, Chain.link, Breaks, FoundAt, NoneFound}
+use Rattle.nodes.specs.inner.State.{mark, marks, InQueue, Clear, Through, Inv, Turn, Root, Seeding}
 
 -- below n + 1 is below n or n itself
 pub below-or : {i n : ℕ} → i < n + 1 → (i ≡ n) ⊎ (i < n)

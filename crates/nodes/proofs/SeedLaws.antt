@@ -19,25 +19,26 @@ use Rattle.policy_image.specs.Policy.{policyOf}
 use Rattle.context.specs.declared.Context.{Context}
 use Rattle.context.specs.Codes.{contextOf}
 use Rattle.context.specs.Ranges.{ContextInRange}
-use Rattle.context.specs.Places.{contextCount, contextAtIndex}
+use Rattle.context.specs.inner.Places.{contextCount, contextAtIndex}
 use Rattle.context.proofs.PlaceLaws.{at-in-range}
 use Rattle.goal_image.specs.declared.check.Legs.{Legs}
 use Rattle.goal_image.specs.Layout.{legsOf}
 use Rattle.goal_image.specs.Goal.{goalOf}
-use Rattle.goal_image.specs.Sets.{contextIn, ContextSets}
+use Rattle.goal_image.specs.Sets.{contextIn}
+use Rattle.goal_image.specs.inner.Memberships.{ContextSets}
 use Rattle.paths.specs.Model.{Model}
-use Rattle.paths.proofs.Monitor.{Start}
-use Rattle.goal_model.specs.Images.{inRange, held, model}
+use Rattle.paths.specs.inner.Monitor.{Start}
+use Rattle.goal_model.specs.Images.{inRange, meetsρμ, model}
 use Rattle.nodes.specs.declared.arrival.Arrival.{Arrival}
 use Rattle.nodes.specs.declared.arrival.Arrival.the-variants.{Enter, Dropped, Broken}
 use Rattle.nodes.specs.declared.monitor.Mode.{Mode}
-use Rattle.nodes.specs.Graph.{Graph}
-use Rattle.nodes.specs.State.{Seeding}
-use Rattle.nodes.specs.Nodes.{Watch, watchOf, codeAt, placeOf, stateOf, BadStart, Bounded}
-use Rattle.nodes.specs.Watching.{Started}
-use Rattle.nodes.specs.Arrivals.{Arrived, Lands, States}
-use Rattle.nodes.specs.Tasks.{Task, graphOf}
-use Rattle.nodes.specs.Seeds.{Cleared, Roomy, BeginsOpen, BeginsNot, Begins, SownNodes, SownStart}
+use Rattle.nodes.specs.inner.Graph.{Graph}
+use Rattle.nodes.specs.inner.State.{Seeding}
+use Rattle.nodes.specs.inner.Nodes.{Watch, watchOf, codeAt, placeOf, stateOf, BadStart, Bounded}
+use Rattle.nodes.specs.inner.Watching.{Started}
+use Rattle.nodes.specs.inner.Arrivals.{Arrived, Lands, States}
+use Rattle.nodes.specs.inner.Tasks.{Task, graphOf}
+use Rattle.nodes.specs.inner.Seeds.{Cleared, Roomy, BeginsOpen, BeginsNot, Begins, SownNodes, SownStart}
 use Rattle.nodes.proofs.SearchLaws.{below-or, seed-begin, seed-pass, seed-visit, seed-end}
 use Rattle.nodes.proofs.NodeLaws.{place-of, state-of}
 use Rattle.nodes.proofs.ModelLaws.{to-true, of-true, bounded}
@@ -72,17 +73,17 @@ module _ {s g : List ℕ} {n : Counts} {l : Legs} (A : Task s g n l) (m : Mode) 
     no-set {into} {b} S p k =
         begins-not (λ z. clash (to-true (M .σ 0 (codeAt n y)) (z .starts)) (ap (contextIn (goalOf g) 0) here ∙ sym (in-set S 0 (omega arith)) ∙ sym p ∙ not-true b k))
 
-    pub no-held : {b : Bool} (v : ℕ) → bit v 31 ≡ held (policyOf s) x → b ≡ bit v 31 → not b ≡ true → BeginsNot M n W y
+    pub no-held : {b : Bool} (v : ℕ) → bit v 31 ≡ meetsρμ (policyOf s) x → b ≡ bit v 31 → not b ≡ true → BeginsNot M n W y
     no-held {b} v e p k =
-        begins-not (λ z. clash (to-true (M .held (codeAt n y)) (z .meets)) (ap (held (policyOf s)) here ∙ sym e ∙ sym p ∙ not-true b k))
+        begins-not (λ z. clash (to-true (M .held (codeAt n y)) (z .meets)) (ap (meetsρμ (policyOf s)) here ∙ sym e ∙ sym p ∙ not-true b k))
 
-    pub start-of : {into : ℕ} {a b : Bool} (v : ℕ) → ContextSets (goalOf g) x into → a ≡ bit into 0 → not a ≡ false → bit v 31 ≡ held (policyOf s) x → b ≡ bit v 31 → not b ≡ false
+    pub start-of : {into : ℕ} {a b : Bool} (v : ℕ) → ContextSets (goalOf g) x into → a ≡ bit into 0 → not a ≡ false → bit v 31 ≡ meetsρμ (policyOf s) x → b ≡ bit v 31 → not b ≡ false
         → Start M (codeAt n y)
     start-of {into} {a} {b} v S p p′ e r r′ =
         record {
           context-at = subst (λ (z : Context). T (inRange (countsOf s) z)) (sym (code-of-place (A .legs) h)) (in-range-T (subst (λ (k : Counts). ContextInRange k (contextAtIndex n y)) (A .given .ready .same) (at-in-range n y (A .legs .countable .roles) (A .legs .countable .users) h)));
           starts = of-true _ (ap (contextIn (goalOf g) 0) here ∙ sym (in-set S 0 (omega arith)) ∙ sym p ∙ not-false a p′);
-          meets = of-true _ (ap (held (policyOf s)) here ∙ sym e ∙ sym r ∙ not-false b r′);
+          meets = of-true _ (ap (meetsρμ (policyOf s)) here ∙ sym e ∙ sym r ∙ not-false b r′);
         }
 
     pub beginning : {into t : ℕ} (r : Arrival) → Start M (codeAt n y) → ContextSets (goalOf g) x into → Started m l into t → Arrived m l into y t r → Begins M n W y r

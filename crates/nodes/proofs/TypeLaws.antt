@@ -4,9 +4,9 @@ use Prim.Native.Nat.{ℕ, _+_, _-_, _*_, _/_, _^_, _≤_, _<_}
 use native.Mathlib.Nat.{div-lt-iff-lt-mul, le-div-iff-mul-le, mul-le-mul-left, mul-le-mul-right, mul-one}
 use native.Mathlib.Omega.{arith}
 use Rattle.policy_image.specs.declared.counts.Counts.{Counts}
-use Rattle.context.specs.Places.{Countable, contextCount, contextAtIndex}
+use Rattle.context.specs.inner.Places.{Countable, contextCount, contextAtIndex}
 use Rattle.context.proofs.PlaceLaws.{types-part}
-use Rattle.nodes.specs.Blocks.{startOf}
+use Rattle.nodes.specs.inner.Blocks.{startOf}
 
 module _ {n : Counts} (C : Countable n) where
   pub type-lt : (o y : ℕ) → y < startOf n o → contextAtIndex n y .ty < o

@@ -10,13 +10,13 @@ use Rattle.base.specs.Bits.{bit}
 use Rattle.base.proofs.BitLaws.{bit-shr}
 use Rattle.goal_image.specs.declared.check.Legs.{Legs}
 use Rattle.paths.specs.Model.{Model}
-use Rattle.paths.specs.Stages.{goesOn, entered, stageAfter, Advanced}
-use Rattle.paths.specs.Tracker.{trackAfter, Tracked}
+use Rattle.paths.specs.inner.Stages.{goesOn, entered, stageAfter, Advanced}
+use Rattle.paths.specs.inner.Tracker.{trackAfter, Tracked}
 use Rattle.paths.proofs.Numbers.{pack-is, pack-lt}
 use Rattle.paths.proofs.StageLaws.{advance-is}
 use Rattle.paths.proofs.TrackerLaws.{track-is, begin-is}
 use Rattle.nodes.specs.declared.monitor.Mode.the-variants.{Order, Events}
-use Rattle.nodes.specs.Watching.{LegsOf, Started, Stepped, Judged}
+use Rattle.nodes.specs.inner.Watching.{LegsOf, Started, Stepped, Judged}
 
 -- ---- states have at most n + 1 bits
 fits : (k r : ℕ) → ((i : ℕ) → k ≤ i → bit r i ≡ false) → r < 2 ^ k

@@ -1,8 +1,1 @@
-pub mod Graph
-pub mod State
-pub mod Nodes
-pub mod Watching
-pub mod Arrivals
-pub mod Blocks
-pub mod Tasks
-pub mod Seeds
+pub mod inner

@@ -14,11 +14,11 @@ use steps::offers::first_offer;
 ghost use Prim.Native.Nat.{suc, _*_, _^_, _≤_, _<_};
 ghost use Rattle.policy_image.specs.Policy.{policyOf};
 ghost use Rattle.context.specs.Ranges.{ContextInRange};
-ghost use Rattle.context.specs.Places.{contextCount, contextAtIndex};
+ghost use Rattle.context.specs.inner.Places.{contextCount, contextAtIndex};
 ghost use Rattle.goal_image.specs.Goal.{goalOf};
-ghost use Rattle.plan.specs.Plan.{GoalPlan, Planned};
-ghost use Rattle.nodes.specs.Arrivals.{Given, GivenGoal, States, Arrived, Arriving};
-ghost use Rattle.nodes.specs.Blocks.{Asks, FirstStep};
+ghost use Rattle.plan.specs.inner.Plan.{GoalPlan, Planned};
+ghost use Rattle.nodes.specs.inner.Arrivals.{Given, GivenGoal, States, Arrived, Arriving};
+ghost use Rattle.nodes.specs.inner.Blocks.{Asks, FirstStep};
 
 // A node to enter, by its number; an end that breaks nothing; or an end that breaks what is looked for.
 pub enum Arrival {

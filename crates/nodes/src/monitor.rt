@@ -5,7 +5,7 @@ use goal_image::check::Legs;
 use paths::stages::advance;
 use paths::tracker::track;
 ghost use Prim.Native.Nat.{_<_};
-ghost use Rattle.nodes.specs.Watching.{Started, Stepped, Judged};
+ghost use Rattle.nodes.specs.inner.Watching.{Started, Stepped, Judged};
 
 // What a search looks for: an end of a path that breaks order, or one that breaks events.
 pub enum Mode {

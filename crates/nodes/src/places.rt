@@ -2,8 +2,8 @@
 use policy_image::counts::Counts;
 ghost use mathlib.Core.Path.{_≡_};
 ghost use Prim.Native.Nat.{_+_, _≤_};
-ghost use Rattle.context.specs.Places.{Countable};
-ghost use Rattle.nodes.specs.Blocks.{startOf};
+ghost use Rattle.context.specs.inner.Places.{Countable};
+ghost use Rattle.nodes.specs.inner.Blocks.{startOf};
 
 // The place of the first context of a type.
 pub fn first_place(counts: Counts, ty: u32) -> u32

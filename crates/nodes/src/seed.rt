@@ -11,10 +11,10 @@ use plan::regions::CONTEXTS;
 use policy_image::counts::Counts;
 ghost use Prim.Native.Nat.{_≤_, _<_};
 ghost use lib.ListN.{length};
-ghost use Rattle.context.specs.Places.{contextCount};
-ghost use Rattle.plan.specs.Plan.{Planned};
-ghost use Rattle.nodes.specs.Seeds.{Cleared, Roomy, Beginning, Sown};
-ghost use Rattle.nodes.specs.Tasks.{Task};
+ghost use Rattle.context.specs.inner.Places.{contextCount};
+ghost use Rattle.plan.specs.inner.Plan.{Planned};
+ghost use Rattle.nodes.specs.inner.Seeds.{Cleared, Roomy, Beginning, Sown};
+ghost use Rattle.nodes.specs.inner.Tasks.{Task};
 
 // How many nodes are in the queue, in rising order; or the place of the first start that is a bad end.
 pub enum Seeded {

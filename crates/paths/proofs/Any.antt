@@ -7,7 +7,7 @@ use native.Mathlib.Nat.{not-suc-le-zero, le-refl}
 use native.Mathlib.Decide.{ℕ-discrete, decLt}
 use native.Mathlib.Omega.{arith}
 use lib.Dec.{T}
-use Rattle.paths.specs.Below.{anyBelow}
+use Rattle.paths.specs.inner.Below.{anyBelow}
 
 -- ---- truth values
 pub or-cases : (a b : Bool) → T (a || b) → T a ⊎ T b

@@ -11,9 +11,8 @@ use Rattle.base.specs.Bits.{bit}
 use Rattle.paths.specs.Model.{Model}
 use Rattle.paths.proofs.Any.{or-cases, and-T, not-true}
 use Rattle.paths.proofs.Numbers.{pack-lt, pack-top}
-use Rattle.paths.proofs.Monitor.{Reach, begin, more}
-use Rattle.paths.proofs.Events.{goes, enters, opens}
-use Rattle.paths.proofs.Monitors.{trackerN, stagerN}
+use Rattle.paths.specs.inner.Monitor.{Reach, begin, more}
+use Rattle.paths.specs.inner.Monitors.{goes, enters, opens, trackerN, stagerN}
 
 module _ (M : Model) where
   open Model M using (legs, σ, repeated)

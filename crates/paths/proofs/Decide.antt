@@ -3,12 +3,13 @@ use mathlib.Core.Path.{_≡_}
 use mathlib.Core.Bool.{Bool, not, _&&_}
 use Prim.Native.Nat.{ℕ, _<_}
 use lib.Dec.{T, eqb, ltb, eqb→eq, ltb→lt, T-not, not-T}
-use Rattle.paths.specs.Below.{anyBelow}
+use Rattle.paths.specs.inner.Below.{anyBelow}
 use Rattle.paths.specs.Model.{Model}
 use Rattle.paths.specs.Paths.{SomeOrder, SomeEvents, NoneBelow, Holds, OrderAt, EventsAt}
 use Rattle.paths.proofs.Any.{any-of, and-T}
 use Rattle.paths.proofs.Finite.{Finite, anyAt, badEnd, bad-at, saturated, none-at-all}
-use Rattle.paths.proofs.Monitors.{trackerN, stagerN, order-iff, events-iff}
+use Rattle.paths.specs.inner.Monitors.{trackerN, stagerN}
+use Rattle.paths.proofs.Monitors.{order-iff, events-iff}
 
 module _ (M : Model) (F : Finite M) where
   -- some path of m steps breaks order; events

@@ -1,109 +1,16 @@
--- Models drawn by hand, whose contexts, steps and sets are short lists, and their answers by computing.
+-- The answers of models drawn by hand, by computing.
 use mathlib.Core.Path.{_≡_}
-use mathlib.Core.Bool.{Bool, true, false, not, _&&_, _||_}
+use mathlib.Core.Bool.{Bool, _&&_}
 use mathlib.Core.List.{List, [], _∷_}
 use mathlib.Core.Logic.{_⊎_, inl, inr, _↔_}
 use Prim.Native.Nat.{ℕ}
 use lib.Dec.{T, eqb, ltb, eqb→eq, eqb-refl, ltb→lt, lt→ltb}
-use lib.ListN.{length, getD}
-use Rattle.paths.specs.Below.{anyBelow}
-use Rattle.paths.specs.Model.{Model}
-use Rattle.paths.specs.Answer.{Answer, holds, order, events, Right}
+use Rattle.paths.specs.inner.Below.{anyBelow}
+use Rattle.paths.specs.inner.Answer.{Answer, holds, order, events, Right}
+use Rattle.paths.specs.cases.Drawn.{Step, Drawn, anyIn, isStep, drawnModel}
 use Rattle.paths.proofs.Any.{or-cases, or-left, or-right, and-T, any-witness, any-of}
 use Rattle.paths.proofs.Finite.{Finite}
 use Rattle.paths.proofs.Decide.{holdsB, orderAtB, eventsAtB, holds-by, order-by, events-by}
-
--- 'x by e to y': flow from x to y by e
-pub record Step : Type 0 where
-  pub from : ℕ
-  pub event : ℕ
-  pub into : ℕ
-
-infix 60 _by_to_
-abbrev pub _by_to_ : ℕ → ℕ → ℕ → Step
-_by_to_ x e y = record { from = x; event = e; into = y }
-
--- a leg by one event of a set, or by one or more
-pub data Leg : Type 0 where
-  once : List ℕ → Leg
-  again : List ℕ → Leg
-
-pub record Drawn : Type 0 where
-  -- contexts are the numbers below this
-  pub contexts : ℕ
-  pub steps : List Step
-  -- σ0 to σn
-  pub sets : List (List ℕ)
-  -- legs 0 to n − 1
-  pub legs : List Leg
-  -- contexts that do not meet ρ and μ
-  pub unheld : List ℕ
-  -- σe and γe
-  pub exceptions : List ℕ
-  pub exceptionsE : List ℕ
-
--- one with no exceptions, whose contexts all meet ρ and μ
-abbrev pub drawn : ℕ → List Step → List (List ℕ) → List Leg → Drawn
-drawn k s σs ls = record { contexts = k; steps = s; sets = σs; legs = ls; unheld = []; exceptions = []; exceptionsE = [] }
-
--- .. with σe and γe; .. with contexts that do not meet ρ and μ
-abbrev pub except : List ℕ → List ℕ → Drawn → Drawn
-except c e d =
-    record {
-      contexts = d .contexts;
-      steps = d .steps;
-      sets = d .sets;
-      legs = d .legs;
-      unheld = d .unheld;
-      exceptions = c;
-      exceptionsE = e;
-    }
-
-abbrev pub failing : List ℕ → Drawn → Drawn
-failing l d =
-    record {
-      contexts = d .contexts;
-      steps = d .steps;
-      sets = d .sets;
-      legs = d .legs;
-      unheld = l;
-      exceptions = d .exceptions;
-      exceptionsE = d .exceptionsE;
-    }
-
-abbrev pub only : ℕ → List ℕ
-only a = a ∷ []
-
-abbrev pub anyIn : {A : Type 0} → List A → (A → Bool) → Bool
-anyIn [] f = false
-anyIn (a ∷ l) f = f a || anyIn l f
-
-abbrev pub isIn : List ℕ → ℕ → Bool
-isIn l x = anyIn l (λ a. eqb a x)
-
-abbrev pub isStep : ℕ → ℕ → ℕ → Step → Bool
-isStep x e y s = eqb (s .from) x && (eqb (s .event) e && eqb (s .into) y)
-
-abbrev pub eventsOf : Leg → List ℕ
-eventsOf (once l) = l
-eventsOf (again l) = l
-
-abbrev pub isAgain : Leg → Bool
-isAgain (once l) = false
-isAgain (again l) = true
-
-abbrev pub model : Drawn → Model
-model d = record {
-  flow = λ x e y. anyIn (d .steps) (isStep x e y);
-  context = λ x. ltb x (d .contexts);
-  held = λ x. not (isIn (d .unheld) x);
-  legs = length (d .legs);
-  σ = λ i. isIn (getD (d .sets) i []);
-  γ = λ i. isIn (eventsOf (getD (d .legs) i (once [])));
-  repeated = λ i. isAgain (getD (d .legs) i (once []));
-  σe = isIn (d .exceptions);
-  γe = isIn (d .exceptionsE);
-}
 
 -- ---- the steps of the list, gone through
 record Member {A : Type 0} (l : List A) (f : A → Bool) : Type 0 where
@@ -155,7 +62,7 @@ module _ (d : Drawn) where
           and-T (eqb (s .from) x) (ltb (s .into) (d .contexts) && f (s .event) (s .into)) .1
           (p, rw (q, r) (and-T (ltb y (d .contexts)) (f e y) .1 (c, u)))
 
-  abbrev pub finite : Finite (model d)
+  abbrev pub finite : Finite (drawnModel d)
   finite = record {
     anyC = anyContext;
     anyC-iff = context-iff;
@@ -166,11 +73,11 @@ module _ (d : Drawn) where
 
   -- 'holds' is tried as far as there are contexts: enough where no context is met twice
   abbrev pub answersB : Answer → Bool
-  answersB holds = holdsB (model d) finite (d .contexts)
-  answersB (order m) = orderAtB (model d) finite m
-  answersB (events m) = eventsAtB (model d) finite m
+  answersB holds = holdsB (drawnModel d) finite (d .contexts)
+  answersB (order m) = orderAtB (drawnModel d) finite m
+  answersB (events m) = eventsAtB (drawnModel d) finite m
 
-  pub answer-by : (a : Answer) → T (answersB a) → Right (model d) a
-  answer-by holds t = holds-by (model d) finite (d .contexts) t
-  answer-by (order m) t = order-by (model d) finite m t
-  answer-by (events m) t = events-by (model d) finite m t
+  pub answer-by : (a : Answer) → T (answersB a) → Right (drawnModel d) a
+  answer-by holds t = holds-by (drawnModel d) finite (d .contexts) t
+  answer-by (order m) t = order-by (drawnModel d) finite m t
+  answer-by (events m) t = events-by (drawnModel d) finite m t

@@ -1,6 +1,6 @@
 -- The stages that are still possible, as a set: n is among them at the end exactly where the path follows events.
 use mathlib.Core.Path.{_≡_, refl, sym, ap, subst, _∙_}
-use mathlib.Core.Bool.{Bool, false, not, _&&_, _||_}
+use mathlib.Core.Bool.{Bool, not, _&&_}
 use mathlib.Core.Logic.{_⊎_, inl, inr, _↔_}
 use Prim.Native.Nat.{ℕ, zero, suc, _≤_, _<_}
 use native.Mathlib.Nat.{not-suc-le-zero, le-refl}
@@ -9,30 +9,18 @@ use native.Mathlib.Decide.{decLe}
 use lib.Dec.{T, ltb, eqb, eqb→eq, eqb-refl, ltb→lt, lt→ltb}
 use Rattle.paths.specs.Model.{Model}
 use Rattle.paths.specs.Paths.{FollowsEvents}
+use Rattle.paths.specs.inner.Monitors.{goes, enters, opens}
 use Rattle.paths.proofs.Any.{or-cases, or-left, or-right, T-dec, and-T, next, till, till-below, till-at}
-use Rattle.paths.proofs.Monitor.{Monitor, run}
+use Rattle.paths.specs.inner.Monitor.{Monitor, run}
 
 module _ (M : Model) where
   open Model M using (legs, σ, γ, repeated)
-
-  -- leg i is under way, and the event is one of its own
-  abbrev pub goes : (ℕ → Bool) → ℕ → ℕ → Bool
-  goes S e i = ltb i legs && (S i && γ i e)
-
-  -- stage i is entered by the event e, to y
-  abbrev pub enters : (ℕ → Bool) → ℕ → ℕ → ℕ → Bool
-  enters S e y zero = false
-  enters S e y (suc i) = goes S e i && σ (suc i) y
-
-  -- stage i is possible after the event e, to y
-  abbrev pub opens : (ℕ → Bool) → ℕ → ℕ → ℕ → Bool
-  opens S e y i = (goes S e i && repeated i) || enters S e y i
 
   abbrev pub stager : Monitor
   stager = record {
     State = ℕ → Bool;
     start = λ x i. eqb i 0;
-    step = opens;
+    step = opens M;
     bad = λ S. not (S legs);
   }
 
@@ -46,12 +34,12 @@ module _ (M : Model) where
     -- the set holds just these
     stage-of : (j i : ℕ) → T (run stager x e j i) → Stage i j
     stage-of zero i t = subst (λ (k : ℕ). Stage k 0) (sym (eqb→eq i 0 t)) first
-    stage-of (suc j) i t = go i (or-cases (goes S (e j) i && repeated i) (enters S (e j) (x (suc j)) i) t) (λ k s. stage-of j k s)
+    stage-of (suc j) i t = go i (or-cases (goes M S (e j) i && repeated i) (enters M S (e j) (x (suc j)) i) t) (λ k s. stage-of j k s)
       where
         S : ℕ → Bool
         S = run stager x e j
 
-        go : (i : ℕ) → T (goes S (e j) i && repeated i) ⊎ T (enters S (e j) (x (suc j)) i) → ((k : ℕ) → T (S k) → Stage k j) → Stage i (suc j)
+        go : (i : ℕ) → T (goes M S (e j) i && repeated i) ⊎ T (enters M S (e j) (x (suc j)) i) → ((k : ℕ) → T (S k) → Stage k j) → Stage i (suc j)
         go i (inl t) ih = let ((h, (s, g)), r) = simp and-T at t in stay (ltb→lt i legs h) (ih i s) g r
         go zero (inr t) ih = absurd t
         go (suc i) (inr t) ih = let ((h, (s, g)), r) = simp and-T at t in move (ltb→lt i legs h) (ih i s) g r
@@ -59,10 +47,10 @@ module _ (M : Model) where
     stages-of : {j i : ℕ} → Stage i j → T (run stager x e j i)
     stages-of first = eqb-refl 0
     stages-of (stay {i = i} {j = j} h s g r) =
-        or-left (goes (run stager x e j) (e j) i && repeated i) (enters (run stager x e j) (e j) (x (suc j)) i)
+        or-left (goes M (run stager x e j) (e j) i && repeated i) (enters M (run stager x e j) (e j) (x (suc j)) i)
         (simp and-T ((lt→ltb i legs h, (stages-of s, g)), r))
     stages-of (move {i = i} {j = j} h s g r) =
-        or-right (goes (run stager x e j) (e j) (suc i) && repeated (suc i)) (enters (run stager x e j) (e j) (x (suc j)) (suc i))
+        or-right (goes M (run stager x e j) (e j) (suc i) && repeated (suc i)) (enters M (run stager x e j) (e j) (x (suc j)) (suc i))
         (simp and-T ((lt→ltb i legs h, (stages-of s, g)), r))
 
     -- leg i goes from place a to place b

@@ -6,22 +6,22 @@ use Prim.Native.Nat.{ℕ, zero, suc, _<_}
 use native.Mathlib.Omega.{arith}
 use native.Mathlib.Decide.{decLt}
 use lib.Dec.{T, T-not, not-T}
-use Rattle.paths.specs.Below.{anyBelow}
+use Rattle.paths.specs.inner.Below.{anyBelow}
 use Rattle.paths.specs.Model.{Model}
 use Rattle.paths.proofs.Any.{any-witness, any-of, and-T, T-dec}
-use Rattle.paths.proofs.Monitor.{Monitor, Edge, Reach, begin, more, BadNode}
+use Rattle.paths.specs.inner.Monitor.{Monitor, Edge, Reach, begin, more, BadNode}
 
 -- whether some context passes a test, and whether some step from a context does
 pub record Finite (M : Model) : Type 0 where
   pub anyC : (ℕ → Bool) → Bool
   pub anyC-iff : (f : ℕ → Bool) → T (anyC f) ↔ ((x : ℕ) × T (M .context x) × T (f x))
   pub anyStep : ℕ → (ℕ → ℕ → Bool) → Bool
-  pub step-there : (x : ℕ) (f : ℕ → ℕ → Bool) → T (anyStep x f) → (e : ℕ) × (y : ℕ) × T (M .context y) × T (M .flow x e y) × T (f e y)
-  pub step-back : (x : ℕ) (f : ℕ → ℕ → Bool) → T (M .context x) → (e y : ℕ) → T (M .context y) → T (M .flow x e y) → T (f e y)
+  pub step-there : (x : ℕ) (f : ℕ → ℕ → Bool) → T (anyStep x f) → (e : ℕ) × (y : ℕ) × T (M .context y) × T (M .flowBy x e y) × T (f e y)
+  pub step-back : (x : ℕ) (f : ℕ → ℕ → Bool) → T (M .context x) → (e y : ℕ) → T (M .context y) → T (M .flowBy x e y) → T (f e y)
       → T (anyStep x f)
 
 module _ (M : Model) (F : Finite M) (A : Monitor) where
-  open Model M using (flow, context, held, legs, σ, σe, γe)
+  open Model M using (flowBy, context, held, legs, σ, σe, γe)
   open Monitor A using (State, start, step, bad)
   open Finite F using (anyC, anyC-iff, anyStep, step-there, step-back)
 
@@ -42,7 +42,7 @@ module _ (M : Model) (F : Finite M) (A : Monitor) where
     reach : Reach M A d x s
     passes : T (f x s)
 
-  edge-of : (x e y : ℕ) → T (context y) → T (flow x e y) → T (goesB x e) → Edge M x e y
+  edge-of : (x e y : ℕ) → T (context y) → T (flowBy x e y) → T (goesB x e) → Edge M x e y
   edge-of x e y c w g =
       let (a, (b, k)) = simp and-T at g in
       record { into = c; flows = w; first = T-not (σ legs x) a; free = T-not (σe x) b; freeE = T-not (γe e) k }

@@ -1,7 +1,6 @@
 -- Monitors: states that a path is read with, from context to context. A path to σn whose end state is bad is a walk through nodes,
 -- each a context and a state, from a start to a bad node in σn (`bad-iff`), so a search of the nodes answers for all paths.
 use mathlib.Core.Path.{_≡_, refl, sym, ap, subst, _∙_}
-use mathlib.Core.Bool.{Bool, true}
 use mathlib.Core.Logic.{_↔_}
 use Prim.Native.Nat.{ℕ, zero, suc, _≤_, _<_}
 use native.Mathlib.Nat.{not-suc-le-zero, le-refl}
@@ -10,39 +9,14 @@ use native.Mathlib.Decide.{decLt}
 use lib.Dec.{T}
 use Rattle.paths.specs.Model.{Model}
 use Rattle.paths.specs.Paths.{IsPath}
+use Rattle.paths.specs.inner.Monitor.{Monitor, Edge, Start, run, Reach, begin, more, BadPath, BadNode}
 use Rattle.paths.proofs.Any.{till, till-below, till-at}
 
--- start x: the state at x0; step s e y: the state after the event e to y; bad s: what is looked for at an end
-pub record Monitor : Type 1 where
-  pub State : Type 0
-  pub start : ℕ → State
-  pub step : State → ℕ → ℕ → State
-  pub bad : State → Bool
-
--- one state: nothing is asked of a path but that it is one
-abbrev pub plain : Monitor
-plain = record { State = ℕ; start = λ x. 0; step = λ s e y. 0; bad = λ s. true }
-
 module _ (M : Model) where
-  open Model M using (flow, context, held, legs, σ, σe, γe)
-
-  -- a step that a path may take: not from σn, not from σe, not by γe
-  pub record Edge (x e y : ℕ) : Type 0 where
-    pub into : T (context y)
-    pub flows : T (flow x e y)
-    pub first : ¬ T (σ legs x)
-    pub free : ¬ T (σe x)
-    pub freeE : ¬ T (γe e)
-
-  pub record Start (x : ℕ) : Type 0 where
-    pub context-at : T (context x)
-    pub starts : T (σ 0 x)
-    pub meets : T (held x)
-
-  start-of : {m : ℕ} {x e : ℕ → ℕ} → IsPath M m x e → Start (x 0)
+  start-of : {m : ℕ} {x e : ℕ → ℕ} → IsPath M m x e → Start M (x 0)
   start-of P = record { context-at = P .contexts 0 (omega arith); starts = P .starts; meets = P .meets }
 
-  edge-of : {m : ℕ} {x e : ℕ → ℕ} → IsPath M m x e → (j : ℕ) → j < m → Edge (x j) (e j) (x (suc j))
+  edge-of : {m : ℕ} {x e : ℕ → ℕ} → IsPath M m x e → (j : ℕ) → j < m → Edge M (x j) (e j) (x (suc j))
   edge-of P j h =
       record {
         into = P .contexts (suc j) (omega arith);
@@ -56,20 +30,15 @@ module _ (M : Model) where
 module _ (A : Monitor) where
   open Monitor A using (State, start, step)
 
-  -- the state after j events
-  abbrev pub run : (ℕ → ℕ) → (ℕ → ℕ) → ℕ → State
-  run x e zero = start (x 0)
-  run x e (suc j) = step (run x e j) (e j) (x (suc j))
-
   -- the states of a walk that is at hand
   pub run-is : (x e : ℕ → ℕ) (s : ℕ → State) (m : ℕ) → s 0 ≡ start (x 0) →
-      ((j : ℕ) → j < m → s (suc j) ≡ step (s j) (e j) (x (suc j))) → run x e m ≡ s m
+      ((j : ℕ) → j < m → s (suc j) ≡ step (s j) (e j) (x (suc j))) → run A x e m ≡ s m
   run-is x e s zero p q = sym p
   run-is x e s (suc m) p q =
       ap (λ t. step t (e m) (x (suc m))) (run-is x e s m p (λ j h. q j (omega arith))) ∙ sym (q m (omega arith))
 
   -- only x 0 to x m and e 0 to e (m − 1) count
-  pub run-same : (x y e f : ℕ → ℕ) (m : ℕ) → ((j : ℕ) → j ≤ m → x j ≡ y j) → ((j : ℕ) → j < m → e j ≡ f j) → run x e m ≡ run y f m
+  pub run-same : (x y e f : ℕ → ℕ) (m : ℕ) → ((j : ℕ) → j ≤ m → x j ≡ y j) → ((j : ℕ) → j < m → e j ≡ f j) → run A x e m ≡ run A y f m
   run-same x y e f zero p q = ap start (p 0 (omega arith))
   run-same x y e f (suc m) p q =
       cc (run-same x y e f m (λ j h. p j (omega arith)) (λ j h. q j (omega arith)), p (suc m) (omega arith), q m (omega arith))
@@ -79,26 +48,7 @@ module _ (M : Model) (A : Monitor) where
   open Model M using (context, legs, σ)
   open Monitor A using (State, start, step, bad)
 
-  -- the node (x, s) is d steps from some start
-  pub data Reach : ℕ → ℕ → State → Type 0 where
-    begin : {x : ℕ} → Start M x → Reach 0 x (start x)
-    more : {d x : ℕ} {s : State} (e y : ℕ) → Reach d x s → Edge M x e y → Reach (suc d) y (step s e y)
-
-  -- a path with a bad end, and a bad node at which paths end
-  pub record BadPath (m : ℕ) : Type 0 where
-    pub x : ℕ → ℕ
-    pub e : ℕ → ℕ
-    pub path : IsPath M m x e
-    pub verdict : T (bad (run A x e m))
-
-  pub record BadNode (m : ℕ) : Type 0 where
-    pub x : ℕ
-    pub s : State
-    pub reach : Reach m x s
-    pub arrives : T (σ legs x)
-    pub verdict : T (bad s)
-
-  pub reach-of : {m : ℕ} {x e : ℕ → ℕ} → IsPath M m x e → (j : ℕ) → j ≤ m → Reach j (x j) (run A x e j)
+  pub reach-of : {m : ℕ} {x e : ℕ → ℕ} → IsPath M m x e → (j : ℕ) → j ≤ m → Reach M A j (x j) (run A x e j)
   reach-of P zero h = begin (start-of M P)
   reach-of {x = x} {e = e} P (suc j) h = more (e j) (x (suc j)) (reach-of P j (omega arith)) (edge-of M P j h)
 
@@ -141,7 +91,7 @@ module _ (M : Model) (A : Monitor) where
             till-at d (λ i. w .x (suc i)) y,
           )
 
-  pub walk-of : {m v : ℕ} {s : State} → Reach m v s → Walk m v s
+  pub walk-of : {m v : ℕ} {s : State} → Reach M A m v s → Walk m v s
   walk-of (begin {x = x} t) =
       record { x = λ j. x; e = λ j. 0; starts = t; edges = λ j h. absurd (not-suc-le-zero h); last = refl; state = refl }
   walk-of (more e y r g) = extend e y g (walk-of r)
@@ -163,10 +113,10 @@ module _ (M : Model) (A : Monitor) where
         freeE = λ j h. w .edges j (omega arith) .freeE;
       }
 
-  pub bad-iff : (m : ℕ) → BadPath m ↔ BadNode m
+  pub bad-iff : (m : ℕ) → BadPath M A m ↔ BadNode M A m
   bad-iff m = (there, back)
     where
-      there : BadPath m → BadNode m
+      there : BadPath M A m → BadNode M A m
       there b =
           record {
             x = b .x m;
@@ -176,5 +126,5 @@ module _ (M : Model) (A : Monitor) where
             verdict = b .verdict;
           }
 
-      back : BadNode m → BadPath m
+      back : BadNode M A m → BadPath M A m
       back b = let w = walk-of (b .reach) in record { x = w .x; e = w .e; path = path-of w (b .arrives); verdict = rw (w .state) (b .verdict) }

@@ -8,16 +8,8 @@ use native.Mathlib.Decide.{decLt}
 use native.Mathlib.Omega.{arith}
 use lib.Dec.{eqb, eqb·suc-zero}
 use Rattle.base.specs.Bits.{bit}
+use Rattle.paths.specs.inner.Pack.{digit, pack}
 use Rattle.base.proofs.BitLaws.{bit-shr, bit-zero, bit-above, bit-ext}
-
-abbrev pub digit : Bool → ℕ
-digit true = 1
-digit false = 0
-
--- the number whose bit i is f i, for the i below k, and 0 from k on
-abbrev pub pack : ℕ → (ℕ → Bool) → ℕ
-pack zero f = 0
-pack (suc k) f = digit (f 0) + 2 * pack k (λ i. f (suc i))
 
 pub digit-lt : (b : Bool) → digit b < 2
 digit-lt true = omega arith

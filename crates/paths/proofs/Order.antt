@@ -5,11 +5,12 @@ use mathlib.Core.Logic.{_↔_}
 use Prim.Native.Nat.{ℕ, zero, suc, _<_}
 use native.Mathlib.Omega.{arith}
 use lib.Dec.{T, ltb, ltb→lt, lt→ltb, T-not, not-T}
-use Rattle.paths.specs.Below.{anyBelow}
+use Rattle.paths.specs.inner.Below.{anyBelow}
 use Rattle.paths.specs.Model.{Model}
 use Rattle.paths.specs.Paths.{BreaksOrder}
+use Rattle.paths.specs.inner.Monitors.{breaks}
 use Rattle.paths.proofs.Any.{any-witness, any-of, and-T}
-use Rattle.paths.proofs.Monitor.{Monitor, run}
+use Rattle.paths.specs.inner.Monitor.{Monitor, run}
 
 pub record Track : Type 0 where
   pub seen : ℕ → Bool
@@ -18,15 +19,11 @@ pub record Track : Type 0 where
 module _ (M : Model) where
   open Model M using (legs, σ)
 
-  -- x is in σ(i + 1) for some i, 0 < i < n, that is not among those seen
-  abbrev pub breaks : (ℕ → Bool) → ℕ → Bool
-  breaks seen x = anyBelow legs (λ i. ltb 0 i && (σ (suc i) x && not (seen i)))
-
   abbrev pub tracker : Monitor
   tracker = record {
     State = Track;
-    start = λ x. record { seen = λ i. σ i x; broken = breaks (λ i. false) x };
-    step = λ s e y. record { seen = λ i. s .seen i || σ i y; broken = s .broken || breaks (s .seen) y };
+    start = λ x. record { seen = λ i. σ i x; broken = breaks M (λ i. false) x };
+    step = λ s e y. record { seen = λ i. s .seen i || σ i y; broken = s .broken || breaks M (s .seen) y };
     bad = λ s. s .broken;
   }
 
@@ -35,16 +32,16 @@ module _ (M : Model) where
     abbrev before : ℕ → ℕ → Bool
     before j i = anyBelow j (λ l. σ i (x l))
 
-    tracked : (j : ℕ) → run tracker x e j ≡ record { seen = before (suc j); broken = anyBelow (suc j) (λ k. breaks (before k) (x k)) }
+    tracked : (j : ℕ) → run tracker x e j ≡ record { seen = before (suc j); broken = anyBelow (suc j) (λ k. breaks M (before k) (x k)) }
     tracked zero = refl
     tracked (suc j) = ap (λ s. tracker .step s (e j) (x (suc j))) (tracked j)
 
     pub broken-iff : (m : ℕ) → T (run tracker x e m .broken) ↔ BreaksOrder M m x
     broken-iff m = (λ t. there (rw (tracked m) at t), λ b. rw (tracked m) (back b))
       where
-        there : T (anyBelow (suc m) (λ k. breaks (before k) (x k))) → BreaksOrder M m x
+        there : T (anyBelow (suc m) (λ k. breaks M (before k) (x k))) → BreaksOrder M m x
         there t =
-            let (j, hj, tj) = any-witness (suc m) (λ k. breaks (before k) (x k)) t in
+            let (j, hj, tj) = any-witness (suc m) (λ k. breaks M (before k) (x k)) t in
             let (i, hi, ti) = any-witness legs (λ i. ltb 0 i && (σ (suc i) (x j) && not (before j i))) tj in
             let (above, rest) = and-T (ltb 0 i) (σ (suc i) (x j) && not (before j i)) .0 ti in
             let (reached, none) = and-T (σ (suc i) (x j)) (not (before j i)) .0 rest in
@@ -58,12 +55,12 @@ module _ (M : Model) where
               unreleased = λ l h s. T-not (before j i) none (any-of j (λ l. σ i (x l)) l (omega arith) s);
             }
 
-        back : BreaksOrder M m x → T (anyBelow (suc m) (λ k. breaks (before k) (x k)))
+        back : BreaksOrder M m x → T (anyBelow (suc m) (λ k. breaks M (before k) (x k)))
         back b =
             let h : b .j < suc m = omega (arith, b .within) in
             let hi : b .i < legs = omega (arith, b .below) in
             let positive : 0 < b .i = omega (arith, b .above) in
-            any-of (suc m) (λ k. breaks (before k) (x k)) (b .j) h
+            any-of (suc m) (λ k. breaks M (before k) (x k)) (b .j) h
             (any-of legs (λ i. ltb 0 i && (σ (suc i) (x (b .j)) && not (before (b .j) i))) (b .i) hi
             (and-T (ltb 0 (b .i)) (σ (suc (b .i)) (x (b .j)) && not (before (b .j) (b .i))) .1 (
               lt→ltb 0 (b .i) positive,

@@ -13,10 +13,9 @@ use borrow.Author.Tests.{lt-ltb, le-ltb}
 use Rattle.base.specs.Bits.{bit}
 use Rattle.base.proofs.BitLaws.{bit-and, bit-or, bit-mod, bit-shl, bit-shl-low}
 use Rattle.paths.specs.Model.{Model}
-use Rattle.paths.specs.Stages.{goesOn, entered, stageAfter, Advanced}
+use Rattle.paths.specs.inner.Stages.{goesOn, entered, stageAfter, Advanced}
 use Rattle.paths.proofs.Numbers.{bits-all, pack-is}
-use Rattle.paths.proofs.Events.{goes, enters, opens}
-use Rattle.paths.proofs.Monitors.{stagerN}
+use Rattle.paths.specs.inner.Monitors.{goes, enters, opens, stagerN}
 
 -- ---- what the code computes
 abbrev pub liveIn : (w s e n : ℕ) → ℕ

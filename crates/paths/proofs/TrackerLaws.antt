@@ -13,13 +13,14 @@ use borrow.Author.Tests.{lt-ltb, le-ltb, eq-eqb, ne-eqb, eqb-true, eqb-false}
 use Rattle.base.specs.Bits.{bit}
 use Rattle.base.proofs.BitLaws.{bit-and, bit-or, bit-mod, bit-zero, bit-above}
 use Rattle.paths.specs.Model.{Model}
-use Rattle.paths.specs.Below.{anyBelow}
-use Rattle.paths.specs.Tracker.{tooEarly, trackAfter, Tracked}
+use Rattle.paths.specs.inner.Below.{anyBelow}
+use Rattle.paths.specs.inner.Tracker.{tooEarly, trackAfter, Tracked}
 use Rattle.paths.proofs.Any.{any-witness, any-of, any-same, and-T, T-dec, same-test}
-use Rattle.paths.proofs.Numbers.{digit, pack, bit-pack, pack-lt, pack-is, bits-all, bit-half, bit-one, bit-first, bit-suc}
+use Rattle.paths.specs.inner.Pack.{digit, pack}
+use Rattle.paths.proofs.Numbers.{bit-pack, pack-lt, pack-is, bits-all, bit-half, bit-one, bit-first, bit-suc}
 use Rattle.paths.proofs.StageLaws.{one-shl}
-use Rattle.paths.proofs.Order.{breaks}
-use Rattle.paths.proofs.Monitors.{withBroken, trackerN, breaks-same}
+use Rattle.paths.specs.inner.Monitors.{breaks, withBroken, trackerN}
+use Rattle.paths.proofs.Monitors.{breaks-same}
 
 -- ---- what the code computes
 abbrev pub belowIn : (w n : ℕ) → ℕ
@@ -183,10 +184,10 @@ module _ (M : Model) (y c : ℕ) (some-leg : 0 < M .legs) (hc : (i : ℕ) → 0 
   pub track-is : {s x : ℕ} (e : ℕ) → Tracked s c legs x → x ≡ trackerN M .step s e y
   unfolding trackAfter
   track-is {s} {x} e a =
-      pack-is legs (withBroken M (bit s 0 || breaks M (bit s) y) (λ i. bit s i || σ i y)) x
+      pack-is legs (withBroken (bit s 0 || breaks M (bit s) y) (λ i. bit s i || σ i y)) x
       (λ i h. a .at i ∙ at i h) (λ i h. a .at i ∙ none-from s i h)
     where
-      at : (i : ℕ) → i < legs → trackAfter s c legs i ≡ withBroken M (bit s 0 || breaks M (bit s) y) (λ i. bit s i || σ i y) i
+      at : (i : ℕ) → i < legs → trackAfter s c legs i ≡ withBroken (bit s 0 || breaks M (bit s) y) (λ i. bit s i || σ i y) i
       at zero h = rw (early-breaks s)
       at (suc i) h = rw (lt-ltb (suc i) legs h, hc (suc i) (omega arith) (omega arith))
 
@@ -194,9 +195,9 @@ module _ (M : Model) (y c : ℕ) (some-leg : 0 < M .legs) (hc : (i : ℕ) → 0 
   pub begin-is : {x : ℕ} → Tracked 0 c legs x → x ≡ trackerN M .start y
   unfolding trackAfter
   begin-is {x} a =
-      pack-is legs (withBroken M (breaks M (λ i. false) y) (λ i. σ i y)) x
+      pack-is legs (withBroken (breaks M (λ i. false) y) (λ i. σ i y)) x
       (λ i h. a .at i ∙ at i h) (λ i h. a .at i ∙ none-from 0 i h)
     where
-      at : (i : ℕ) → i < legs → trackAfter 0 c legs i ≡ withBroken M (breaks M (λ i. false) y) (λ i. σ i y) i
+      at : (i : ℕ) → i < legs → trackAfter 0 c legs i ≡ withBroken (breaks M (λ i. false) y) (λ i. σ i y) i
       at zero h = rw (bit-zero 0, early-breaks 0) (breaks-same M (bit 0) (λ i. false) (λ i p q. bit-zero i) y)
       at (suc i) h = rw (lt-ltb (suc i) legs h, bit-zero (suc i), hc (suc i) (omega arith) (omega arith))

@@ -8,30 +8,13 @@ use native.Mathlib.Decide.{decLe, decLt}
 use lib.Dec.{T}
 use Rattle.paths.specs.Model.{Model}
 use Rattle.paths.specs.Paths.{IsPath, BreaksOrder, BreaksEvents, SomeOrder, SomeEvents, OrderAt, EventsAt}
-use Rattle.paths.specs.Answer.{Answer, holds, order, events, Right}
-use Rattle.paths.proofs.Monitor.{Monitor, BadNode, run-same}
+use Rattle.paths.specs.inner.Answer.{Answer, holds, order, events, Right}
+use Rattle.paths.specs.inner.Monitor.{BadNode}
+use Rattle.paths.specs.inner.Verdict.{Found, at, nowhere, Least, answerBy, answer}
+use Rattle.paths.proofs.Monitor.{run-same}
 use Rattle.paths.proofs.Events.{stager, follows-iff}
-use Rattle.paths.proofs.Monitors.{trackerN, stagerN, order-iff, events-iff}
-
--- what a search finds: the least number of steps, or nothing
-pub data Found : Type 0 where
-  at : ℕ → Found
-  nowhere : Found
-
-abbrev pub Least : Model → Monitor → Found → Type 0
-Least M A (at m) = BadNode M A m × ((k : ℕ) → k < m → ¬ BadNode M A k)
-Least M A nowhere = (k : ℕ) → ¬ BadNode M A k
-
-abbrev pub answerBy : {P : Type 0} → Dec P → Answer → Answer → Answer
-answerBy (yes h) a b = a
-answerBy (no h) a b = b
-
--- what the search for order and the search for events come to: the fewer steps, and order on a tie
-abbrev pub answer : Found → Found → Answer
-answer (at m) (at k) = answerBy (decLe m k) (order m) (events k)
-answer (at m) nowhere = order m
-answer nowhere (at k) = events k
-answer nowhere nowhere = holds
+use Rattle.paths.specs.inner.Monitors.{trackerN, stagerN}
+use Rattle.paths.proofs.Monitors.{order-iff, events-iff}
 
 module _ (M : Model) where
   mixed : (m k : ℕ) → OrderAt M m → EventsAt M k → ⊥

@@ -4,8 +4,8 @@ use mathlib.Core.Bool.{Bool}
 use Prim.Native.Nat.{ℕ}
 
 pub record Model : Type 0 where
-  -- flow x e y: "flow from x to y by e"
-  pub flow : ℕ → ℕ → ℕ → Bool
+  -- flowBy x e y: "flow from x to y by e"
+  pub flowBy : ℕ → ℕ → ℕ → Bool
   -- context x: its type, role and user are "each from 1 to the policy's count"
   pub context : ℕ → Bool
   -- held x: it "meets ρ and μ"

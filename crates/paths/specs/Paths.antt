@@ -7,7 +7,7 @@ use lib.Dec.{T}
 use Rattle.paths.specs.Model.{Model}
 
 module _ (M : Model) where
-  open Model M using (flow, context, held, legs, σ, γ, repeated, σe, γe)
+  open Model M using (flowBy, context, held, legs, σ, γ, repeated, σe, γe)
 
   -- Defined term: path. "A path is contexts x0 to xm, .., and events e0 to e(m−1), m ≥ 0": x 0 to x m and e 0 to e (m − 1).
   -- What x and e are further on counts for nothing. "m is the number of steps".
@@ -15,7 +15,7 @@ module _ (M : Model) where
     -- "their types, roles and users each from 1 to the policy's count"
     pub contexts : (j : ℕ) → j ≤ m → T (context (x j))
     -- "with flow from xj to x(j+1) by ej"
-    pub flows : (j : ℕ) → j < m → T (flow (x j) (e j) (x (suc j)))
+    pub flows : (j : ℕ) → j < m → T (flowBy (x j) (e j) (x (suc j)))
     -- "x0 is in σ0"
     pub starts : T (σ 0 (x 0))
     -- "and meets ρ and μ"

@@ -1,6 +1,6 @@
 // The stages that are still possible on a path.
 ghost use Prim.Native.Nat.{_<_};
-ghost use Rattle.paths.specs.Stages.{Advanced};
+ghost use Rattle.paths.specs.inner.Stages.{Advanced};
 
 // The stages possible after a step, from those before it. Bit i of repeated says that leg i is repeated, bit i of in_event that
 // the event is in the set of leg i, bit i of in_context that the new context is in set i. The goal has n legs.

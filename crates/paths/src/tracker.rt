@@ -1,6 +1,6 @@
 // What order asks of the contexts of a path so far.
 ghost use Prim.Native.Nat.{_<_};
-ghost use Rattle.paths.specs.Tracker.{Tracked};
+ghost use Rattle.paths.specs.inner.Tracker.{Tracked};
 
 // The state after one more context; the state before the first is 0. Bit i of in_context says that the context is in set i.
 // Bit 0 of a state says that order is broken, and bit i, from 1 to n - 1, that set i has been met. The goal has n legs.

@@ -15,21 +15,20 @@ use Rattle.base.proofs.UptoLaws.{or-left, or-true}
 use Rattle.policy_image.specs.declared.counts.Counts.{Counts}
 use Rattle.policy_image.specs.Policy.{Policy, policyOf}
 use Rattle.policy_image.specs.Layout.{countsOf}
-use Rattle.policy_image.specs.Reading.{Counted}
-use Rattle.context.specs.Codes.{eventAt}
-use Rattle.context.specs.Places.{contextCount, contextAtIndex}
+use Rattle.policy_image.specs.inner.Reading.{Counted}
+use Rattle.context.specs.Codes.{eventAt, eventOf}
+use Rattle.context.specs.inner.Places.{contextCount, contextAtIndex}
 use Rattle.relations.specs.Relations.{α, flowsAs, writeLike, readLike}
-use Rattle.tables.specs.Tables.{FlowMasks}
-use Rattle.index.specs.Index.{Bears, Ranged}
-use Rattle.index.specs.Meaning.{AllowBlock, AllowIndex}
+use Rattle.tables.specs.inner.Tables.{FlowMasks}
+use Rattle.index.specs.inner.Index.{Bears, Ranged}
+use Rattle.index.specs.inner.Meaning.{AllowBlock, AllowIndex}
 use Rattle.index.proofs.MeaningLaws.{entry-towards, entry-from}
 use Rattle.goal_image.specs.Goal.{goalOf}
-use Rattle.goal_image.specs.Sets.{EventSets}
-use Rattle.context.specs.Codes.{eventOf}
-use Rattle.base.specs.Fill.{Filled}
+use Rattle.goal_image.specs.inner.Memberships.{EventSets}
+use Rattle.base.specs.inner.Fill.{Filled}
 use Rattle.base.proofs.FillLaws.{fill-begin, fill-more}
 use Rattle.plan.proofs.LeadLaws.{last-first}
-use Rattle.plan.specs.Plan.{Ready, firstAt, keyAt, outsAt, insAt, guardsAt, contextsAt, specialsAt, EntryOf, OfferBlock, Blocks, Tops, BlocksPut, GuardsOf, GuardsPut, LeadsPut, TablesPut, Known, Planned}
+use Rattle.plan.specs.inner.Plan.{Ready, firstAt, keyAt, outsAt, insAt, guardsAt, contextsAt, specialsAt, EntryOf, OfferBlock, Blocks, Tops, BlocksPut, GuardsOf, GuardsPut, LeadsPut, TablesPut, Known, Planned}
 
 -- ---- bounds
 module _ {s : List ℕ} {n : Counts} (R : Ready s n) where

@@ -18,17 +18,18 @@ use Rattle.policy_image.specs.Policy.{Policy}
 use Rattle.policy_image.specs.OfKind.{some}
 use Rattle.policy_image.specs.declared.counts.Counts.{Counts}
 use Rattle.context.specs.declared.Context.{Context}
-use Rattle.context.specs.Places.{contextCount, contextAtIndex}
+use Rattle.context.specs.inner.Places.{contextCount, contextAtIndex}
 use Rattle.context.proofs.PlaceLaws.{at-in-range}
 use Rattle.context.specs.declared.Event.{Event}
 use Rattle.context.specs.Codes.{eventAt, isTransition}
 use Rattle.constraints.specs.Constraints.{constrains}
 use Rattle.goal_image.specs.Goal.{Goal, isContextChain}
-use Rattle.goal_image.specs.Sets.{contextIn, ContextSets, EventSets}
-use Rattle.goal_model.specs.Images.{held}
-use Rattle.tables.specs.Tables.{ConstraintMasks, RoleTable, UserTable, RoleChanges}
-use Rattle.base.specs.Fill.{Filled}
-use Rattle.plan.specs.Plan.{Ready, special, TablesPut, Noted, Known}
+use Rattle.goal_image.specs.Sets.{contextIn}
+use Rattle.goal_image.specs.inner.Memberships.{ContextSets, EventSets}
+use Rattle.goal_model.specs.Images.{meetsρμ}
+use Rattle.tables.specs.inner.Tables.{ConstraintMasks, RoleTable, UserTable, RoleChanges}
+use Rattle.base.specs.inner.Fill.{Filled}
+use Rattle.plan.specs.inner.Plan.{Ready, special, TablesPut, Noted, Known}
 
 pub zero-plus : (c : ℕ) → 0 + c ≡ c
 zero-plus c = omega arith
@@ -72,7 +73,7 @@ module _ {g : Goal} {x : Context} {sets v : ℕ} {h : Bool} (S : ContextSets g x
 
   pub known-law : {p : Policy} {roles users : List ℕ} → RoleTable p roles → UserTable p users → x .ty < 256 → x .user < 16
       → h ≡ (bit (getD roles (x .ty) 0) (x .role) && bit (getD users (x .user) 0) (x .role)) → Known p g x v
-  unfolding held
+  unfolding meetsρμ
   known-law {p} {roles} {users} R U lt lu q =
       record {
         sets = record { at = λ i. low i (decLt i 15) };

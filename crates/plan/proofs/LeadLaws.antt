@@ -9,8 +9,9 @@ use borrow.Author.Tests.{not-true, not-false, eqb-true, eq-eqb, ne-eqb}
 use lib.Bits.{bitOr}
 use lib.Dec.{eqb}
 use lib.ListN.{length, getD, set, replicate}
-use Rattle.base.specs.Bits.{bit, Lowest, With, Without}
-use Rattle.base.specs.Fill.{Filled}
+use Rattle.base.specs.Bits.{bit}
+use Rattle.base.specs.inner.Masks.{Lowest, With, Without}
+use Rattle.base.specs.inner.Fill.{Filled}
 use Rattle.base.specs.Ranges.{Within}
 use Rattle.base.proofs.BitLaws.{bit-or, bit-zero}
 use Rattle.base.proofs.FillLaws.{fill-more}
@@ -19,10 +20,10 @@ use Rattle.base.proofs.UptoLaws.{clash, or-true, or-left, or-cases, and-true, a
 use Rattle.policy_image.specs.Policy.{Policy}
 use Rattle.context.specs.Codes.{eventAt, eventOf, isTransition}
 use Rattle.constraints.specs.Constraints.{constrains}
-use Rattle.tables.specs.Groups.{ConstraintGroups}
-use Rattle.plan.specs.Plan.{firstAt, keyAt, outsAt, insAt, eventsAt, leadsAt, Blocks, Alike, Leader, Leads, LeadsPut}
+use Rattle.tables.specs.inner.Groups.{ConstraintGroups}
+use Rattle.plan.specs.inner.Plan.{firstAt, keyAt, outsAt, insAt, eventsAt, leadsAt, Blocks, Alike, Leader, Leads, LeadsPut}
 use Rattle.plan.proofs.KnownLaws.{or-nothing, and-false, and-yes}
-use Rattle.plan.specs.Leads.{likes, WithIf, SameSets, AlikeTable, Led, Leading, EntryLeads}
+use Rattle.plan.specs.inner.Leads.{likes, WithIf, SameSets, AlikeTable, Led, Leading, EntryLeads}
 
 -- ---- events in the same sets
 pub sets-begin : (plan : List ℕ) (event group : ℕ) → SameSets plan event group 0 0

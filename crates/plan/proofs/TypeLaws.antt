@@ -12,13 +12,14 @@ use Rattle.base.proofs.UptoLaws.{clash, or-left, or-false, and-true, and-first,
 use Rattle.context.specs.declared.Context.{Context}
 use Rattle.context.specs.Codes.{contextAt}
 use Rattle.goal_image.specs.declared.records.ContextRecord.{ContextRecord}
-use Rattle.goal_image.specs.Goal.{Goal, linksOf, isContextChain}
+use Rattle.goal_image.specs.Goal.{Goal, goalLinks, isContextChain}
 use Rattle.goal_image.specs.Questions.{OneChainEach}
-use Rattle.goal_image.specs.Sets.{fits, matchesContext, contextIn, ContextSets}
+use Rattle.goal_image.specs.Sets.{fits, matchesContext, contextIn}
+use Rattle.goal_image.specs.inner.Memberships.{ContextSets}
 use Rattle.goal_image.proofs.SetLaws.{set-iff}
 use Rattle.goal_image.proofs.SortLaws.{context-below}
 use Rattle.plan.specs.declared.types.TypeSets.{TypeSets}
-use Rattle.plan.specs.Types.{NamesLess, ByType, AllByType, SetsOfType}
+use Rattle.plan.specs.inner.Types.{NamesLess, ByType, AllByType, SetsOfType}
 
 -- ---- a record
 pub other-type : {r : ContextRecord} {ty : ℕ} → (r .ty ≡ 0 → ⊥) → (r .ty ≡ ty → ⊥) → NamesLess r ty
@@ -44,7 +45,7 @@ module _ {r : ContextRecord} {ty : ℕ} (N : NamesLess r ty) (x y : Context) (ex
       (and-true (fits (r .role) (y .role)) (fits (r .user) (y .user)) (any (r .role) (y .role) (N .role f)) (any (r .user) (y .user) (N .user f)))
 
 -- ---- a chain
-pub by-type : {g : Goal} {ty h : ℕ} → OneChainEach g → h < 15 → ((i : ℕ) → OnChain (linksOf g) h i → NamesLess (g .context i) ty) → ByType g ty h
+pub by-type : {g : Goal} {ty h : ℕ} → OneChainEach g → h < 15 → ((i : ℕ) → OnChain (goalLinks g) h i → NamesLess (g .context i) ty) → ByType g ty h
 by-type {g} {ty} {h} O low N =
     record {
       same = λ x e.

@@ -1,3 +1,1 @@
-pub mod Plan
-pub mod Types
-pub mod Leads
+pub mod inner

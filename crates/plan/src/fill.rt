@@ -3,7 +3,7 @@ ghost use mathlib.Core.Path.{_≡_};
 ghost use Prim.Native.Nat.{_+_, _/_, _%_, _≤_};
 ghost use lib.Bits.{bitAnd};
 ghost use lib.ListN.{length, getD};
-ghost use Rattle.base.specs.Fill.{Filled};
+ghost use Rattle.base.specs.inner.Fill.{Filled};
 
 // Copies the first n entries of a table to the region at a place.
 pub fn put(plan: &mut [u32], at: usize, n: usize, table: &[u32])

@@ -14,11 +14,11 @@ use tables::groups::constraint_groups;
 ghost use mathlib.Core.Path.{_≡_};
 ghost use Prim.Native.Nat.{_≤_, _<_};
 ghost use lib.ListN.{length};
-ghost use Rattle.base.specs.Fill.{Filled};
+ghost use Rattle.base.specs.inner.Fill.{Filled};
 ghost use Rattle.policy_image.specs.Policy.{policyOf};
-ghost use Rattle.policy_check.specs.Sound.{Sound};
-ghost use Rattle.plan.specs.Plan.{Ready, Tops, LeadsPut};
-ghost use Rattle.plan.specs.Leads.{likes, WithIf, SameSets, AlikeTable, Leading, EntryLeads};
+ghost use Rattle.policy_check.specs.inner.Sound.{Sound};
+ghost use Rattle.plan.specs.inner.Plan.{Ready, Tops, LeadsPut};
+ghost use Rattle.plan.specs.inner.Leads.{likes, WithIf, SameSets, AlikeTable, Leading, EntryLeads};
 
 // The event of process transition, which is like no other.
 const TRANSITION: u32 = 32;

@@ -35,17 +35,17 @@ ghost use mathlib.Core.Bool.{_&&_};
 ghost use Prim.Native.Nat.{_+_, _*_, _≤_, _<_};
 ghost use lib.ListN.{length, getD};
 ghost use Rattle.policy_image.specs.Policy.{policyOf};
-ghost use Rattle.policy_check.specs.Sound.{Sound};
+ghost use Rattle.policy_check.specs.inner.Sound.{Sound};
 ghost use Rattle.context.specs.Codes.{eventOf};
-ghost use Rattle.context.specs.Places.{contextCount, contextAtIndex};
+ghost use Rattle.context.specs.inner.Places.{contextCount, contextAtIndex};
 ghost use Rattle.goal_image.specs.Goal.{goalOf};
-ghost use Rattle.goal_image.specs.Sets.{EventSets};
-ghost use Rattle.goal_image.specs.Sound.{SoundGoal};
-ghost use Rattle.goal_model.specs.Images.{held};
-ghost use Rattle.index.specs.Meaning.{AllowIndex};
-ghost use Rattle.base.specs.Fill.{Filled};
+ghost use Rattle.goal_image.specs.inner.Memberships.{EventSets};
+ghost use Rattle.goal_image.specs.inner.Sound.{SoundGoal};
+ghost use Rattle.goal_model.specs.Images.{meetsρμ};
+ghost use Rattle.index.specs.inner.Meaning.{AllowIndex};
+ghost use Rattle.base.specs.inner.Fill.{Filled};
 ghost use Rattle.base.specs.Bits.{bit};
-ghost use Rattle.plan.specs.Plan.{Ready, Lists, Tops, TablesPut, BlocksPut, GuardsOf, GuardsPut, Noted, Known, Planned};
+ghost use Rattle.plan.specs.inner.Plan.{Ready, Lists, Tops, TablesPut, BlocksPut, GuardsOf, GuardsPut, Noted, Known, Planned};
 
 // The classes' special permissions, and the roles' changes.
 fn put_tables(policy: &[u8], plan: &mut [u32])

@@ -11,9 +11,9 @@ ghost use mathlib.Core.Path.{_≡_};
 ghost use mathlib.Core.Bool.{true, false};
 ghost use Prim.Native.Nat.{suc, _<_};
 ghost use Rattle.goal_image.specs.Goal.{goalOf};
-ghost use Rattle.goal_image.specs.Sets.{ContextSets};
-ghost use Rattle.goal_image.specs.Sound.{SoundGoal};
-ghost use Rattle.plan.specs.Types.{NamesLess, ByType, AllByType, SetsOfType};
+ghost use Rattle.goal_image.specs.inner.Memberships.{ContextSets};
+ghost use Rattle.goal_image.specs.inner.Sound.{SoundGoal};
+ghost use Rattle.plan.specs.inner.Types.{NamesLess, ByType, AllByType, SetsOfType};
 
 // The sets that a context of the type is in by records that name no role and no user, and whether every context of the type is in
 // just these.

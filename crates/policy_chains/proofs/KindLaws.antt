@@ -10,7 +10,7 @@ use Rattle.base.specs.Chain.{OnChain}
 use Rattle.base.proofs.ChainLaws.{Visit, meets-low, meets-range, visit-end}
 use Rattle.base.proofs.UptoLaws.{or-true, or-left, or-false, and-true, and-first, and-second, true-or-false, any-yes, any-found, all-yes, all-no}
 use Rattle.policy_image.specs.declared.records.Record.{Record}
-use Rattle.policy_image.specs.Policy.{Policy, linksOf}
+use Rattle.policy_image.specs.Policy.{Policy, policyLinks}
 use Rattle.policy_image.specs.OfKind.{some, every}
 use Rattle.policy_chains.specs.Chains.{LinksRise, ChainsByKind}
 
@@ -22,22 +22,22 @@ pub record OfKind (p : Policy) (k i : ℕ) : Type 0 where
 
 module _ (p : Policy) (L : LinksRise p) (C : ChainsByKind p) (k : ℕ) (low : 1 ≤ k) (high : k ≤ 9) where
   -- a record on the chain is of the kind ..
-  pub chain-kind : (i : ℕ) → OnChain (linksOf p) k i → OfKind p k i
+  pub chain-kind : (i : ℕ) → OnChain (policyLinks p) k i → OfKind p k i
   chain-kind i r =
-      let m = meets-range (linksOf p) (L .nexts) (L .heads k low high) r in
-      record { low = meets-low (linksOf p) r; high = m .1; kind = C .kinds k i low high r }
+      let m = meets-range (policyLinks p) (L .nexts) (L .heads k low high) r in
+      record { low = meets-low (policyLinks p) r; high = m .1; kind = C .kinds k i low high r }
 
   -- .. and a record of the kind is on the chain
-  pub kind-chain : (i : ℕ) → OfKind p k i → OnChain (linksOf p) k i
-  kind-chain i o = subst (λ (x : ℕ). OnChain (linksOf p) x i) (o .kind) (C .all i (o .low) (o .high) .on)
+  pub kind-chain : (i : ℕ) → OfKind p k i → OnChain (policyLinks p) k i
+  kind-chain i o = subst (λ (x : ℕ). OnChain (policyLinks p) x i) (o .kind) (C .all i (o .low) (o .high) .on)
 
   -- the record where a loop along the chain stands is of the kind
-  pub visit-kind : (Q : ℕ → Type 0) (i : ℕ) → (i ≡ 0 → ⊥) → Visit (linksOf p) k Q i → OfKind p k i
+  pub visit-kind : (Q : ℕ → Type 0) (i : ℕ) → (i ≡ 0 → ⊥) → Visit (policyLinks p) k Q i → OfKind p k i
   visit-kind Q i n v = chain-kind i (v .on n)
 
   -- at the end of the loop Q holds of every record of the kind
-  pub visit-all : (Q : ℕ → Type 0) → Visit (linksOf p) k Q 0 → (i : ℕ) → OfKind p k i → Q i
-  visit-all Q v i o = visit-end (linksOf p) k (L .heads k low high) (L .nexts) Q v i (kind-chain i o)
+  pub visit-all : (Q : ℕ → Type 0) → Visit (policyLinks p) k Q 0 → (i : ℕ) → OfKind p k i → Q i
+  visit-all Q v i o = visit-end (policyLinks p) k (L .heads k low high) (L .nexts) Q v i (kind-chain i o)
 
 -- ---- what the records of a kind state, by the records
 module _ (p : Policy) (k : ℕ) (f : Record → Bool) where

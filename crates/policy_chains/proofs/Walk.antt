@@ -6,7 +6,7 @@ use mathlib.Core.Path.{_≡_, sym, subst, _∙_}
 use mathlib.Core.Logic.{_⊎_, inl, inr, ⊎-elim}
 use native.Mathlib.Nat.{eq-or-lt-of-le, eq-zero-or-pos}
 use native.Mathlib.Omega.{arith}
-use Rattle.policy_image.specs.Policy.{Policy, linksOf}
+use Rattle.policy_image.specs.Policy.{Policy, policyLinks}
 use Rattle.base.specs.Chain.{Meets, OnChain}
 use Rattle.base.specs.Chain.Meets.{here}
 use Rattle.base.proofs.Numbers.{split-eq, upto-none, upto-more}
@@ -15,9 +15,9 @@ use Rattle.policy_chains.specs.Chains.{LinksRise, OnItsChain, ChainsByKi
 
 -- cur k is where the chain of kind k goes on
 pub record Walk (p : Policy) (i : ℕ) (cur : ℕ → ℕ) : Type 0 where
-  pub met : (k j : ℕ) → 1 ≤ k → k ≤ 9 → OnChain (linksOf p) k j → ((j < i) × (p .rec j .kind ≡ k)) ⊎ Meets (linksOf p) (cur k) j
+  pub met : (k j : ℕ) → 1 ≤ k → k ≤ 9 → OnChain (policyLinks p) k j → ((j < i) × (p .rec j .kind ≡ k)) ⊎ Meets (policyLinks p) (cur k) j
   pub done : (j : ℕ) → 1 ≤ j → j < i → OnItsChain p j
-  pub on : (k : ℕ) → 1 ≤ k → k ≤ 9 → (cur k ≡ 0 → ⊥) → OnChain (linksOf p) k (cur k)
+  pub on : (k : ℕ) → 1 ≤ k → k ≤ 9 → (cur k ≡ 0 → ⊥) → OnChain (policyLinks p) k (cur k)
   pub most : (k : ℕ) → 1 ≤ k → k ≤ 9 → cur k ≤ p .size
   pub ahead : ChainsByKind p → (k : ℕ) → 1 ≤ k → k ≤ 9 → (cur k ≡ 0) ⊎ (i ≤ cur k)
 
@@ -25,9 +25,9 @@ module _ (p : Policy) (L : LinksRise p) where
   pub walk-start : (cur : ℕ → ℕ) → ((k : ℕ) → 1 ≤ k → k ≤ 9 → cur k ≡ p .head k) → Walk p 1 cur
   walk-start cur e =
       record {
-        met = λ k j a b r. inr (subst (λ (x : ℕ). Meets (linksOf p) x j) (sym (e k a b)) r);
+        met = λ k j a b r. inr (subst (λ (x : ℕ). Meets (policyLinks p) x j) (sym (e k a b)) r);
         done = upto-none _;
-        on = λ k a b n. subst (λ (x : ℕ). Meets (linksOf p) x (cur k)) (e k a b) (here n);
+        on = λ k a b n. subst (λ (x : ℕ). Meets (policyLinks p) x (cur k)) (e k a b) (here n);
         most = λ k a b. subst (λ (x : ℕ). x ≤ p .size) (sym (e k a b)) (L .heads k a b);
         ahead = λ C k a b. eq-zero-or-pos (cur k);
       }
@@ -39,8 +39,8 @@ module _ (p : Policy) (L : LinksRise p) where
         let k = p .rec i .kind in
         ⊎-elim (λ h. omega (arith, h .0))
         (λ r.
-        let le = meets-range (linksOf p) (L .nexts) (w .most k a b) r in
-        ⊎-elim (λ z. meets-zero (linksOf p) r z) (λ g. n (omega arith)) (w .ahead C k a b))
+        let le = meets-range (policyLinks p) (L .nexts) (w .most k a b) r in
+        ⊎-elim (λ z. meets-zero (policyLinks p) r z) (λ g. n (omega arith)) (w .ahead C k a b))
         (w .met k i a b (C .all i low high .on))
 
     -- the cursor of its kind stands at i and goes on to its next
@@ -58,30 +58,30 @@ module _ (p : Policy) (L : LinksRise p) where
         κ : ℕ
         κ = p .rec i .kind
 
-        onκ : OnChain (linksOf p) κ i
-        onκ = subst (λ (x : ℕ). OnChain (linksOf p) κ x) at (w .on κ a b (λ z. let o : ⊥ = omega (arith, at, z) in o))
+        onκ : OnChain (policyLinks p) κ i
+        onκ = subst (λ (x : ℕ). OnChain (policyLinks p) κ x) at (w .on κ a b (λ z. let o : ⊥ = omega (arith, at, z) in o))
 
-        met′ : (k j : ℕ) → 1 ≤ k → k ≤ 9 → OnChain (linksOf p) k j → ((j < i + 1) × (p .rec j .kind ≡ k)) ⊎ Meets (linksOf p) (cur′ k) j
+        met′ : (k j : ℕ) → 1 ≤ k → k ≤ 9 → OnChain (policyLinks p) k j → ((j < i + 1) × (p .rec j .kind ≡ k)) ⊎ Meets (policyLinks p) (cur′ k) j
         met′ k j x y r =
             ⊎-elim (λ h. inl (let l : j < i = h .0 in omega arith, h .1))
             (λ r′. ⊎-elim
             (λ e.
             ⊎-elim
             (λ q. inl (omega arith, subst (λ (z : ℕ). p .rec z .kind ≡ k) (sym q) (sym e)))
-            (λ r″. inr (subst (λ (z : ℕ). Meets (linksOf p) z j) (sym (subst (λ (z : ℕ). cur′ z ≡ p .rec i .next) (sym e) new)) r″))
-            (meets-step (linksOf p) (subst (λ (z : ℕ). Meets (linksOf p) z j) (subst (λ (z : ℕ). cur z ≡ i) (sym e) at) r′)))
-            (λ n. inr (subst (λ (z : ℕ). Meets (linksOf p) z j) (sym (old k n)) r′))
+            (λ r″. inr (subst (λ (z : ℕ). Meets (policyLinks p) z j) (sym (subst (λ (z : ℕ). cur′ z ≡ p .rec i .next) (sym e) new)) r″))
+            (meets-step (policyLinks p) (subst (λ (z : ℕ). Meets (policyLinks p) z j) (subst (λ (z : ℕ). cur z ≡ i) (sym e) at) r′)))
+            (λ n. inr (subst (λ (z : ℕ). Meets (policyLinks p) z j) (sym (old k n)) r′))
             (split-eq k κ))
             (w .met k j x y r)
 
-        on′ : (k : ℕ) → 1 ≤ k → k ≤ 9 → (cur′ k ≡ 0 → ⊥) → OnChain (linksOf p) k (cur′ k)
+        on′ : (k : ℕ) → 1 ≤ k → k ≤ 9 → (cur′ k ≡ 0 → ⊥) → OnChain (policyLinks p) k (cur′ k)
         on′ k x y n =
             ⊎-elim
             (λ e.
             let q : cur′ k ≡ p .rec i .next = subst (λ (z : ℕ). cur′ z ≡ p .rec i .next) (sym e) new in
-            subst (λ (z : ℕ). OnChain (linksOf p) k z) (sym q)
-            (meets-next (linksOf p) (subst (λ (z : ℕ). OnChain (linksOf p) z i) (sym e) onκ) (λ z. n (q ∙ z))))
-            (λ m. subst (λ (z : ℕ). OnChain (linksOf p) k z) (sym (old k m)) (w .on k x y (λ z. n (old k m ∙ z))))
+            subst (λ (z : ℕ). OnChain (policyLinks p) k z) (sym q)
+            (meets-next (policyLinks p) (subst (λ (z : ℕ). OnChain (policyLinks p) z i) (sym e) onκ) (λ z. n (q ∙ z))))
+            (λ m. subst (λ (z : ℕ). OnChain (policyLinks p) k z) (sym (old k m)) (w .on k x y (λ z. n (old k m ∙ z))))
             (split-eq k κ)
 
         most′ : (k : ℕ) → 1 ≤ k → k ≤ 9 → cur′ k ≤ p .size
@@ -103,7 +103,7 @@ module _ (p : Policy) (L : LinksRise p) where
             let q = old k m in
             ⊎-elim (λ z. inl (q ∙ z))
             (λ g. ⊎-elim
-            (λ h. absurd (m (sym (C .kinds k i x y (subst (λ (z : ℕ). OnChain (linksOf p) k z) (sym h) (w .on k x y (λ z. let o : ⊥ = omega arith in o)))))))
+            (λ h. absurd (m (sym (C .kinds k i x y (subst (λ (z : ℕ). OnChain (policyLinks p) k z) (sym h) (w .on k x y (λ z. let o : ⊥ = omega arith in o)))))))
             (λ h. inr (omega arith))
             (eq-or-lt-of-le g))
             (w .ahead C k x y))
@@ -114,7 +114,7 @@ module _ (p : Policy) (L : LinksRise p) where
     pub walk-end : ((k : ℕ) → 1 ≤ k → k ≤ 9 → cur k ≡ 0) → ChainsByKind p
     walk-end z =
         record {
-          kinds = λ k i a b r. ⊎-elim (λ h. h .1) (λ r′. absurd (meets-zero (linksOf p) r′ (z k a b))) (w .met k i a b r);
+          kinds = λ k i a b r. ⊎-elim (λ h. h .1) (λ r′. absurd (meets-zero (policyLinks p) r′ (z k a b))) (w .met k i a b r);
           all = λ i a b. w .done i a (omega arith);
         }
 

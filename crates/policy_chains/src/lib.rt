@@ -5,10 +5,10 @@ use policy_image::records::record_at;
 ghost use mathlib.Core.Path.{_≡_};
 ghost use Prim.Native.Nat.{ℕ, _≤_};
 ghost use lib.ListN.{getD};
-ghost use Rattle.base.specs.Decides.{Decides};
-ghost use Rattle.policy_image.specs.Layout.{Exact, headOf};
+ghost use Rattle.base.specs.inner.Decides.{Decides};
+ghost use Rattle.policy_image.specs.Layout.{PolicyExact, policyHead};
 ghost use Rattle.policy_image.specs.Policy.{policyOf};
-ghost use Rattle.policy_image.specs.Reading.{Counted};
+ghost use Rattle.policy_image.specs.inner.Reading.{Counted};
 ghost use Rattle.policy_chains.specs.Chains.{HeadsInRange, NextsRise, LinksRise, ChainsByKind};
 
 // Whether every head is at most N.
@@ -62,8 +62,8 @@ pub fn links_rise(image: &[u8], counts: Counts) -> bool
 
 // The nine heads, the head of kind k at k.
 fn heads(image: &[u8]) -> [usize; 10]
-    requires { ⌜ Exact (now image) ⌝ }
-    ensures { λ r. ⌜ ((k : ℕ) → 1 ≤ k → k ≤ 9 → getD r k 0 ≡ headOf (now (image .entry)) k) ⌝ }
+    requires { ⌜ PolicyExact (now image) ⌝ }
+    ensures { λ r. ⌜ ((k : ℕ) → 1 ≤ k → k ≤ 9 → getD r k 0 ≡ policyHead (now (image .entry)) k) ⌝ }
 {
     let mut c = [0usize; 10];
     let mut k = 1;

@@ -6,8 +6,9 @@ use Rattle.base.specs.Questions.{AllYes}
 use Rattle.base.proofs.QuestionLaws.{passed-not-refused, one-number}
 use Rattle.policy_image.specs.declared.counts.Checked.{Checked}
 use Rattle.policy_image.specs.declared.counts.Checked.the-variants.{Accepted, Refused}
-use Rattle.policy_check.specs.Answer.{PolicyAnswer, policyQuestions}
-use Rattle.policy_check.specs.Sound.{Sound}
+use Rattle.policy_check.specs.inner.Answer.{PolicyAnswer}
+use Rattle.policy_check.specs.Questions.{policyQuestions}
+use Rattle.policy_check.specs.inner.Sound.{Sound}
 
 -- two answers that the promise allows for one image are the same answer
 pub one-answer : (s : List ℕ) (q r : Checked) → PolicyAnswer s q → PolicyAnswer s r → q ≡ r

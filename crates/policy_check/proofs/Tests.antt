@@ -9,7 +9,7 @@ use native.Mathlib.Omega.{arith}
 use borrow.Author.Tests.{eqb-true, eqb-false}
 use lib.Dec.{leb, eqb}
 use lib.ListN.{length, drop}
-use Rattle.base.specs.Decides.{Decides}
+use Rattle.base.specs.inner.Decides.{Decides}
 use Rattle.base.specs.Ranges.{Within}
 use Rattle.base.specs.Upto.{allUpto}
 use Rattle.base.specs.Questions.{AllYes, RefusedWith}
@@ -17,24 +17,24 @@ use Rattle.base.proofs.Numbers.{split-eq, moved, moved-at, moved-off}
 use Rattle.base.proofs.Decide.{Says, says-yes, says-no, says-iff, dec-le, dec-eq, _both_, _or_, withinB, dec-within, dec-all}
 use Rattle.policy_image.specs.declared.records.Record.{Record}
 use Rattle.policy_image.specs.declared.counts.Counts.{Counts}
-use Rattle.policy_image.specs.Layout.{Exact, recordCount, countsOf}
+use Rattle.policy_image.specs.Layout.{PolicyExact, recordCount, countsOf}
 use Rattle.policy_image.specs.Counts.{CountsInRange}
 use Rattle.policy_image.specs.Policy.{Policy, policyOf}
 use Rattle.policy_chains.specs.Chains.{LinksRise, ChainsByKind}
 use Rattle.policy_chains.proofs.Walk.{Walk, walk-start, walk-step, walk-wrong, walk-end, walk-zero}
 use Rattle.policy_fields.specs.declared.Limits.{Limits}
-use Rattle.policy_fields.specs.Fields.{limitsOf, Meets, FieldsInRange}
+use Rattle.policy_fields.specs.Fields.{limitsOf, WithinLimits, FieldsInRange}
 use Rattle.policy_nodes.specs.declared.Use.{Use}
 use Rattle.policy_nodes.specs.declared.Use.the-variants.{Nothing, Node}
 use Rattle.policy_nodes.specs.Nodes.{UsedWell, NodesInOrder}
 use Rattle.policy_nodes.proofs.Marks.{usedAt, uses-at, Marks, marks-start, marks-nothing, marks-node, marks-twice, marks-end}
-use Rattle.policy_check.specs.Answer.{policyQuestions}
+use Rattle.policy_check.specs.Questions.{policyQuestions}
 
 -- ---- question 1
 abbrev pub exactB : List ℕ → Bool
 exactB s = leb 24 (length s) && (leb (recordCount s) 4095 && eqb (length s) (24 + 12 * recordCount s))
 
-pub dec-exact : (s : List ℕ) → Says (exactB s) (Exact s)
+pub dec-exact : (s : List ℕ) → Says (exactB s) (PolicyExact s)
 dec-exact s =
     says-iff (λ h. record { whole = h .0; few = h .1 .0; exact = h .1 .1 }) (λ h. (h .whole, (h .few, h .exact)))
     (dec-le 24 (length s) both dec-le (recordCount s) 4095 both dec-eq (length s) (24 + 12 * recordCount s))
@@ -112,7 +112,7 @@ meetsB l r =
     && (withinB (l .e .low) (l .e .high) (r .e)
     && withinB (l .mask .low) (l .mask .high) (r .mask)))))
 
-dec-meets : (l : Limits) (r : Record) → Says (meetsB l r) (Meets l r)
+dec-meets : (l : Limits) (r : Record) → Says (meetsB l r) (WithinLimits l r)
 dec-meets l r =
     says-iff (λ h. record { a = h .0; b = h .1 .0; c = h .1 .1 .0; d = h .1 .1 .1 .0; e = h .1 .1 .1 .1 .0; mask = h .1 .1 .1 .1 .1 })
     (λ h. (h .a, (h .b, (h .c, (h .d, (h .e, h .mask))))))

@@ -1,2 +1,2 @@
-pub mod Answer
-pub mod Sound
+pub mod Questions
+pub mod inner

@@ -5,7 +5,7 @@ use policy_fields::fields_in_range;
 use policy_image::counts::Checked;
 use policy_image::counts::check_counts;
 use policy_nodes::nodes_in_order;
-ghost use Rattle.policy_check.specs.Answer.{PolicyAnswer};
+ghost use Rattle.policy_check.specs.inner.Answer.{PolicyAnswer};
 
 // Accepted with the image's counts, or refused with the number of the first question whose answer is no.
 pub fn check(image: &[u8]) -> Checked

@@ -19,15 +19,15 @@ abbrev pub upTo : ℕ → Range
 upTo n = range 1 n
 
 -- "Fields not named below are 0"
-abbrev pub zero : Range
-zero = range 0 0
+abbrev pub unused : Range
+unused = range 0 0
 
 -- whatever the bytes of the field hold: one byte, or the four of a mask
-abbrev pub byte : Range
-byte = range 0 255
+abbrev pub anyByte : Range
+anyByte = range 0 255
 
-abbrev pub mask : Range
-mask = range 0 4294967295
+abbrev pub anyMask : Range
+anyMask = range 0 4294967295
 
 -- left alone, with right 0: the low half of the mask's bytes
 abbrev pub leftOnly : Range
@@ -39,27 +39,27 @@ limits a b c d e m = record { a = a; b = b; c = c; d = d; e = e; mask = m }
 
 -- ranges that no record meets
 abbrev pub none : Limits
-none = limits (range 1 0) zero zero zero zero zero
+none = limits (range 1 0) unused unused unused unused unused
 
 -- "9: expression node. a is the operator": by the operator, 0 being none
 abbrev pub nodeLimits : Counts → List Limits
 nodeLimits n =
     none
     -- 1 not, 2 and, 3 or
-    ∷ limits (upTo 12) zero zero zero zero leftOnly
-    ∷ limits (upTo 12) zero zero zero zero mask
-    ∷ limits (upTo 12) zero zero zero zero mask
+    ∷ limits (upTo 12) unused unused unused unused leftOnly
+    ∷ limits (upTo 12) unused unused unused unused anyMask
+    ∷ limits (upTo 12) unused unused unused unused anyMask
     -- 4 same type, 5 same role, 6 same user
-    ∷ limits (upTo 12) zero zero zero zero zero
-    ∷ limits (upTo 12) zero zero zero zero zero
-    ∷ limits (upTo 12) zero zero zero zero zero
+    ∷ limits (upTo 12) unused unused unused unused unused
+    ∷ limits (upTo 12) unused unused unused unused unused
+    ∷ limits (upTo 12) unused unused unused unused unused
     -- 7 t1 = b, 8 t2 = b, 9 r1 = b, 10 r2 = b, 11 u1 = b, 12 u2 = b
-    ∷ limits (upTo 12) (upTo (n .types)) zero zero zero zero
-    ∷ limits (upTo 12) (upTo (n .types)) zero zero zero zero
-    ∷ limits (upTo 12) (upTo (n .roles)) zero zero zero zero
-    ∷ limits (upTo 12) (upTo (n .roles)) zero zero zero zero
-    ∷ limits (upTo 12) (upTo (n .users)) zero zero zero zero
-    ∷ limits (upTo 12) (upTo (n .users)) zero zero zero zero
+    ∷ limits (upTo 12) (upTo (n .types)) unused unused unused unused
+    ∷ limits (upTo 12) (upTo (n .types)) unused unused unused unused
+    ∷ limits (upTo 12) (upTo (n .roles)) unused unused unused unused
+    ∷ limits (upTo 12) (upTo (n .roles)) unused unused unused unused
+    ∷ limits (upTo 12) (upTo (n .users)) unused unused unused unused
+    ∷ limits (upTo 12) (upTo (n .users)) unused unused unused unused
     ∷ []
 
 -- by the kind, 0 being none; op is field a
@@ -67,21 +67,21 @@ abbrev pub kindLimits : Counts → ℕ → List Limits
 kindLimits n op =
     none
     -- 1: type a is a domain
-    ∷ limits (upTo (n .types)) zero zero zero zero zero
+    ∷ limits (upTo (n .types)) unused unused unused unused unused
     -- 2: class a has the permissions in mask
-    ∷ limits (upTo (n .classes)) zero zero zero zero mask
+    ∷ limits (upTo (n .classes)) unused unused unused unused anyMask
     -- 3: class a, permissions in mask: b = 1 write-like, 2 read-like, 3 both
-    ∷ limits (upTo (n .classes)) (upTo 3) zero zero zero mask
+    ∷ limits (upTo (n .classes)) (upTo 3) unused unused unused anyMask
     -- 4: source type a may act on target type b in class c with mask; b = 0 means the source type itself
-    ∷ limits (upTo (n .types)) (range 0 (n .types)) (upTo (n .classes)) zero zero mask
+    ∷ limits (upTo (n .types)) (range 0 (n .types)) (upTo (n .classes)) unused unused anyMask
     -- 5: role a may hold type b
-    ∷ limits (upTo (n .roles)) (upTo (n .types)) zero zero zero zero
+    ∷ limits (upTo (n .roles)) (upTo (n .types)) unused unused unused unused
     -- 6: user a may hold role b
-    ∷ limits (upTo (n .users)) (upTo (n .roles)) zero zero zero zero
+    ∷ limits (upTo (n .users)) (upTo (n .roles)) unused unused unused unused
     -- 7: role a may change to role b
-    ∷ limits (upTo (n .roles)) (upTo (n .roles)) zero zero zero zero
+    ∷ limits (upTo (n .roles)) (upTo (n .roles)) unused unused unused unused
     -- 8: constraint on class a and mask; d (low) and e together are the number of its root node
-    ∷ limits (upTo (n .classes)) zero zero byte byte mask
+    ∷ limits (upTo (n .classes)) unused unused anyByte anyByte anyMask
     -- 9: expression node
     ∷ getD (nodeLimits n) op none
     ∷ []
@@ -90,7 +90,7 @@ abbrev pub limitsOf : Counts → ℕ → ℕ → Limits
 limitsOf n kind op = getD (kindLimits n op) kind none
 
 -- every field of r lies within its range
-pub record Meets (l : Limits) (r : Record) : Type 0 where
+pub record WithinLimits (l : Limits) (r : Record) : Type 0 where
   pub a : Within (l .a .low) (l .a .high) (r .a)
   pub b : Within (l .b .low) (l .b .high) (r .b)
   pub c : Within (l .c .low) (l .c .high) (r .c)
@@ -100,7 +100,7 @@ pub record Meets (l : Limits) (r : Record) : Type 0 where
 
 -- the ranges that the kind and the operator of r fix, for a policy with the counts n
 abbrev pub Fits : Counts → Record → Type 0
-Fits n r = Meets (limitsOf n (r .kind) (r .a)) r
+Fits n r = WithinLimits (limitsOf n (r .kind) (r .a)) r
 
 -- Question 5
 pub record FieldsInRange (p : Policy) : Type 0 where

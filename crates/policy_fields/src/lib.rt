@@ -5,10 +5,10 @@ use policy_image::records::Record;
 use policy_image::records::record_at;
 ghost use mathlib.Core.Path.{_≡_};
 ghost use lib.ListN.{getD};
-ghost use Rattle.base.specs.Decides.{Decides};
+ghost use Rattle.base.specs.inner.Decides.{Decides};
 ghost use Rattle.policy_image.specs.Policy.{policyOf};
-ghost use Rattle.policy_image.specs.Reading.{Counted};
-ghost use Rattle.policy_fields.specs.Fields.{limits, range, nodeLimits, limitsOf, none, Meets, FieldsInRange};
+ghost use Rattle.policy_image.specs.inner.Reading.{Counted};
+ghost use Rattle.policy_fields.specs.Fields.{limits, range, nodeLimits, limitsOf, none, WithinLimits, FieldsInRange};
 
 // The numbers from low to high.
 pub struct Range {
@@ -99,7 +99,7 @@ fn kind_limits(n: Counts, kind: u32, op: u32) -> Limits
 
 // Whether every field of r lies within its range.
 fn record_in_range(l: Limits, r: Record) -> bool
-    ensures { λ t. ⌜ Decides t (Meets l r) ⌝ }
+    ensures { λ t. ⌜ Decides t (WithinLimits l r) ⌝ }
 {
     if !within(l.a.low, l.a.high, r.a) {
         return false;

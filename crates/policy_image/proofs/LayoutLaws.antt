@@ -6,12 +6,12 @@ use native.Mathlib.Omega.{arith}
 use lib.ListN.{length, take, drop, length-take, length-drop}
 use borrow.Author.Tests.{le-leb, lt-leb}
 use Rattle.base.specs.Bytes.{byteAt, u16At}
-use Rattle.policy_image.specs.Layout.{Exact, recordCount, startOf, payloadOf, decoded, leftOf, rightOf}
+use Rattle.policy_image.specs.Layout.{PolicyExact, recordCount, recordStart, payloadOf, decoded, leftOf, rightOf}
 
 -- the ten bytes, where record k is there
-pub payload-there : (s : List ℕ) (k : ℕ) → 1 ≤ k → k ≤ 4095 → startOf k + 12 ≤ length s → payloadOf s k ≡ take 10 (drop (startOf k + 2) s)
+pub payload-there : (s : List ℕ) (k : ℕ) → 1 ≤ k → k ≤ 4095 → recordStart k + 12 ≤ length s → payloadOf s k ≡ take 10 (drop (recordStart k + 2) s)
 unfolding payloadOf
-payload-there s k a b e = simp (le-leb 1 k a, le-leb k 4095 b, le-leb (startOf k + 12) (length s) e)
+payload-there s k a b e = simp (le-leb 1 k a, le-leb k 4095 b, le-leb (recordStart k + 12) (length s) e)
 
 -- none, where it is not
 pub payload-low : (s : List ℕ) (k : ℕ) → k < 1 → payloadOf s k ≡ []
@@ -22,11 +22,11 @@ pub payload-high : (s : List ℕ) (k : ℕ) → 1 ≤ k → 4095 < k → payload
 unfolding payloadOf
 payload-high s k a b = simp (le-leb 1 k a, lt-leb k 4095 b)
 
-pub payload-short : (s : List ℕ) (k : ℕ) → 1 ≤ k → k ≤ 4095 → length s < startOf k + 12 → payloadOf s k ≡ []
+pub payload-short : (s : List ℕ) (k : ℕ) → 1 ≤ k → k ≤ 4095 → length s < recordStart k + 12 → payloadOf s k ≡ []
 unfolding payloadOf
-payload-short s k a b e = simp (le-leb 1 k a, le-leb k 4095 b, lt-leb (startOf k + 12) (length s) e)
+payload-short s k a b e = simp (le-leb 1 k a, le-leb k 4095 b, lt-leb (recordStart k + 12) (length s) e)
 
-pub payload-length : (s : List ℕ) (k : ℕ) → Exact s → 1 ≤ k → k ≤ recordCount s → length (payloadOf s k) ≡ 10
+pub payload-length : (s : List ℕ) (k : ℕ) → PolicyExact s → 1 ≤ k → k ≤ recordCount s → length (payloadOf s k) ≡ 10
 payload-length s k e l h =
     let f = e .few in
     let x = e .exact in

@@ -25,27 +25,27 @@ countsOf s =
     }
 
 -- "Bytes 6–23: nine chain heads of two bytes, for kinds 1 to 9"
-unfoldable pub headOf : List ℕ → ℕ → ℕ
-headOf s k = u16At s (4 + 2 * k)
+unfoldable pub policyHead : List ℕ → ℕ → ℕ
+policyHead s k = u16At s (4 + 2 * k)
 
 -- Question 1: "Is it at least 24 bytes, N at most 4,095, the length exact?"
 -- "The image is 24 + 12 × N bytes long."
-pub record Exact (s : List ℕ) : Type 0 where
+pub record PolicyExact (s : List ℕ) : Type 0 where
   pub whole : 24 ≤ length s
   pub few : recordCount s ≤ 4095
   pub exact : length s ≡ 24 + 12 * recordCount s
 
 -- "Records are numbered 1 to N; record k starts at 24 + 12 × (k − 1)."
-abbrev pub startOf : ℕ → ℕ
-startOf k = 24 + 12 * (k - 1)
+abbrev pub recordStart : ℕ → ℕ
+recordStart k = 24 + 12 * (k - 1)
 
 -- whether the twelve bytes of record k are there
 abbrev pub hasRecord : List ℕ → ℕ → Bool
-hasRecord s k = leb 1 k && (leb k 4095 && leb (startOf k + 12) (length s))
+hasRecord s k = leb 1 k && (leb k 4095 && leb (recordStart k + 12) (length s))
 
 -- "The rest of a record after its link is handed out as part of the image itself": ten bytes, none where there is no such record
 unfoldable pub payloadOf : List ℕ → ℕ → List ℕ
-payloadOf s k = cond (hasRecord s k) (take 10 (drop (startOf k + 2) s)) []
+payloadOf s k = cond (hasRecord s k) (take 10 (drop (recordStart k + 2) s)) []
 
 -- "A record: bytes 0–1 next, 2 kind, 3 a, 4 b, 5 c, 6 d, 7 e, 8–11 mask": from its link n and the rest p, which starts at byte 2
 unfoldable pub decoded : ℕ → List ℕ → Record
@@ -63,7 +63,7 @@ decoded n p =
 
 -- record k
 unfoldable pub recordOf : List ℕ → ℕ → Record
-recordOf s k = decoded (u16At s (startOf k)) (payloadOf s k)
+recordOf s k = decoded (u16At s (recordStart k)) (payloadOf s k)
 
 -- "d (low) and e together are the number of its root node"
 abbrev pub rootOf : Record → ℕ

@@ -4,7 +4,7 @@ use mathlib.Core.List.{List}
 use Rattle.base.specs.Chain.{Linked}
 use Rattle.policy_image.specs.declared.counts.Counts.{Counts}
 use Rattle.policy_image.specs.declared.records.Record.{Record}
-use Rattle.policy_image.specs.Layout.{recordCount, countsOf, headOf, recordOf}
+use Rattle.policy_image.specs.Layout.{recordCount, countsOf, policyHead, recordOf}
 
 -- its counts, its number of records N, the heads of the chains of kinds 1 to 9, and records 1 to N
 pub record Policy : Type 0 where
@@ -15,8 +15,8 @@ pub record Policy : Type 0 where
 
 -- the policy that the bytes of an image state
 abbrev pub policyOf : List ℕ → Policy
-policyOf s = record { counts = countsOf s; size = recordCount s; head = headOf s; rec = recordOf s }
+policyOf s = record { counts = countsOf s; size = recordCount s; head = policyHead s; rec = recordOf s }
 
 -- its records as chains
-abbrev pub linksOf : Policy → Linked
-linksOf p = record { size = p .size; head = p .head; next = λ i. p .rec i .next }
+abbrev pub policyLinks : Policy → Linked
+policyLinks p = record { size = p .size; head = p .head; next = λ i. p .rec i .next }

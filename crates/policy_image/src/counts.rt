@@ -2,8 +2,9 @@
 use base::bytes::u16_at;
 use base::bytes::wide;
 use base::ranges::within;
-ghost use Rattle.base.specs.Decides.{Decides};
-ghost use Rattle.policy_image.specs.Counts.{CountsInRange, CountsAnswer};
+ghost use Rattle.base.specs.inner.Decides.{Decides};
+ghost use Rattle.policy_image.specs.Counts.{CountsInRange};
+ghost use Rattle.policy_image.specs.inner.Answer.{CountsAnswer};
 
 // How many types, roles, users, classes and records a policy has.
 pub struct Counts {

@@ -5,8 +5,8 @@ use base::bytes::wide;
 ghost use mathlib.Core.Path.{_≡_};
 ghost use Prim.Native.Nat.{_≤_};
 ghost use lib.ListN.{length};
-ghost use Rattle.policy_image.specs.Layout.{Exact, recordCount, payloadOf, decoded, recordOf, headOf};
-ghost use Rattle.policy_image.specs.Reading.{Bytes, Reads};
+ghost use Rattle.policy_image.specs.Layout.{PolicyExact, recordCount, payloadOf, decoded, recordOf, policyHead};
+ghost use Rattle.policy_image.specs.inner.Reading.{Bytes, Reads};
 
 // A record, decoded. The bytes of the mask are also the numbers of an expression node's children.
 pub struct Record {
@@ -40,7 +40,7 @@ pub fn payload(image: &[u8], k: usize) -> &[u8]
 
 // The number of record k's follower on its chain, 0 for none.
 fn link(image: &[u8], k: usize) -> usize
-    requires { ⌜ Exact (now image) × (1 ≤ k) × (k ≤ recordCount (now image)) ⌝ }
+    requires { ⌜ PolicyExact (now image) × (1 ≤ k) × (k ≤ recordCount (now image)) ⌝ }
     ensures { λ r. ⌜ r ≡ recordOf (now (image .entry)) k .next ⌝ }
 {
     u16_at(image, 24 + 12 * (k - 1)) as usize
@@ -65,7 +65,7 @@ fn decode(next: usize, p: &[u8]) -> Record
 
 // Record k.
 pub fn record_at(image: &[u8], k: usize) -> Record
-    requires { ⌜ Exact (now image) × (1 ≤ k) × (k ≤ recordCount (now image)) ⌝ }
+    requires { ⌜ PolicyExact (now image) × (1 ≤ k) × (k ≤ recordCount (now image)) ⌝ }
     ensures { λ r. ⌜ Reads (now (image .entry)) k r ⌝ }
 {
     let next = link(image, k);
@@ -74,8 +74,8 @@ pub fn record_at(image: &[u8], k: usize) -> Record
 
 // The head of the chain of kind k.
 pub fn head_at(image: &[u8], k: usize) -> usize
-    requires { ⌜ Exact (now image) × (1 ≤ k) × (k ≤ 9) ⌝ }
-    ensures { λ r. ⌜ r ≡ headOf (now (image .entry)) k ⌝ }
+    requires { ⌜ PolicyExact (now image) × (1 ≤ k) × (k ≤ 9) ⌝ }
+    ensures { λ r. ⌜ r ≡ policyHead (now (image .entry)) k ⌝ }
 {
     u16_at(image, 4 + 2 * k) as usize
 }

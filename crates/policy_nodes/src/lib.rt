@@ -4,9 +4,9 @@ use policy_image::records::Record;
 use policy_image::records::record_at;
 ghost use mathlib.Core.Path.{_≡_};
 ghost use Prim.Native.Nat.{_<_};
-ghost use Rattle.base.specs.Decides.{Decides};
+ghost use Rattle.base.specs.inner.Decides.{Decides};
 ghost use Rattle.policy_image.specs.Policy.{policyOf};
-ghost use Rattle.policy_image.specs.Reading.{Counted};
+ghost use Rattle.policy_image.specs.inner.Reading.{Counted};
 ghost use Rattle.policy_nodes.specs.Nodes.{useOf, UsedWell, NodesInOrder};
 
 // What a record uses at one of its two places.

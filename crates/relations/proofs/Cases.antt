@@ -7,8 +7,8 @@ use Rattle.base.specs.Bits.{bit}
 use Rattle.policy_image.specs.Layout.{recordCount, recordOf, payloadOf, decoded}
 use Rattle.policy_image.specs.Policy.{policyOf}
 use Rattle.policy_image.specs.OfKind.{some}
-use Rattle.policy_image.specs.Written.{image, line, domain as domain-record, permissions, flow, allow, roleType, userRole, roleChange as role-change-record}
-use Rattle.policy_image.specs.Weir.{weir, weirAllow31}
+use Rattle.policy_image.specs.cases.Written.{image, line, domain as domain-record, permissions, flow, allow, roleType, userRole, roleChange as role-change-record}
+use Rattle.policy_image.specs.cases.Weir.{weir, weirAllow31}
 use Rattle.context.specs.Codes.{eventAt as event}
 use Rattle.relations.specs.Relations.{domain, Γ, writeLike, readLike, allowed, α, ρ, μ, roleChange}
 

@@ -10,13 +10,13 @@ use Rattle.base.specs.Bits.{bit}
 use Rattle.base.proofs.BitLaws.{bit-or, bit-zero}
 use Rattle.base.proofs.ChainLaws.{Visit, visit-map}
 use Rattle.base.proofs.UptoLaws.{or-true, or-left, or-cases, and-true, and-first, and-second, same-truth}
-use Rattle.policy_image.specs.Layout.{headOf}
-use Rattle.policy_image.specs.Policy.{Policy, policyOf, linksOf}
+use Rattle.policy_image.specs.Layout.{policyHead}
+use Rattle.policy_image.specs.Policy.{Policy, policyOf, policyLinks}
 use Rattle.policy_image.specs.OfKind.{some}
 use Rattle.policy_chains.proofs.KindLaws.{some-yes, some-record}
-use Rattle.policy_check.specs.Sound.{Sound}
+use Rattle.policy_check.specs.inner.Sound.{Sound}
 use Rattle.relations.specs.declared.facts.Fact.{Fact}
-use Rattle.relations.specs.Facts.{states, United}
+use Rattle.relations.specs.inner.Facts.{states, United}
 use Rattle.policy_check.proofs.Along.{along-start, along-step, along-kind, along-end}
 
 -- the mask has what record j gives
@@ -24,14 +24,14 @@ abbrev Has : Policy → Fact → ℕ → ℕ → Type 0
 Has p f m j = states f (p .rec j) ≡ true → (q : ℕ) → bit (p .rec j .mask) q ≡ true → bit m q ≡ true
 
 pub record Uniting (p : Policy) (f : Fact) (m i : ℕ) : Type 0 where
-  pub visit : Visit (linksOf p) (f .kind) (Has p f m) i
+  pub visit : Visit (policyLinks p) (f .kind) (Has p f m) i
   pub from : (q : ℕ) → bit m q ≡ true → some p (f .kind) (λ r. states f r && bit (r .mask) q) ≡ true
 
 module _ (s : List ℕ) (S : Sound s) (f : Fact) (low : 1 ≤ f .kind) (high : f .kind ≤ 9) where
   abbrev p : Policy
   p = policyOf s
 
-  pub uniting-start : (i : ℕ) → i ≡ headOf s (f .kind) → Uniting p f 0 i
+  pub uniting-start : (i : ℕ) → i ≡ policyHead s (f .kind) → Uniting p f 0 i
   uniting-start i e =
       record {
         visit = along-start s S (f .kind) low high (Has p f 0) i e;
@@ -53,7 +53,7 @@ module _ (s : List ℕ) (S : Sound s) (f : Fact) (low : 1 ≤ f .kind) (high : f
     uniting-join e =
         record {
           visit = along-step s S (f .kind) low high (Has p f m′) i n
-              (visit-map (linksOf p) (f .kind) i (Has p f m) (Has p f m′)
+              (visit-map (policyLinks p) (f .kind) i (Has p f m) (Has p f m′)
               (λ j h a q b. bit-or m (p .rec i .mask) q ∙ or-left (bit m q) (bit (p .rec i .mask) q) (h a q b)) (u .visit))
               i′ next
               (λ a q b. bit-or m (p .rec i .mask) q ∙ or-true (bit m q) (bit (p .rec i .mask) q) b);

@@ -6,9 +6,9 @@ ghost use mathlib.Core.Path.{_≡_};
 ghost use Prim.Native.Nat.{_≤_};
 ghost use Rattle.policy_image.specs.Policy.{policyOf};
 ghost use Rattle.policy_image.specs.OfKind.{some};
-ghost use Rattle.policy_check.specs.Sound.{Sound};
+ghost use Rattle.policy_check.specs.inner.Sound.{Sound};
 ghost use Rattle.relations.specs.Relations.{targetOf};
-ghost use Rattle.relations.specs.Facts.{statesOf, states, United};
+ghost use Rattle.relations.specs.inner.Facts.{statesOf, states, United};
 
 // What a record of the given kind may state: its fields a, b and c, as far as the kind names them.
 pub struct Fact {

@@ -7,9 +7,9 @@ use context::Event;
 ghost use mathlib.Core.Path.{_≡_};
 ghost use Prim.Native.Nat.{_<_};
 ghost use Rattle.policy_image.specs.Policy.{policyOf};
-ghost use Rattle.policy_check.specs.Sound.{Sound};
+ghost use Rattle.policy_check.specs.inner.Sound.{Sound};
 ghost use Rattle.relations.specs.Relations.{domain, Γ, flowsAs, α, ρ, μ, roleChange};
-ghost use Rattle.relations.specs.Facts.{AllowMask};
+ghost use Rattle.relations.specs.inner.Facts.{AllowMask};
 
 // Whether the type is a domain.
 pub fn is_domain(image: &[u8], t: u32) -> bool

@@ -5,7 +5,7 @@ use native.Mathlib.Omega.{arith}
 use Rattle.flowgoal.specs.declared.goal.Outcome.{Outcome}
 use Rattle.flowgoal.specs.declared.goal.Outcome.the-variants as outcome
 use Rattle.flowgoal.specs.GoalQuestion.{GoalPromise}
-use Rattle.report.specs.Printing.{Shown}
+use Rattle.report.specs.inner.Printing.{Shown}
 
 -- what is shown fits the slice
 pub shown : (s g : List ℕ) (work1 work2 : ℕ) (before after : List ℕ) (r : Outcome) → GoalPromise s g work1 work2 before after r → Shown r after

@@ -6,7 +6,7 @@ use libc::STDOUT_FILENO;
 ghost use Prim.Native.Nat.{_+_, _*_, _≤_};
 ghost use lib.ListN.{length};
 ghost use Rattle.io.specs.Counts.{Counts};
-ghost use Rattle.report.specs.Printing.{Shown};
+ghost use Rattle.report.specs.inner.Printing.{Shown};
 
 // Reads the file, as far as the buffer reaches. One that cannot be opened or read counts as 0 bytes.
 pub fn read_image(name: &[u8], buf: &mut [u8]) -> usize

@@ -8,24 +8,24 @@ use lib.Pow.{pow-mono}
 use Rattle.policy_image.specs.declared.counts.Counts.{Counts}
 use Rattle.policy_image.specs.Layout.{countsOf}
 use Rattle.policy_image.specs.Counts.{CountsInRange}
-use Rattle.policy_check.specs.Sound.{Sound}
+use Rattle.policy_check.specs.inner.Sound.{Sound}
 use Rattle.context.specs.declared.Context.{Context}
-use Rattle.context.specs.Codes.{contextCode}
+use Rattle.context.specs.inner.Coding.{contextCode}
 use Rattle.context.specs.Ranges.{ContextInRange}
-use Rattle.context.specs.Places.{Countable, contextCount, contextAtIndex}
+use Rattle.context.specs.inner.Places.{Countable, contextCount, contextAtIndex}
 use Rattle.context.proofs.PlaceLaws.{at-in-range}
 use Rattle.goal_image.specs.declared.check.Legs.{Legs}
 use Rattle.goal_image.specs.Goal.{goalOf}
-use Rattle.goal_image.specs.Questions.{legsIn}
-use Rattle.goal_image.specs.Sound.{SoundGoal}
+use Rattle.goal_image.specs.inner.Answer.{legsIn}
+use Rattle.goal_image.specs.inner.Sound.{SoundGoal}
 use Rattle.goal_model.specs.Images.{model}
 use Rattle.search.specs.declared.levels.Found.{Found}
 use Rattle.search.specs.declared.levels.Found.the-variants.{Nothing, Start, At}
 use Rattle.nodes.specs.declared.monitor.Mode.{Mode}
-use Rattle.nodes.specs.Nodes.{watchOf, codeAt, BadStart}
-use Rattle.nodes.specs.Tasks.{Task, graphOf}
-use Rattle.nodes.specs.Seeds.{SownStart}
-use Rattle.search.specs.Found.{Searched, FoundStart, FoundLeast}
+use Rattle.nodes.specs.inner.Nodes.{watchOf, codeAt, BadStart}
+use Rattle.nodes.specs.inner.Tasks.{Task, graphOf}
+use Rattle.nodes.specs.inner.Seeds.{SownStart}
+use Rattle.search.specs.inner.Found.{Searched, FoundStart, FoundLeast}
 use Rattle.nodes.proofs.NodeLaws.{least-start, least-at, least-nowhere}
 use Rattle.nodes.proofs.ModelLaws.{bounded}
 

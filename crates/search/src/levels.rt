@@ -21,10 +21,10 @@ use steps::offers::next_offer;
 use steps::targets::is_held;
 use steps::targets::is_special;
 use steps::targets::is_target;
-ghost use Rattle.plan.specs.Plan.{Planned};
-ghost use Rattle.nodes.specs.State.{Inv};
-ghost use Rattle.nodes.specs.Tasks.{Task, graphOf};
-ghost use Rattle.search.specs.Found.{Searched};
+ghost use Rattle.plan.specs.inner.Plan.{Planned};
+ghost use Rattle.nodes.specs.inner.State.{Inv};
+ghost use Rattle.nodes.specs.inner.Tasks.{Task, graphOf};
+ghost use Rattle.search.specs.inner.Found.{Searched};
 
 // What a search finds: nothing; a start that is a bad end, by its code; or a step into a bad end, as the node it is from, the
 // event, the end's node and the number of steps to the node it is from.

@@ -9,10 +9,10 @@ use nodes::monitor::Mode;
 use nodes::seed::Seeded;
 use nodes::seed::seed;
 use policy_image::counts::Counts;
-ghost use Rattle.plan.specs.Plan.{Planned};
-ghost use Rattle.search.specs.Found.{FoundLeast};
-ghost use Rattle.nodes.specs.Seeds.{Roomy};
-ghost use Rattle.nodes.specs.Tasks.{Task};
+ghost use Rattle.plan.specs.inner.Plan.{Planned};
+ghost use Rattle.search.specs.inner.Found.{FoundLeast};
+ghost use Rattle.nodes.specs.inner.Seeds.{Roomy};
+ghost use Rattle.nodes.specs.inner.Tasks.{Task};
 
 // The least number of steps to a bad end, for a mode. The plan is made once of the policy and the goal, and serves every search of
 // them. The slices hold an entry for each node; back then leads from the node that is found to a start.

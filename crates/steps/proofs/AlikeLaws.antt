@@ -15,7 +15,7 @@ use Rattle.relations.specs.Relations.{roleChange}
 use Rattle.constraints.specs.Constraints.{constrains, constraintsHold}
 use Rattle.constraints.specs.Eval.{evalNode}
 use Rattle.access.specs.Authorization.{roleRule}
-use Rattle.plan.specs.Plan.{special, Alike}
+use Rattle.plan.specs.inner.Plan.{special, Alike}
 use Rattle.steps.proofs.FlowLaws.{conditions}
 
 -- tests that agree on every record of a kind

@@ -13,9 +13,9 @@ use Rattle.base.proofs.UptoLaws.{or-cases, or-left, or-true, and-true, and-firs
 use Rattle.policy_image.specs.Layout.{rootOf}
 use Rattle.policy_image.specs.Policy.{Policy, policyOf}
 use Rattle.policy_image.specs.OfKind.{some}
-use Rattle.policy_fields.specs.Fields.{Meets, limitsOf, FieldsInRange}
+use Rattle.policy_fields.specs.Fields.{WithinLimits, limitsOf, FieldsInRange}
 use Rattle.policy_chains.proofs.KindLaws.{some-yes, some-record, every-yes}
-use Rattle.policy_check.specs.Sound.{Sound}
+use Rattle.policy_check.specs.inner.Sound.{Sound}
 use Rattle.context.specs.declared.Context.{Context}
 use Rattle.context.specs.declared.Event.{Event}
 use Rattle.context.specs.Codes.{eventOf, isTransition}
@@ -23,8 +23,8 @@ use Rattle.relations.specs.Relations.{Γ, α, ρ, μ, domain, allowed, roleChan
 use Rattle.constraints.specs.Constraints.{constrains, constraintsHold}
 use Rattle.constraints.specs.Eval.{evalNode}
 use Rattle.access.specs.Authorization.{χ, roleRule, authorized, flow}
-use Rattle.goal_model.specs.Images.{held}
-use Rattle.plan.specs.Plan.{special}
+use Rattle.goal_model.specs.Images.{meetsρμ}
+use Rattle.plan.specs.inner.Plan.{special}
 
 module _ (p : Policy) (e : Event) where
   pub alpha-defined : (t o : ℕ) → α p t o e ≡ true → Γ p e ≡ true
@@ -37,7 +37,7 @@ module _ (p : Policy) (e : Event) where
       let r = some-record p 2 (λ r. eqb (r .a) (e .class) && bit (r .mask) (e .perm)) t in
       let i : ℕ = r .0 in
       let a : p .rec i .a ≡ e .class = eqb-true (p .rec i .a) (e .class) (and-first (eqb (p .rec i .a) (e .class)) (bit (p .rec i .mask) (e .perm)) (r .2)) in
-      let m = subst (λ (k : ℕ). Meets (limitsOf (p .counts) k (p .rec i .a)) (p .rec i)) (r .1 .kind) (F .each i (r .1 .low) (r .1 .high)) in
+      let m = subst (λ (k : ℕ). WithinLimits (limitsOf (p .counts) k (p .rec i .a)) (p .rec i)) (r .1 .kind) (F .each i (r .1 .low) (r .1 .high)) in
       subst (Within 1 (p .counts .classes)) a (m .a)
 
   module _ (x y : Context) where
@@ -46,8 +46,8 @@ module _ (p : Policy) (e : Event) where
     authorized-alpha t = and-first (α p (x .ty) (y .ty) e) _ t
 
     -- both contexts of an action meet ρ and μ
-    authorized-held : authorized p e x y ≡ true → (held p x ≡ true) × (held p y ≡ true)
-    unfolding authorized held
+    authorized-held : authorized p e x y ≡ true → (meetsρμ p x ≡ true) × (meetsρμ p y ≡ true)
+    unfolding authorized meetsρμ
     authorized-held t =
         let a = and-second (α p (x .ty) (y .ty) e) _ t in
         let b = and-second (ρ p (x .role) (x .ty)) _ a in
@@ -65,8 +65,8 @@ module _ (p : Policy) (e : Event) where
     without-gamma true g c r h = rw (h refl)
     without-gamma false g c r h = refl
 
-    authorized-by : held p x ≡ true → held p y ≡ true → authorized p e x y ≡ (α p (x .ty) (y .ty) e && conditions)
-    unfolding authorized χ held
+    authorized-by : meetsρμ p x ≡ true → meetsρμ p y ≡ true → authorized p e x y ≡ (α p (x .ty) (y .ty) e && conditions)
+    unfolding authorized χ meetsρμ
     authorized-by hx hy =
         let a = and-first (ρ p (x .role) (x .ty)) (μ p (x .user) (x .role)) hx in
         let b = and-second (ρ p (x .role) (x .ty)) (μ p (x .user) (x .role)) hx in
@@ -87,14 +87,14 @@ module _ (p : Policy) (e : Event) where
   flow-defined x y t = ⊎-elim (λ w. alpha-defined (x .ty) (y .ty) (w .0)) (λ w. alpha-defined (y .ty) (x .ty) (w .0)) (flow-alpha x y t)
 
   -- both contexts of a flow meet ρ and μ
-  pub flow-held : (x y : Context) → flow p e x y ≡ true → (held p x ≡ true) × (held p y ≡ true)
+  pub flow-held : (x y : Context) → flow p e x y ≡ true → (meetsρμ p x ≡ true) × (meetsρμ p y ≡ true)
   unfolding flow
   flow-held x y t =
       ⊎-elim (λ a. authorized-held x y (and-second (writeLike p e) (authorized p e x y) a))
       (λ a. let h = authorized-held y x (and-second (readLike p e) (authorized p e y x) a) in (h .1, h .0))
       (or-cases (writeLike p e && authorized p e x y) (readLike p e && authorized p e y x) t)
 
-  pub no-flow : (x y : Context) → held p y ≡ false → flow p e x y ≡ false
+  pub no-flow : (x y : Context) → meetsρμ p y ≡ false → flow p e x y ≡ false
   no-flow x y h = ⊎-elim (λ t. absurd (clash (flow-held x y t .1) h)) (λ f. f) (true-or-false (flow p e x y))
 
   turned : (w a c : Bool) → (w && (a && c)) ≡ ((a && w) && c)
@@ -104,7 +104,7 @@ module _ (p : Policy) (e : Event) where
   turned false false c = refl
 
   -- what is left to ask of contexts that meet ρ and μ
-  pub flow-by : (x y : Context) → held p x ≡ true → held p y ≡ true
+  pub flow-by : (x y : Context) → meetsρμ p x ≡ true → meetsρμ p y ≡ true
       → flow p e x y
       ≡ (((α p (x .ty) (y .ty) e && writeLike p e) && conditions x y) || ((α p (y .ty) (x .ty) e && readLike p e) && conditions y x))
   unfolding flow
@@ -133,7 +133,7 @@ module _ (p : Policy) (e : Event) where
       ap₂ _&&_ (free x y (n .0)) (ap (λ (b : Bool). not b || roleChange p (x .role) (y .role)) (n .1))
 
   -- by an event that is not special, what flows from x flows from every context of its type that meets ρ and μ
-  pub plain-same : (x x′ y : Context) → special p e ≡ false → x .ty ≡ x′ .ty → held p x′ ≡ true → flow p e x y ≡ true → flow p e x′ y ≡ true
+  pub plain-same : (x x′ y : Context) → special p e ≡ false → x .ty ≡ x′ .ty → meetsρμ p x′ ≡ true → flow p e x y ≡ true → flow p e x′ y ≡ true
   plain-same x x′ y n q h t =
       flow-by x′ y h (flow-held x y t .1)
       ∙ ⊎-elim

@@ -4,11 +4,12 @@ use mathlib.Core.Bool.{true}
 use mathlib.Core.Logic.{⊎-elim}
 use Prim.Native.Nat.{ℕ, _+_, _-_, _*_, _/_, _^_, _≤_, _<_}
 use native.Mathlib.Omega.{arith}
-use Rattle.base.specs.Bits.{bit, Lowest}
+use Rattle.base.specs.Bits.{bit}
+use Rattle.base.specs.inner.Masks.{Lowest}
 use Rattle.base.proofs.BitLaws.{bit-above, bit-shr, bit-zero}
 use Rattle.base.proofs.Numbers.{split-le}
 use Rattle.base.proofs.UptoLaws.{clash}
-use Rattle.steps.specs.Nearest.{firstStep, LowestStep, EntryStep}
+use Rattle.steps.specs.inner.Nearest.{firstStep, LowestStep, EntryStep}
 
 -- ---- the lowest step from a permission on
 module _ (first mask perm : ℕ) where

@@ -13,9 +13,9 @@ use Rattle.base.specs.Bits.{bit}
 use Rattle.base.proofs.BitLaws.{bit-and, bit-or, bit-ext}
 use Rattle.base.proofs.UptoLaws.{and-true, and-first, or-true, true-or-false}
 use Rattle.base.proofs.Numbers.{split-le, split-eq}
-use Rattle.plan.specs.Plan.{specialAt, keyAt, eventsAt, leadsAt}
+use Rattle.plan.specs.inner.Plan.{specialAt, keyAt, eventsAt, leadsAt}
 use Rattle.steps.specs.declared.nearest.Asker.{Asker}
-use Rattle.steps.specs.Nearest.{firstStep, keyOf, closed, StepBy, EntryStep, OpenStep, AskedMask, Passed, Skipped, Block, Cursor, OfferedAt, Nearest}
+use Rattle.steps.specs.inner.Nearest.{firstStep, keyOf, closed, StepBy, EntryStep, OpenStep, AskedMask, Passed, Skipped, Block, Cursor, OfferedAt, Nearest}
 
 pub skip-begin : (plan : List ℕ) (stop a class : ℕ) → a ≤ stop → Skipped plan stop a class a
 skip-begin plan stop a class h = record { low = omega arith; high = h; passed = λ j l k. absurd (omega arith) }

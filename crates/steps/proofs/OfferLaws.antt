@@ -22,12 +22,12 @@ use Rattle.context.specs.Ranges.{ContextInRange}
 use Rattle.relations.specs.Relations.{α, roleChange, writeLike, readLike}
 use Rattle.constraints.specs.Constraints.{constraintsHold}
 use Rattle.access.specs.Authorization.{roleRule, flow}
-use Rattle.goal_model.specs.Images.{held}
-use Rattle.plan.specs.Plan.{Ready, specialAt, firstAt, keyAt, outsAt, insAt, guardsAt, leadsAt, special, EntryOf, OfferBlock, Alike, Leader, PolicyPlan}
+use Rattle.goal_model.specs.Images.{meetsρμ}
+use Rattle.plan.specs.inner.Plan.{Ready, specialAt, firstAt, keyAt, outsAt, insAt, guardsAt, leadsAt, special, EntryOf, OfferBlock, Alike, Leader, PolicyPlan}
 use Rattle.steps.specs.declared.nearest.Asker.{Asker}
 use Rattle.steps.specs.declared.nearest.Offer.{Offer}
-use Rattle.steps.specs.Nearest.{firstStep, closed, Passed, Block, Cursor, Nearest}
-use Rattle.steps.specs.Steps.{Offering, NextOffer}
+use Rattle.steps.specs.inner.Nearest.{firstStep, closed, Passed, Block, Cursor, Nearest}
+use Rattle.steps.specs.inner.Steps.{Offering, NextOffer}
 use Rattle.steps.proofs.FlowLaws.{alpha-defined, defined-class, flow-class, flow-held, flow-by, plain-conditions, conditions}
 use Rattle.steps.proofs.AlikeLaws.{special-same, conditions-same}
 
@@ -130,10 +130,10 @@ module _ {s : List ℕ} {n : Counts} {plan : List ℕ} (R : Ready s n) (P : Poli
       few : y .ty < 4096
       few = let w = r .ty .high in omega (arith, R .sound .range .types .high)
 
-      hx : held p x ≡ true
+      hx : meetsρμ p x ≡ true
       hx = flow-held p (eventOf i) x y t .0
 
-      hy : held p y ≡ true
+      hy : meetsρμ p y ≡ true
       hy = flow-held p (eventOf i) x y t .1
 
       -- the permission q of the entry's class, as an event
@@ -290,7 +290,7 @@ yes-then true b c d hc hd h = rw hc
 yes-then false true c d hc hd h = hd
 yes-then false false c d hc hd h = h
 
-module _ {p : Policy} {plan : List ℕ} {e entry : ℕ} (x y : Context) (hx : held p x ≡ true) (hy : held p y ≡ true) (O : Offering p plan (x .ty) e (y .ty) entry) where
+module _ {p : Policy} {plan : List ℕ} {e entry : ℕ} (x y : Context) (hx : meetsρμ p x ≡ true) (hy : meetsρμ p y ≡ true) (O : Offering p plan (x .ty) e (y .ty) entry) where
   pub flow-of : flow p (eventOf e) x y
       ≡ ((bit (outsAt plan entry) (e % 32) && conditions p (eventOf e) x y) || (bit (insAt plan entry) (e % 32) && conditions p (eventOf e) y x))
   flow-of =
@@ -335,7 +335,7 @@ roles-few {s} {n} {x} R h =
 pub event-few : {s : List ℕ} {n : Counts} {plan : List ℕ} {t e o entry : ℕ} → Ready s n → Offering (policyOf s) plan t e o entry → e < 1024
 event-few R O = omega (arith, O .event .high, R .sound .range .classes .high)
 
-module _ {p : Policy} {plan : List ℕ} {e entry : ℕ} (x y : Context) (hx : held p x ≡ true) (hy : held p y ≡ true) (O : Offering p plan (x .ty) e (y .ty) entry) where
+module _ {p : Policy} {plan : List ℕ} {e entry : ℕ} (x y : Context) (hx : meetsρμ p x ≡ true) (hy : meetsρμ p y ≡ true) (O : Offering p plan (x .ty) e (y .ty) entry) where
   module _ {m r : Bool} (hm : m ≡ bit (outsAt plan entry) (e % 32)) (h : r ≡ (m && conditions p (eventOf e) x y)) where
     one-way : r ≡ (bit (outsAt plan entry) (e % 32) && conditions p (eventOf e) x y)
     one-way = h ∙ ap (λ (b : Bool). b && conditions p (eventOf e) x y) hm

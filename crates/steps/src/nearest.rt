@@ -10,7 +10,7 @@ use plan::regions::SPECIAL;
 ghost use mathlib.Core.Path.{_≡_};
 ghost use Prim.Native.Nat.{_≤_, _<_};
 ghost use lib.ListN.{length};
-ghost use Rattle.steps.specs.Nearest.{keyOf, closed, LowestStep, EntryStep, OpenStep, AskedMask, Skipped, Block, Cursor, Nearest};
+ghost use Rattle.steps.specs.inner.Nearest.{keyOf, closed, LowestStep, EntryStep, OpenStep, AskedMask, Skipped, Block, Cursor, Nearest};
 
 // No step: a number above every step's.
 pub const NONE: u32 = 4194304;

@@ -10,8 +10,8 @@ use policy_image::counts::Counts;
 ghost use Prim.Native.Nat.{_<_};
 ghost use Rattle.policy_image.specs.Policy.{policyOf};
 ghost use Rattle.context.specs.Ranges.{ContextInRange};
-ghost use Rattle.plan.specs.Plan.{Ready, PolicyPlan};
-ghost use Rattle.steps.specs.Steps.{Resumes, NextOffer};
+ghost use Rattle.plan.specs.inner.Plan.{Ready, PolicyPlan};
+ghost use Rattle.steps.specs.inner.Steps.{Resumes, NextOffer};
 
 // The first step from x on or after a step that is not closed. The group is that of an offer before it, or the start of the block of
 // x's type.

@@ -15,12 +15,12 @@ ghost use Prim.Native.Nat.{_<_};
 ghost use Rattle.policy_image.specs.Policy.{policyOf};
 ghost use Rattle.context.specs.Codes.{eventOf};
 ghost use Rattle.context.specs.Ranges.{ContextInRange};
-ghost use Rattle.context.specs.Places.{contextCount, contextAtIndex};
+ghost use Rattle.context.specs.inner.Places.{contextCount, contextAtIndex};
 ghost use Rattle.access.specs.Authorization.{roleRule, flow};
 ghost use Rattle.constraints.specs.Constraints.{constraintsHold};
-ghost use Rattle.goal_model.specs.Images.{held};
-ghost use Rattle.plan.specs.Plan.{Ready, PolicyPlan, special};
-ghost use Rattle.steps.specs.Steps.{Offering, Facing};
+ghost use Rattle.goal_model.specs.Images.{meetsρμ};
+ghost use Rattle.plan.specs.inner.Plan.{Ready, PolicyPlan, special};
+ghost use Rattle.steps.specs.inner.Steps.{Offering, Facing};
 
 // Whether the event is one whose flow depends on more than types, ρ and μ.
 pub fn is_special(policy: &[u8], counts: Counts, plan: &[u32], event: u32) -> bool
@@ -68,7 +68,7 @@ fn flows_by(
     x: Context,
     y: Context,
 ) -> bool
-    requires { ⌜ Ready (now policy) counts × PolicyPlan (now policy) counts (now plan) × ContextInRange counts x × ContextInRange counts y × (held (policyOf (now policy)) x ≡ true) × (held (policyOf (now policy)) y ≡ true) × Offering (policyOf (now policy)) (now plan) (x .ty) event (y .ty) entry ⌝ }
+    requires { ⌜ Ready (now policy) counts × PolicyPlan (now policy) counts (now plan) × ContextInRange counts x × ContextInRange counts y × (meetsρμ (policyOf (now policy)) x ≡ true) × (meetsρμ (policyOf (now policy)) y ≡ true) × Offering (policyOf (now policy)) (now plan) (x .ty) event (y .ty) entry ⌝ }
     ensures { λ r. ⌜ r ≡ flow (policyOf (now (policy .entry))) (eventOf event) x y ⌝ }
 {
     let perm = event % 32;
@@ -83,7 +83,7 @@ fn flows_by(
 // Whether the context at place y meets ρ and μ.
 pub fn is_held(policy: &[u8], counts: Counts, plan: &[u32], y: u32) -> bool
     requires { ⌜ PolicyPlan (now policy) counts (now plan) × (y < contextCount counts) ⌝ }
-    ensures { λ r. ⌜ r ≡ held (policyOf (now (policy .entry))) (contextAtIndex counts y) ⌝ }
+    ensures { λ r. ⌜ r ≡ meetsρμ (policyOf (now (policy .entry))) (contextAtIndex counts y) ⌝ }
 {
     let at = CONTEXTS + (y as usize);
     has_bit(plan[at], 31)

@@ -11,14 +11,14 @@ use Rattle.base.proofs.BitLaws.{bit-zero}
 use Rattle.policy_image.specs.Layout.{recordCount, recordOf, payloadOf, decoded}
 use Rattle.policy_image.specs.Policy.{policyOf}
 use Rattle.policy_image.specs.OfKind.{some}
-use Rattle.policy_image.specs.Written.{image, permissions, flow, userRole, constraint, node, roleChange as role-change}
-use Rattle.policy_image.specs.Weir.{weir}
+use Rattle.policy_image.specs.cases.Written.{image, permissions, flow, userRole, constraint, node, roleChange as role-change}
+use Rattle.policy_image.specs.cases.Weir.{weir}
 use Rattle.context.specs.Codes.{eventAt}
 use Rattle.context.specs.declared.Context.{Context}
 use Rattle.relations.specs.Relations.{Γ, roleChange, μ}
 use Rattle.relations.proofs.Cases.{domain-2, domain-3, rho-record, rho-object-role, rho-domain}
 use Rattle.constraints.specs.Constraints.{constraintsHold}
-use Rattle.tables.specs.Tables.{typeEntries, GammaMasks, FlowMasks, ConstraintMasks, DomainTable, RoleTable, UserTable, RoleChanges}
+use Rattle.tables.specs.inner.Tables.{typeEntries, GammaMasks, FlowMasks, ConstraintMasks, DomainTable, RoleTable, UserTable, RoleChanges}
 use Rattle.tables.proofs.MeaningLaws.{unconstrained}
 
 -- class 1 has permissions 0 and 1 by two records: 0 flows both ways and has a constraint, 1 is write-like

@@ -14,11 +14,11 @@ use Rattle.base.proofs.ChainLaws.{Visit, visit-map}
 use Rattle.base.proofs.Numbers.{split-eq}
 use Rattle.base.proofs.UptoLaws.{or-true, or-left, or-cases, and-true, and-first, and-second, same-truth}
 use Rattle.policy_image.specs.declared.records.Record.{Record}
-use Rattle.policy_image.specs.Layout.{headOf}
-use Rattle.policy_image.specs.Policy.{Policy, policyOf, linksOf}
+use Rattle.policy_image.specs.Layout.{policyHead}
+use Rattle.policy_image.specs.Policy.{Policy, policyOf, policyLinks}
 use Rattle.policy_image.specs.OfKind.{some}
 use Rattle.policy_chains.proofs.KindLaws.{some-yes, some-record}
-use Rattle.policy_check.specs.Sound.{Sound}
+use Rattle.policy_check.specs.inner.Sound.{Sound}
 use Rattle.policy_check.proofs.Along.{along-start, along-step, along-kind, along-end}
 
 -- the table has what record j adds
@@ -31,7 +31,7 @@ gives ix mk t q r = eqb (ix r) t && bit (mk r) q
 
 pub record Gathering (p : Policy) (k : ℕ) (ix mk : Record → ℕ) (l l′ : List ℕ) (i : ℕ) : Type 0 where
   pub size : length l′ ≡ length l
-  pub visit : Visit (linksOf p) k (Has p ix mk l′) i
+  pub visit : Visit (policyLinks p) k (Has p ix mk l′) i
   pub keeps : (t q : ℕ) → bit (getD l t 0) q ≡ true → bit (getD l′ t 0) q ≡ true
   pub from : (t q : ℕ) → bit (getD l′ t 0) q ≡ true → (some p k (gives ix mk t q) || bit (getD l t 0) q) ≡ true
 
@@ -66,7 +66,7 @@ module _ (s : List ℕ) (S : Sound s) (k : ℕ) (low : 1 ≤ k) (high : k ≤ 9)
   abbrev p : Policy
   p = policyOf s
 
-  pub gathering-start : (i : ℕ) → i ≡ headOf s k → Gathering p k ix mk l l i
+  pub gathering-start : (i : ℕ) → i ≡ policyHead s k → Gathering p k ix mk l l i
   gathering-start i e =
       record {
         size = refl;
@@ -83,7 +83,7 @@ module _ (s : List ℕ) (S : Sound s) (k : ℕ) (low : 1 ≤ k) (high : k ≤ 9)
       record {
         size = length-set l′ x v ∙ g .size;
         visit = along-step s S k low high (Has p ix mk new) i n
-            (visit-map (linksOf p) k i (Has p ix mk l′) (Has p ix mk new)
+            (visit-map (policyLinks p) k i (Has p ix mk l′) (Has p ix mk new)
             (λ j h q b. joined-keeps l′ x m v both room (ix (p .rec j)) q (h q b)) (g .visit))
             i′ next
             (λ q b. subst (λ (y : ℕ). bit (getD new y 0) q ≡ true) ex

@@ -9,19 +9,20 @@ use borrow.Author.Tests.{eq-eqb, ne-eqb}
 use lib.Bits.{bitAnd}
 use lib.Dec.{eqb}
 use lib.ListN.{length, getD, replicate, length-replicate, getD-replicate}
-use Rattle.base.specs.Bits.{bit, Without}
-use Rattle.base.specs.Fill.{Filled}
+use Rattle.base.specs.Bits.{bit}
+use Rattle.base.specs.inner.Masks.{Without}
+use Rattle.base.specs.inner.Fill.{Filled}
 use Rattle.base.proofs.BitLaws.{bit-and}
 use Rattle.base.proofs.ChainLaws.{Visit, visit-map}
 use Rattle.base.proofs.Numbers.{split-eq, split-le}
 use Rattle.base.proofs.UptoLaws.{and-true, and-first, and-second, all-at}
-use Rattle.policy_image.specs.Layout.{headOf}
-use Rattle.policy_image.specs.Policy.{Policy, policyOf, linksOf}
-use Rattle.policy_check.specs.Sound.{Sound}
+use Rattle.policy_image.specs.Layout.{policyHead}
+use Rattle.policy_image.specs.Policy.{Policy, policyOf, policyLinks}
+use Rattle.policy_check.specs.inner.Sound.{Sound}
 use Rattle.policy_check.proofs.Along.{along-start, along-step, along-kind, along-end}
 use Rattle.context.specs.Codes.{eventAt}
 use Rattle.constraints.specs.Constraints.{constrains}
-use Rattle.tables.specs.Groups.{equal, OnSide, Together, ConstraintGroups}
+use Rattle.tables.specs.inner.Groups.{equal, OnSide, Together, ConstraintGroups}
 
 -- ---- truth values
 equal-same : (a b : Bool) → equal a b ≡ true → a ≡ b
@@ -61,7 +62,7 @@ Told p l j = (c q i : ℕ) → c < 32 → q < 32 → i < 32 → bit (getD l (32 
 
 pub record Grouping (p : Policy) (l : List ℕ) (i : ℕ) : Type 0 where
   pub size : length l ≡ 1024
-  pub visit : Visit (linksOf p) 8 (Told p l) i
+  pub visit : Visit (policyLinks p) 8 (Told p l) i
   pub whole : (c q i : ℕ) → c < 32 → q < 32 → i < 32 → Together p c q i → bit (getD l (32 * c + q) 0) i ≡ true
 
 -- a mask tells the permissions of a class apart, and leaves the other classes
@@ -113,7 +114,7 @@ module _ (s : List ℕ) (S : Sound s) where
   abbrev p : Policy
   p = policyOf s
 
-  pub grouping-start : (i : ℕ) → i ≡ headOf s 8 → Grouping p (replicate 1024 4294967295) i
+  pub grouping-start : (i : ℕ) → i ≡ policyHead s 8 → Grouping p (replicate 1024 4294967295) i
   grouping-start i e =
       record {
         size = length-replicate {A = ℕ} 1024 4294967295;
@@ -127,7 +128,7 @@ module _ (s : List ℕ) (S : Sound s) where
       record {
         size = size ∙ G .size;
         visit = along-step s S 8 (omega arith) (omega arith) (Told p l′) i n
-            (visit-map (linksOf p) 8 i (Told p l) (Told p l′) (λ j h c q k lc lq lk b. h c q k lc lq lk (fewer l l′ class mask F c q k lq b)) (G .visit))
+            (visit-map (policyLinks p) 8 i (Told p l) (Told p l′) (λ j h c q k lc lq lk b. h c q k lc lq lk (fewer l l′ class mask F c q k lq b)) (G .visit))
             i′ next (λ c q k lc lq lk b. told l l′ class mask F (p .rec i .a) (p .rec i .mask) c q k ea em lq b);
         whole = λ c q k lc lq lk T.
             let o = along-kind s S 8 (omega arith) (omega arith) (Told p l) i n (G .visit) in
@@ -137,6 +138,6 @@ module _ (s : List ℕ) (S : Sound s) where
   pub grouping-end : {l : List ℕ} {i : ℕ} → i ≡ 0 → Grouping p l i → ConstraintGroups p l
   grouping-end {l} {i} z G =
       record {
-        sound = λ c q k lc lq lk b. record { same = λ j lo hi kind. along-end s S 8 (omega arith) (omega arith) (Told p l) (subst (Visit (linksOf p) 8 (Told p l)) z (G .visit)) j (record { low = lo; high = hi; kind = kind }) c q k lc lq lk b };
+        sound = λ c q k lc lq lk b. record { same = λ j lo hi kind. along-end s S 8 (omega arith) (omega arith) (Told p l) (subst (Visit (policyLinks p) 8 (Told p l)) z (G .visit)) j (record { low = lo; high = hi; kind = kind }) c q k lc lq lk b };
         whole = G .whole;
       }

@@ -22,8 +22,8 @@ use Rattle.context.specs.declared.Context.{Context}
 use Rattle.relations.specs.Relations.{domain, Γ, ρ, μ, roleChange}
 use Rattle.constraints.specs.Constraints.{constrains, constraintsHold}
 use Rattle.constraints.specs.Eval.{evalNode}
-use Rattle.tables.specs.Gather.{added, Gathered}
-use Rattle.tables.specs.Tables.{userEntries, GammaMasks, FlowMasks, ConstraintMasks, DomainTable, ObjectRoles, RoleTable, UserTable, RoleChanges}
+use Rattle.tables.specs.inner.Gather.{added, Gathered}
+use Rattle.tables.specs.inner.Tables.{userEntries, GammaMasks, FlowMasks, ConstraintMasks, DomainTable, ObjectRoles, RoleTable, UserTable, RoleChanges}
 
 -- ---- truth values
 eqb-sym : (a b : ℕ) → eqb a b ≡ eqb b a

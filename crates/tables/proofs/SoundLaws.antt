@@ -7,17 +7,17 @@ use Rattle.base.proofs.Numbers.{two-of}
 use Rattle.policy_image.specs.declared.records.Record.{Record}
 use Rattle.policy_image.specs.Layout.{countsOf}
 use Rattle.policy_image.specs.Policy.{policyOf}
-use Rattle.policy_fields.specs.Fields.{limitsOf, Meets}
-use Rattle.policy_check.specs.Sound.{Sound}
+use Rattle.policy_fields.specs.Fields.{limitsOf, WithinLimits}
+use Rattle.policy_check.specs.inner.Sound.{Sound}
 use Rattle.policy_chains.proofs.KindLaws.{OfKind}
-use Rattle.tables.specs.Gather.{entryOf, Shifts, Room}
-use Rattle.tables.specs.Tables.{typeEntries, userEntries}
+use Rattle.tables.specs.inner.Gather.{entryOf, Shifts, Room}
+use Rattle.tables.specs.inner.Tables.{typeEntries, userEntries}
 
 module _ (s : List ℕ) (S : Sound s) where
   -- a record of kind k is within the ranges of kind k
-  meets : (k i : ℕ) → OfKind (policyOf s) k i → Meets (limitsOf (countsOf s) k (policyOf s .rec i .a)) (policyOf s .rec i)
+  meets : (k i : ℕ) → OfKind (policyOf s) k i → WithinLimits (limitsOf (countsOf s) k (policyOf s .rec i .a)) (policyOf s .rec i)
   meets k i o =
-      subst (λ (j : ℕ). Meets (limitsOf (countsOf s) j (policyOf s .rec i .a)) (policyOf s .rec i)) (o .kind)
+      subst (λ (j : ℕ). WithinLimits (limitsOf (countsOf s) j (policyOf s .rec i .a)) (policyOf s .rec i)) (o .kind)
       (S .fields .each i (o .low) (o .high))
 
   pub shifts : (k i : ℕ) → OfKind (policyOf s) k i → Shifts k (policyOf s .rec i)
@@ -36,7 +36,7 @@ module _ (s : List ℕ) (S : Sound s) where
       role7 : OfKind (policyOf s) 7 i → policyOf s .rec i .b < 32
       role7 o7 = let m = meets 7 i o7 .b .high in let n = S .range .roles .high in omega arith
 
-  room-of : (k n : ℕ) → ((r : Record) → Meets (limitsOf (countsOf s) k (r .a)) r → entryOf k r < n) → Room (policyOf s) k n
+  room-of : (k n : ℕ) → ((r : Record) → WithinLimits (limitsOf (countsOf s) k (r .a)) r → entryOf k r < n) → Room (policyOf s) k n
   room-of k n h = record { at = λ i a b e. h (policyOf s .rec i) (meets k i (record { low = a; high = b; kind = e })) }
 
   -- the tables by types, classes, users and roles have an entry for each

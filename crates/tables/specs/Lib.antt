@@ -1,3 +1,1 @@
-pub mod Gather
-pub mod Tables
-pub mod Groups
+pub mod inner

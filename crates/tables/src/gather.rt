@@ -8,8 +8,8 @@ ghost use Prim.Native.Nat.{ℕ, _≤_};
 ghost use lib.ListN.{length};
 ghost use Rattle.base.specs.Bits.{bit};
 ghost use Rattle.policy_image.specs.Policy.{policyOf};
-ghost use Rattle.policy_check.specs.Sound.{Sound};
-ghost use Rattle.tables.specs.Gather.{entryOf, addsOf, Shifts, Room, Gathered};
+ghost use Rattle.policy_check.specs.inner.Sound.{Sound};
+ghost use Rattle.tables.specs.inner.Gather.{entryOf, addsOf, Shifts, Room, Gathered};
 
 // The entry to which a record of the kind adds.
 fn entry(r: Record, kind: u32) -> usize

@@ -5,10 +5,10 @@ use policy_image::records::head_at;
 use policy_image::records::record_at;
 ghost use Prim.Native.Nat.{_+_, _*_, _≤_, _<_};
 ghost use lib.ListN.{length, getD};
-ghost use Rattle.base.specs.Fill.{Filled};
+ghost use Rattle.base.specs.inner.Fill.{Filled};
 ghost use Rattle.policy_image.specs.Policy.{policyOf};
-ghost use Rattle.policy_check.specs.Sound.{Sound};
-ghost use Rattle.tables.specs.Groups.{OnSide, ConstraintGroups};
+ghost use Rattle.policy_check.specs.inner.Sound.{Sound};
+ghost use Rattle.tables.specs.inner.Groups.{OnSide, ConstraintGroups};
 
 // A table by events has an entry for each permission of each class number below 32.
 pub const EVENTS: usize = 1024;

@@ -7,8 +7,8 @@ ghost use Prim.Native.Nat.{ℕ};
 ghost use lib.Dec.{eqb};
 ghost use Rattle.base.specs.Bits.{bit};
 ghost use Rattle.policy_image.specs.Policy.{policyOf};
-ghost use Rattle.policy_check.specs.Sound.{Sound};
-ghost use Rattle.tables.specs.Tables.{GammaMasks, FlowMasks, ConstraintMasks, DomainTable, ObjectRoles, RoleTable, UserTable, RoleChanges};
+ghost use Rattle.policy_check.specs.inner.Sound.{Sound};
+ghost use Rattle.tables.specs.inner.Tables.{GammaMasks, FlowMasks, ConstraintMasks, DomainTable, ObjectRoles, RoleTable, UserTable, RoleChanges};
 
 // How many entries a table by classes, by types, by roles or users has: one more than the largest number, for entry 0.
 pub const CLASSES: usize = 32;

@@ -10,22 +10,23 @@ use Rattle.base.specs.Bits.{bit}
 use Rattle.policy_image.specs.Layout.{countsOf, recordCount, recordOf, payloadOf, decoded}
 use Rattle.policy_image.specs.Policy.{policyOf}
 use Rattle.policy_image.specs.OfKind.{some, every}
-use Rattle.policy_image.specs.Weir.{weir}
+use Rattle.policy_image.specs.cases.Weir.{weir}
 use Rattle.context.specs.Codes.{contextOf}
 use Rattle.relations.specs.Relations.{domain, Γ, writeLike, readLike, allowed, α, ρ, μ, roleChange}
 use Rattle.constraints.specs.Constraints.{constraintsHold}
 use Rattle.access.specs.Authorization.{χ, roleRule, authorized, flow}
-use Rattle.goal_image.specs.Layout.{legsOf, flagsOf, goalCount, headOf, nextOf, contextRecordOf, eventRecordOf}
+use Rattle.goal_image.specs.Layout.{legsOf, flagsOf, goalCount, goalHead, nextOf, contextRecordOf, eventRecordOf}
 use Rattle.goal_image.specs.Goal.{goalOf}
 use Rattle.goal_image.specs.Sets.{contextIn, eventIn}
-use Rattle.goal_image.specs.WeirGoal.{goalG}
+use Rattle.goal_image.specs.cases.WeirGoal.{goalG}
 use Rattle.paths.specs.Paths.{IsPath, Holds, OrderAt, EventsAt}
 use Rattle.paths.proofs.Any.{or-cases, and-T}
 use Rattle.paths.proofs.Decide.{holds-by, order-by, events-by}
-use Rattle.goal_model.specs.Images.{inRange, held, model}
+use Rattle.goal_model.specs.Images.{inRange, meetsρμ, model}
 use Rattle.goal_model.proofs.Cover.{Step, uncovered, finite, every-step, allIn}
 use Rattle.goal_model.proofs.Cases.{step, steps, covers}
-use Rattle.weir.specs.Goals.{weirAllow41, writeOnly, exceptType, endTypeOne, oneLeg, noStart}
+use Rattle.goal_model.specs.cases.OwnGoals.{writeOnly}
+use Rattle.weir.specs.cases.Goals.{weirAllow41, exceptType, endTypeOne, oneLeg, noStart}
 
 -- with 4 on 1 read added: 1 to 4 by read too
 abbrev steps41 : List Step
@@ -36,35 +37,35 @@ unfolding uncovered inRange flow authorized χ roleRule constraintsHold domain �
 covers41 = tt
 
 pub w1 : Holds (model weir goalG)
-unfolding inRange held flow authorized χ roleRule constraintsHold domain Γ writeLike readLike allowed α ρ μ roleChange some every bit countsOf recordCount recordOf payloadOf decoded legsOf flagsOf goalCount headOf nextOf contextRecordOf eventRecordOf contextIn eventIn
+unfolding inRange meetsρμ flow authorized χ roleRule constraintsHold domain Γ writeLike readLike allowed α ρ μ roleChange some every bit countsOf recordCount recordOf payloadOf decoded legsOf flagsOf goalCount goalHead nextOf contextRecordOf eventRecordOf contextIn eventIn
 w1 = holds-by (model weir goalG) (finite (policyOf weir) steps covers (goalOf goalG)) 4 tt
 
 pub w2 : EventsAt (model weir writeOnly) 3
-unfolding inRange held flow authorized χ roleRule constraintsHold domain Γ writeLike readLike allowed α ρ μ roleChange some every bit countsOf recordCount recordOf payloadOf decoded legsOf flagsOf goalCount headOf nextOf contextRecordOf eventRecordOf contextIn eventIn
+unfolding inRange meetsρμ flow authorized χ roleRule constraintsHold domain Γ writeLike readLike allowed α ρ μ roleChange some every bit countsOf recordCount recordOf payloadOf decoded legsOf flagsOf goalCount goalHead nextOf contextRecordOf eventRecordOf contextIn eventIn
 w2 = events-by (model weir writeOnly) (finite (policyOf weir) steps covers (goalOf writeOnly)) 3 tt
 
 pub w3 : Holds (model weir (exceptType 3))
-unfolding inRange held flow authorized χ roleRule constraintsHold domain Γ writeLike readLike allowed α ρ μ roleChange some every bit countsOf recordCount recordOf payloadOf decoded legsOf flagsOf goalCount headOf nextOf contextRecordOf eventRecordOf contextIn eventIn
+unfolding inRange meetsρμ flow authorized χ roleRule constraintsHold domain Γ writeLike readLike allowed α ρ μ roleChange some every bit countsOf recordCount recordOf payloadOf decoded legsOf flagsOf goalCount goalHead nextOf contextRecordOf eventRecordOf contextIn eventIn
 w3 = holds-by (model weir (exceptType 3)) (finite (policyOf weir) steps covers (goalOf (exceptType 3))) 3 tt
 
 pub w4 : EventsAt (model weir (exceptType 4)) 3
-unfolding inRange held flow authorized χ roleRule constraintsHold domain Γ writeLike readLike allowed α ρ μ roleChange some every bit countsOf recordCount recordOf payloadOf decoded legsOf flagsOf goalCount headOf nextOf contextRecordOf eventRecordOf contextIn eventIn
+unfolding inRange meetsρμ flow authorized χ roleRule constraintsHold domain Γ writeLike readLike allowed α ρ μ roleChange some every bit countsOf recordCount recordOf payloadOf decoded legsOf flagsOf goalCount goalHead nextOf contextRecordOf eventRecordOf contextIn eventIn
 w4 = events-by (model weir (exceptType 4)) (finite (policyOf weir) steps covers (goalOf (exceptType 4))) 3 tt
 
 pub w5 : OrderAt (model weirAllow41 goalG) 1
-unfolding inRange held flow authorized χ roleRule constraintsHold domain Γ writeLike readLike allowed α ρ μ roleChange some every bit countsOf recordCount recordOf payloadOf decoded legsOf flagsOf goalCount headOf nextOf contextRecordOf eventRecordOf contextIn eventIn
+unfolding inRange meetsρμ flow authorized χ roleRule constraintsHold domain Γ writeLike readLike allowed α ρ μ roleChange some every bit countsOf recordCount recordOf payloadOf decoded legsOf flagsOf goalCount goalHead nextOf contextRecordOf eventRecordOf contextIn eventIn
 w5 = order-by (model weirAllow41 goalG) (finite (policyOf weirAllow41) steps41 covers41 (goalOf goalG)) 1 tt
 
 pub w6 : OrderAt (model weir endTypeOne) 0
-unfolding inRange held flow authorized χ roleRule constraintsHold domain Γ writeLike readLike allowed α ρ μ roleChange some every bit countsOf recordCount recordOf payloadOf decoded legsOf flagsOf goalCount headOf nextOf contextRecordOf eventRecordOf contextIn eventIn
+unfolding inRange meetsρμ flow authorized χ roleRule constraintsHold domain Γ writeLike readLike allowed α ρ μ roleChange some every bit countsOf recordCount recordOf payloadOf decoded legsOf flagsOf goalCount goalHead nextOf contextRecordOf eventRecordOf contextIn eventIn
 w6 = order-by (model weir endTypeOne) (finite (policyOf weir) steps covers (goalOf endTypeOne)) 0 tt
 
 pub w7 : EventsAt (model weir oneLeg) 0
-unfolding inRange held flow authorized χ roleRule constraintsHold domain Γ writeLike readLike allowed α ρ μ roleChange some every bit countsOf recordCount recordOf payloadOf decoded legsOf flagsOf goalCount headOf nextOf contextRecordOf eventRecordOf contextIn eventIn
+unfolding inRange meetsρμ flow authorized χ roleRule constraintsHold domain Γ writeLike readLike allowed α ρ μ roleChange some every bit countsOf recordCount recordOf payloadOf decoded legsOf flagsOf goalCount goalHead nextOf contextRecordOf eventRecordOf contextIn eventIn
 w7 = events-by (model weir oneLeg) (finite (policyOf weir) steps covers (goalOf oneLeg)) 0 tt
 
 pub w8 : Holds (model weir noStart)
-unfolding inRange held flow authorized χ roleRule constraintsHold domain Γ writeLike readLike allowed α ρ μ roleChange some every bit countsOf recordCount recordOf payloadOf decoded legsOf flagsOf goalCount headOf nextOf contextRecordOf eventRecordOf contextIn eventIn
+unfolding inRange meetsρμ flow authorized χ roleRule constraintsHold domain Γ writeLike readLike allowed α ρ μ roleChange some every bit countsOf recordCount recordOf payloadOf decoded legsOf flagsOf goalCount goalHead nextOf contextRecordOf eventRecordOf contextIn eventIn
 w8 = holds-by (model weir noStart) (finite (policyOf weir) steps covers (goalOf noStart)) 0 tt
 
 -- ---- W5's path: a step of its policy from σ0 to σ2 is the one that paper 01 prints
@@ -78,7 +79,7 @@ abbrev only : ℕ → ℕ → ℕ → Bool
 only x e y = not (starts x && ends y) || (eqb x 273 && (eqb e 64 && eqb y 1057))
 
 only-steps : T (allIn steps41 (λ s. only (s .x) (s .e) (s .y)))
-unfolding starts ends bit goalCount headOf nextOf contextRecordOf contextIn
+unfolding starts ends bit goalCount goalHead nextOf contextRecordOf contextIn
 only-steps = tt
 
 -- whatever path of 1 step there is, it is this one
@@ -121,11 +122,11 @@ starts2 : ℕ → Bool
 starts2 x = contextIn (goalOf writeOnly) 0 (contextOf x)
 
 not-545 : T (not (starts2 545))
-unfolding starts2 bit goalCount headOf nextOf contextRecordOf contextIn
+unfolding starts2 bit goalCount goalHead nextOf contextRecordOf contextIn
 not-545 = tt
 
 not-785 : T (not (starts2 785))
-unfolding starts2 bit goalCount headOf nextOf contextRecordOf contextIn
+unfolding starts2 bit goalCount goalHead nextOf contextRecordOf contextIn
 not-785 = tt
 
 pub w2-path : (x e : ℕ → ℕ) → IsPath (model weir writeOnly) 3 x e

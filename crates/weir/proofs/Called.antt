@@ -9,14 +9,14 @@ use Rattle.base.specs.Bits.{bit}
 use Rattle.base.specs.Questions.{Question, ask, AllYes, RefusedWith}
 use Rattle.base.proofs.QuestionLaws.{passed-not-refused, one-number, refused-first}
 use Rattle.policy_image.specs.Layout.{countsOf, recordCount}
-use Rattle.policy_image.specs.Weir.{weir, weirAllow31}
-use Rattle.policy_check.specs.Answer.{policyQuestions}
+use Rattle.policy_image.specs.cases.Weir.{weir, weirAllow31}
+use Rattle.policy_check.specs.Questions.{policyQuestions}
 use Rattle.policy_check.proofs.Cases.{weir-accepted, w10-short, w10-empty, w11}
 use Rattle.context.specs.declared.Context.{Context}
 use Rattle.context.specs.declared.Event.{Event}
 use Rattle.access.proofs.NoDomain.{w9-nothing}
-use Rattle.goal_image.specs.Layout.{legsOf, flagsOf, goalCount, headOf as goalHeadOf, nextOf, contextRecordOf, eventRecordOf}
-use Rattle.goal_image.specs.WeirGoal.{goalG}
+use Rattle.goal_image.specs.Layout.{legsOf, flagsOf, goalCount, goalHead, nextOf, contextRecordOf, eventRecordOf}
+use Rattle.goal_image.specs.cases.WeirGoal.{goalG}
 use Rattle.goal_image.specs.Questions.{goalQuestions}
 use Rattle.goal_image.proofs.Tests.{Accepted as GoalAccepted, accepted as goal-accepted}
 use Rattle.paths.specs.Paths.{Holds, OrderAt, EventsAt}
@@ -28,8 +28,9 @@ use Rattle.flowgoal.specs.declared.goal.Outcome.{Outcome}
 use Rattle.flowgoal.specs.declared.goal.Outcome.the-variants as outcome
 use Rattle.flowgoal.specs.GoalQuestion.{workLength, WorkFits, allQuestions, GoalPromise, outcomeNumber}
 use Rattle.flowgoal.proofs.GoalLaws.{order-one, events-one, not-both, not-holds-order, not-holds-events, not-holds, least-one}
-use Rattle.weir.specs.Goals.{weirAllow41, empty, writeOnly, exceptType, endTypeOne, oneLeg, noStart}
-use Rattle.weir.specs.Called.{Gives, SaysHolds, Refuses, SaysBroken, Prints, WeirCalled}
+use Rattle.goal_model.specs.cases.OwnGoals.{writeOnly}
+use Rattle.weir.specs.cases.Goals.{weirAllow41, empty, exceptType, endTypeOne, oneLeg, noStart}
+use Rattle.weir.specs.cases.Called.{Gives, SaysHolds, Refuses, SaysBroken, Prints, WeirCalled}
 use Rattle.weir.proofs.Answers.{w1, w2, w3, w4, w5, w6, w7, w8}
 use Rattle.weir.proofs.Theorem.{enough, w2-enough, w5-enough, w12-enough, w12-first, w12-second, w5-slice}
 
@@ -110,23 +111,23 @@ module _ (s g : List ℕ) (all : AllYes (allQuestions s g 32 32)) where
 
 -- ---- the goals are accepted, and 32 entries suffice
 except-3-accepted : GoalAccepted (countsOf weir) (exceptType 3)
-unfolding countsOf recordCount legsOf flagsOf goalCount goalHeadOf nextOf contextRecordOf eventRecordOf bit
+unfolding countsOf recordCount legsOf flagsOf goalCount goalHead nextOf contextRecordOf eventRecordOf bit
 except-3-accepted = goal-accepted refl refl refl refl
 
 except-4-accepted : GoalAccepted (countsOf weir) (exceptType 4)
-unfolding countsOf recordCount legsOf flagsOf goalCount goalHeadOf nextOf contextRecordOf eventRecordOf bit
+unfolding countsOf recordCount legsOf flagsOf goalCount goalHead nextOf contextRecordOf eventRecordOf bit
 except-4-accepted = goal-accepted refl refl refl refl
 
 end-accepted : GoalAccepted (countsOf weir) endTypeOne
-unfolding countsOf recordCount legsOf flagsOf goalCount goalHeadOf nextOf contextRecordOf eventRecordOf bit
+unfolding countsOf recordCount legsOf flagsOf goalCount goalHead nextOf contextRecordOf eventRecordOf bit
 end-accepted = goal-accepted refl refl refl refl
 
 one-leg-accepted : GoalAccepted (countsOf weir) oneLeg
-unfolding countsOf recordCount legsOf flagsOf goalCount goalHeadOf nextOf contextRecordOf eventRecordOf bit
+unfolding countsOf recordCount legsOf flagsOf goalCount goalHead nextOf contextRecordOf eventRecordOf bit
 one-leg-accepted = goal-accepted refl refl refl refl
 
 no-start-accepted : GoalAccepted (countsOf weir) noStart
-unfolding countsOf recordCount legsOf flagsOf goalCount goalHeadOf nextOf contextRecordOf eventRecordOf bit
+unfolding countsOf recordCount legsOf flagsOf goalCount goalHead nextOf contextRecordOf eventRecordOf bit
 no-start-accepted = goal-accepted refl refl refl refl
 
 two-legs : (g : List ℕ) → legsOf g ≡ 2 → workLength weir g ≤ 32

@@ -8,9 +8,9 @@ use lib.ListN.{length, getD}
 use Rattle.base.specs.Questions.{ask}
 use Rattle.base.proofs.QuestionLaws.{passed-not-refused, passed-then, one-number}
 use Rattle.policy_image.specs.Layout.{countsOf}
-use Rattle.policy_image.specs.Weir.{weir}
-use Rattle.policy_check.specs.Answer.{policyQuestions}
-use Rattle.goal_image.specs.WeirGoal.{goalG}
+use Rattle.policy_image.specs.cases.Weir.{weir}
+use Rattle.policy_check.specs.Questions.{policyQuestions}
+use Rattle.goal_image.specs.cases.WeirGoal.{goalG}
 use Rattle.goal_image.specs.Questions.{goalQuestions}
 use Rattle.paths.specs.Slice.{contextsIn, eventsIn}
 use Rattle.goal_model.specs.Images.{model}
@@ -18,7 +18,8 @@ use Rattle.flowgoal.specs.declared.goal.Outcome.{Outcome}
 use Rattle.flowgoal.specs.declared.goal.Outcome.the-variants as outcome
 use Rattle.flowgoal.specs.GoalQuestion.{WorkFits, allQuestions, GoalPromise, outcomeNumber}
 use Rattle.flowgoal.proofs.GoalLaws.{order-one, not-both, not-holds-order, not-holds-events, not-holds, least-one}
-use Rattle.weir.specs.Goals.{weirAllow41, writeOnly}
+use Rattle.goal_model.specs.cases.OwnGoals.{writeOnly}
+use Rattle.weir.specs.cases.Goals.{weirAllow41}
 use Rattle.weir.proofs.Answers.{w1, w2, w5, w2-path}
 use Rattle.weir.proofs.Theorem.{w2-enough, w12-enough, w12-second, refused-11, w5-slice, work-length}
 

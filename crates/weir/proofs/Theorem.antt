@@ -7,16 +7,16 @@ use native.Mathlib.Omega.{arith}
 use lib.ListN.{length}
 use Rattle.base.specs.Questions.{Question, ask, AllYes, RefusedWith}
 use Rattle.base.proofs.QuestionLaws.{refused-then, passed-both, passed-not-refused}
-use Rattle.policy_image.specs.Layout.{countsOf, recordCount, recordOf, headOf, payloadOf, decoded}
-use Rattle.policy_image.specs.Weir.{weir}
+use Rattle.policy_image.specs.Layout.{countsOf, recordCount, recordOf, policyHead, payloadOf, decoded}
+use Rattle.policy_image.specs.cases.Weir.{weir}
 use Rattle.policy_nodes.specs.Nodes.{useOf}
-use Rattle.policy_check.specs.Answer.{policyQuestions}
+use Rattle.policy_check.specs.Questions.{policyQuestions}
 use Rattle.policy_check.proofs.Tests.{Accepted, accepted}
 use Rattle.policy_check.proofs.Cases.{weir-accepted, w10-short, w10-empty, w11}
 use Rattle.access.proofs.NoDomain.{w9-nothing, w9-authorized, w9-flow}
 use Rattle.base.specs.Bits.{bit}
-use Rattle.goal_image.specs.Layout.{legsOf, flagsOf, goalCount, headOf as goalHeadOf, nextOf, contextRecordOf, eventRecordOf}
-use Rattle.goal_image.specs.WeirGoal.{goalG}
+use Rattle.goal_image.specs.Layout.{legsOf, flagsOf, goalCount, goalHead, nextOf, contextRecordOf, eventRecordOf}
+use Rattle.goal_image.specs.cases.WeirGoal.{goalG}
 use Rattle.goal_image.specs.Questions.{goalQuestions}
 use Rattle.goal_image.proofs.Tests.{Accepted as GoalAccepted, accepted as goal-accepted}
 use Rattle.goal_image.proofs.Cases.{g-accepted}
@@ -26,8 +26,9 @@ use Rattle.flowgoal.specs.declared.goal.Outcome.the-variants as outcome
 use Rattle.paths.specs.Slice.{contextsIn, eventsIn, Shows}
 use Rattle.flowgoal.specs.GoalQuestion.{workLength, WorkFits, allQuestions, GoalPromise}
 use Rattle.flowgoal.proofs.GoalLaws.{order-one, not-both, not-holds-order, least-one}
-use Rattle.weir.specs.Goals.{weirAllow41, writeOnly}
-use Rattle.weir.specs.Weir.{W5Slice, Weir}
+use Rattle.goal_model.specs.cases.OwnGoals.{writeOnly}
+use Rattle.weir.specs.cases.Goals.{weirAllow41}
+use Rattle.weir.specs.cases.Weir.{W5Slice, Weir}
 use Rattle.weir.proofs.Answers.{w1, w2, w3, w4, w5, w6, w7, w8, w5-path}
 
 -- ---- questions 1 to 11 of G
@@ -63,15 +64,15 @@ w12-enough =
 
 -- ---- W5 by answer, count and path slice
 weir41-accepted : Accepted weirAllow41
-unfolding countsOf recordCount recordOf headOf payloadOf decoded useOf
+unfolding countsOf recordCount recordOf policyHead payloadOf decoded useOf
 weir41-accepted = accepted refl refl refl refl refl refl
 
 goal41-accepted : GoalAccepted (countsOf weirAllow41) goalG
-unfolding countsOf recordCount legsOf flagsOf goalCount goalHeadOf nextOf contextRecordOf eventRecordOf bit
+unfolding countsOf recordCount legsOf flagsOf goalCount goalHead nextOf contextRecordOf eventRecordOf bit
 goal41-accepted = goal-accepted refl refl refl refl
 
 write-only-accepted : GoalAccepted (countsOf weir) writeOnly
-unfolding countsOf recordCount legsOf flagsOf goalCount goalHeadOf nextOf contextRecordOf eventRecordOf bit
+unfolding countsOf recordCount legsOf flagsOf goalCount goalHead nextOf contextRecordOf eventRecordOf bit
 write-only-accepted = goal-accepted refl refl refl refl
 
 work41-length : workLength weirAllow41 goalG ≡ 32

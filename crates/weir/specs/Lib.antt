@@ -1,3 +1,1 @@
-pub mod Goals
-pub mod Weir
-pub mod Called
+pub mod cases

@@ -7,11 +7,12 @@ use native.Mathlib.Decide.{decLe}
 use Rattle.policy_image.specs.declared.counts.Counts.{Counts}
 use Rattle.goal_image.specs.declared.check.Legs.{Legs}
 use Rattle.goal_image.specs.Layout.{legsOf}
-use Rattle.paths.specs.Answer.{order, events}
-use Rattle.paths.proofs.Monitors.{trackerN, order-iff}
-use Rattle.paths.proofs.Verdict.{Found, Least, at, nowhere, answer, answerBy}
+use Rattle.paths.specs.inner.Answer.{order, events}
+use Rattle.paths.specs.inner.Monitors.{trackerN}
+use Rattle.paths.proofs.Monitors.{order-iff}
+use Rattle.paths.specs.inner.Verdict.{Found, Least, at, nowhere, answer, answerBy}
 use Rattle.goal_model.specs.Images.{model}
-use Rattle.nodes.specs.Tasks.{Task}
+use Rattle.nodes.specs.inner.Tasks.{Task}
 
 pub one-more : {d : ℕ} → suc d ≡ d + 1
 one-more = omega arith

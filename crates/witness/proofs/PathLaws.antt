@@ -9,26 +9,27 @@ use lib.Dec.{T}
 use lib.ListN.{length, getD, set, length-set}
 use lib.Seq.{getD-set-same, getD-set-other}
 use Rattle.policy_image.specs.declared.counts.Counts.{Counts}
-use Rattle.context.specs.Places.{contextCount}
+use Rattle.context.specs.inner.Places.{contextCount}
 use Rattle.goal_image.specs.declared.check.Legs.{Legs}
 use Rattle.goal_image.specs.Layout.{legsOf}
 use Rattle.goal_model.specs.Images.{model}
 use Rattle.paths.specs.Model.{Model}
 use Rattle.paths.specs.Paths.{IsPath}
 use Rattle.paths.specs.Slice.{contextsIn, eventsIn}
-use Rattle.paths.proofs.Monitor.{Edge, run, run-is}
+use Rattle.paths.specs.inner.Monitor.{Edge, run}
+use Rattle.paths.proofs.Monitor.{run-is}
 use Rattle.paths.proofs.Monitors.{order-verdict, events-verdict}
 use Rattle.nodes.specs.declared.monitor.Mode.{Mode}
 use Rattle.nodes.specs.declared.monitor.Mode.the-variants.{Order, Events}
-use Rattle.nodes.specs.Arrivals.{States}
-use Rattle.nodes.specs.Tasks.{Task, graphOf}
-use Rattle.nodes.specs.Graph.{Graph, Chain, Chain.root, Chain.link}
-use Rattle.nodes.specs.Nodes.{Watch, watchOf, monitorOf, stateOf, codeOf, states, StartAt, EdgeAt, EndAt, BadStart}
+use Rattle.nodes.specs.inner.Arrivals.{States}
+use Rattle.nodes.specs.inner.Tasks.{Task, graphOf}
+use Rattle.nodes.specs.inner.Graph.{Graph, Chain, Chain.root, Chain.link}
+use Rattle.nodes.specs.inner.Nodes.{Watch, watchOf, monitorOf, stateOf, codeOf, states, StartAt, EdgeAt, EndAt, BadStart}
 use Rattle.nodes.proofs.SearchLaws.{chain-bound}
 use Rattle.memory.proofs.StandLaws.{around, at-place}
 use Rattle.search.proofs.FoundLaws.{few-types}
-use Rattle.witness.specs.Links.{Linked}
-use Rattle.witness.specs.Shown.{BreaksBy, Shown, NodeIn}
+use Rattle.witness.specs.inner.Links.{Linked}
+use Rattle.witness.specs.inner.Shown.{BreaksBy, Shown, NodeIn}
 
 -- ---- the links
 pub record Last (g : Graph) (back : List ℕ) (d v : ℕ) : Type 0 where

@@ -12,7 +12,7 @@ use lib.Dec.{T, eqb}
 use lib.ListN.{replicate}
 use lib.Pow.{pow-pos, pow-mono}
 use Rattle.base.specs.Bits.{bit}
-use Rattle.base.specs.Decides.{Decides}
+use Rattle.base.specs.inner.Decides.{Decides}
 use Rattle.base.proofs.BitLaws.{bit-zero}
 use Rattle.base.proofs.Numbers.{zeros}
 use Rattle.policy_image.specs.declared.counts.Counts.{Counts}
@@ -21,33 +21,32 @@ use Rattle.policy_image.specs.Policy.{policyOf}
 use Rattle.context.specs.declared.Context.{Context}
 use Rattle.context.specs.Codes.{eventOf}
 use Rattle.context.specs.Ranges.{ContextInRange}
-use Rattle.context.specs.Places.{contextCount, contextAtIndex}
+use Rattle.context.specs.inner.Places.{contextCount, contextAtIndex}
 use Rattle.context.proofs.PlaceLaws.{at-in-range}
 use Rattle.access.specs.Authorization.{flow}
 use Rattle.goal_image.specs.declared.check.Legs.{Legs}
 use Rattle.goal_image.specs.Layout.{legsOf}
 use Rattle.goal_image.specs.Goal.{goalOf}
-use Rattle.goal_image.specs.Sets.{EventSets}
-use Rattle.goal_model.specs.Images.{held, model}
-use Rattle.plan.specs.Plan.{firstAt, eventsAt, special, Planned}
+use Rattle.goal_image.specs.inner.Memberships.{EventSets}
+use Rattle.goal_model.specs.Images.{meetsρμ, model}
+use Rattle.plan.specs.inner.Plan.{firstAt, eventsAt, special, Planned}
 use Rattle.steps.specs.declared.nearest.Asker.{Asker}
 use Rattle.steps.specs.declared.nearest.Offer.{Offer}
-use Rattle.steps.specs.Nearest.{Cursor}
-use Rattle.steps.specs.Steps.{Offering, Facing, NextOffer}
+use Rattle.steps.specs.inner.Nearest.{Cursor}
+use Rattle.steps.specs.inner.Steps.{Offering, Facing, NextOffer}
 use Rattle.steps.proofs.FlowLaws.{flow-held}
 use Rattle.nodes.specs.declared.arrival.Arrival.{Arrival}
 use Rattle.nodes.specs.declared.arrival.Arrival.the-variants.{Enter, Dropped, Broken}
 use Rattle.nodes.specs.declared.monitor.Mode.{Mode}
-use Rattle.nodes.specs.Nodes.{watchOf, codeAt, placeOf}
-use Rattle.nodes.specs.Arrivals.{States, Lands, LandsOpen, LandsGood, LandsBad, Arriving}
-use Rattle.nodes.specs.Tasks.{Task, Stands, typeOf, graphOf}
-use Rattle.memory.specs.Memory.{keepsOf}
-use Rattle.witness.specs.Links.{Least, Linked, OfferedBetween}
+use Rattle.nodes.specs.inner.Nodes.{watchOf, codeAt, placeOf}
+use Rattle.nodes.specs.inner.Arrivals.{States, Lands, LandsOpen, LandsGood, LandsBad, Arriving}
+use Rattle.nodes.specs.inner.Tasks.{Task, Stands, typeOf, graphOf}
+use Rattle.memory.specs.inner.Memory.{keepsOf}
+use Rattle.witness.specs.inner.Links.{LeastBelow, Linked, OfferedBetween}
 use Rattle.nodes.proofs.ModelLaws.{bounded}
 use Rattle.base.proofs.UptoLaws.{clash}
 use Rattle.nodes.proofs.ArrivalLaws.{later}
-use Rattle.memory.proofs.MemoryLaws.{AskerOf, memory-begin, edge-like}
-use Rattle.memory.proofs.MemoryLaws.{passed as remembered}
+use Rattle.memory.proofs.MemoryLaws.{AskerOf, memory-begin, edge-like, passed as remembered}
 use Rattle.nodes.proofs.LevelLaws.{place-lt, edge-flow, edge-free, edge-freeE, range-at, only-at, edge-at}
 use Rattle.memory.proofs.StandLaws.{Around, around, at-place, stand}
 
@@ -96,7 +95,7 @@ module _ {s g : List ℕ} {n : Counts} {l : Legs} (A : Task s g n l) (m : Mode) 
     flows j ed = edge-flow A m (stand u fixed (L .from) q) (L .to) ed
 
     -- so x meets ρ and μ, since some event does
-    pub from-held : held (policyOf s) x ≡ true
+    pub from-held : meetsρμ (policyOf s) x ≡ true
     from-held = flow-held (policyOf s) (eventOf (L .event .which)) x (contextAtIndex n (placeOf (2 ^ legsOf g) w)) (flows (L .event .which) (L .event .holds)) .0
 
     -- x faces w's context by an event that is offered from its type to the other's
@@ -215,7 +214,7 @@ module _ {s g : List ℕ} {n : Counts} {l : Legs} (A : Task s g n l) (m : Mode) 
               ⊎-elim (λ (z : o .at ≡ 4096 * j + typeOf g n w). here j z ed) (λ (z : o .at < 4096 * j + typeOf g n w). passed q P Q N past j (omega arith) h ed)
               (eq-or-lt-of-le (omega arith))
 
-      pub look-found : o .at < 4194304 → graphOf s g n m .Edge u (o .at / 4096) w → Least (λ e. graphOf s g n m .Edge u e w) 1024 (o .at / 4096)
+      pub look-found : o .at < 4194304 → graphOf s g n m .Edge u (o .at / 4096) w → LeastBelow (λ e. graphOf s g n m .Edge u e w) 1024 (o .at / 4096)
       look-found h ed =
           record { within = omega arith; holds = ed; before = λ j k. K .none j (let z = type-small in omega arith) }
 

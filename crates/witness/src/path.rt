@@ -10,12 +10,12 @@ ghost use mathlib.Core.Path.{_≡_};
 ghost use Prim.Native.Nat.{_+_, _*_, _≤_};
 ghost use lib.ListN.{length};
 ghost use Rattle.goal_model.specs.Images.{model};
-ghost use Rattle.plan.specs.Plan.{Planned};
-ghost use Rattle.search.specs.Found.{FoundLeast};
-ghost use Rattle.nodes.specs.Graph.{FoundAt};
-ghost use Rattle.nodes.specs.Nodes.{codeOf};
-ghost use Rattle.nodes.specs.Tasks.{Task, graphOf};
-ghost use Rattle.witness.specs.Shown.{Shown, Something, stepsTo, NodeIn};
+ghost use Rattle.plan.specs.inner.Plan.{Planned};
+ghost use Rattle.search.specs.inner.Found.{FoundLeast};
+ghost use Rattle.nodes.specs.inner.Graph.{FoundAt};
+ghost use Rattle.nodes.specs.inner.Nodes.{codeOf};
+ghost use Rattle.nodes.specs.inner.Tasks.{Task, graphOf};
+ghost use Rattle.witness.specs.inner.Shown.{Shown, Something, stepsTo, NodeIn};
 
 // The code of a node's context.
 fn code_of(counts: Counts, states: u32, v: u32) -> u32

@@ -16,10 +16,10 @@ use steps::offers::first_offer;
 use steps::offers::next_offer;
 use steps::targets::is_special;
 use steps::targets::is_target;
-ghost use Rattle.base.specs.Decides.{Decides};
-ghost use Rattle.plan.specs.Plan.{Planned};
-ghost use Rattle.nodes.specs.Tasks.{Task, graphOf};
-ghost use Rattle.witness.specs.Links.{Least, Linked, OfferedBetween};
+ghost use Rattle.base.specs.inner.Decides.{Decides};
+ghost use Rattle.plan.specs.inner.Plan.{Planned};
+ghost use Rattle.nodes.specs.inner.Tasks.{Task, graphOf};
+ghost use Rattle.witness.specs.inner.Links.{LeastBelow, Linked, OfferedBetween};
 
 // Whether the event, which the entry offers from u's type to w's, leads from node u to node w.
 fn is_step(
@@ -67,7 +67,7 @@ pub fn least_event(
     w: u32,
 ) -> u32
     requires { ⌜ Task (now policy) (now goal) counts legs × Planned (now policy) (now goal) counts (now plan) × Linked (graphOf (now policy) (now goal) counts mode) u w ⌝ }
-    ensures { λ r. ⌜ Least (λ e. graphOf (now (policy .entry)) (now (goal .entry)) counts mode .Edge u e w) 1024 r ⌝ }
+    ensures { λ r. ⌜ LeastBelow (λ e. graphOf (now (policy .entry)) (now (goal .entry)) counts mode .Edge u e w) 1024 r ⌝ }
 {
     let states = states_of(legs);
     let x = Context::at(u / states, counts);

@@ -5,13 +5,13 @@ use policy_image::counts::Counts;
 use search::levels::Found;
 use search::search;
 ghost use mathlib.Core.Path.{_≡_};
-ghost use Rattle.paths.proofs.Verdict.{answer, nowhere};
-ghost use Rattle.plan.specs.Plan.{Planned};
+ghost use Rattle.paths.specs.inner.Verdict.{answer, nowhere};
+ghost use Rattle.plan.specs.inner.Plan.{Planned};
 ghost use Rattle.nodes.specs.declared.monitor.Mode.the-variants.{Order};
-ghost use Rattle.search.specs.Found.{FoundLeast};
-ghost use Rattle.nodes.specs.Seeds.{Roomy};
-ghost use Rattle.nodes.specs.Tasks.{Task};
-ghost use Rattle.witness.specs.Shown.{reachedBy, Short, answerOf};
+ghost use Rattle.search.specs.inner.Found.{FoundLeast};
+ghost use Rattle.nodes.specs.inner.Seeds.{Roomy};
+ghost use Rattle.nodes.specs.inner.Tasks.{Task};
+ghost use Rattle.witness.specs.inner.Shown.{reachedBy, Short, answerOf};
 
 // The answer to a goal: m is the number of steps of a shortest path that breaks it.
 pub enum Verdict {

@@ -2,7 +2,7 @@ use mathlib.Core.Path.{sym, ap, subst, _∙_}
 use borrow.Author.Needs.{needs}
 use Rattle.policy_image.specs.Policy.{policyOf}
 use Rattle.context.specs.declared.Event.{Event}
-use Rattle.context.specs.Ranges.{Coded}
+use Rattle.context.specs.inner.Coding.{Coded}
 use Rattle.context.proofs.CodeLaws.{coded-of}
 use Rattle.access.specs.Authorization.{authorized, clausesOf, allHold}
 use Rattle.access.proofs.authorized.Statement.{statement}

@@ -8,7 +8,7 @@ use borrow.Author.Needs.{needs}
 use borrow.Fn.Kinds.{In}
 use borrow.Fn.PlainCycle.{Measures, is, falls, and}
 use denote.Ref.{now}
-use Rattle.policy_image.specs.Layout.{Exact, leftOf, rightOf}
+use Rattle.policy_image.specs.Layout.{PolicyExact, leftOf, rightOf}
 use Rattle.policy_image.specs.Policy.{Policy, policyOf}
 use Rattle.policy_image.specs.declared.records.Record.{Record}
 use Rattle.policy_image.proofs.FieldLaws.{SameFields, same-fields}
@@ -68,7 +68,7 @@ module _ (t : ℕ) (K : lts.After-struct-known2 (claims t) (at t) eval.Post) whe
 
   -- what a call at m asks
   abbrev Asks : ℕ → Type 0
-  Asks m = (m < t) × (Exact (now (s .args .image)) × NodesInOrder p × IsNode p m)
+  Asks m = (m < t) × (PolicyExact (now (s .args .image)) × NodesInOrder p × IsNode p m)
 
   child-asks : (m k : ℕ) → k ≡ m → IsNode p k × (k < n) → Asks m
   child-asks m k e q =

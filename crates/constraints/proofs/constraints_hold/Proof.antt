@@ -9,12 +9,12 @@ use borrow.Author.Tests.{not-true, not-false}
 use Rattle.base.proofs.ChainLaws.{Visit, left, visit-start, visit-step, visit-less}
 use Rattle.policy_image.specs.declared.records.Record.{Record}
 use Rattle.policy_image.specs.Layout.{recordCount, rootOf}
-use Rattle.policy_image.specs.Policy.{Policy, policyOf, linksOf}
+use Rattle.policy_image.specs.Policy.{Policy, policyOf, policyLinks}
 use Rattle.policy_image.proofs.FieldLaws.{same-fields}
 use Rattle.policy_chains.proofs.KindLaws.{OfKind, visit-kind, visit-all, every-yes, every-no}
 use Rattle.policy_nodes.specs.Nodes.{Uses, IsNode}
 use Rattle.policy_nodes.proofs.UseLaws.{use-root}
-use Rattle.policy_check.specs.Sound.{Sound}
+use Rattle.policy_check.specs.inner.Sound.{Sound}
 use Rattle.context.specs.declared.Context.{Context}
 use Rattle.context.specs.declared.Event.{Event}
 use Rattle.constraints.specs.Eval.{evalNode}
@@ -28,7 +28,7 @@ holds p e x y r = not (constrains r e) || evalNode p x y (rootOf r)
 
 abbrev Inv-loop : tie.InvT-loop
 Inv-loop image e x y i₀ i =
-    Visit (linksOf (policyOf image)) 8 (λ j. holds (policyOf image) e x y (policyOf image .rec j) ≡ true) i
+    Visit (policyLinks (policyOf image)) 8 (λ j. holds (policyOf image) e x y (policyOf image .rec j) ≡ true) i
 
 abbrev μ-loop : tie.MeasureT-loop
 μ-loop image e x y i₀ i = left (recordCount image) i
@@ -40,7 +40,7 @@ loop-holds : tie.Need-loop-holds Inv-loop μ-loop
 loop-holds c =
     let s = c .before .before in
     let L = s .pre .0 .links in
-    visit-start (linksOf (policyOf (s .args .image .now))) 8 (L .heads 8 (omega arith) (omega arith)) (L .nexts) _ _ (omega arith)
+    visit-start (policyLinks (policyOf (s .args .image .now))) 8 (L .heads 8 (omega arith) (omega arith)) (L .nexts) _ _ (omega arith)
 
 record-at-requires : tie.Need-record-at-requires Inv-loop μ-loop
 record-at-requires c κs =
@@ -83,14 +83,14 @@ module _ (K : tie.After-record-at Inv-loop μ-loop) where
   answer : (t : Bool) → t ≡ f r → f (p .rec i) ≡ t
   answer t e = sym (e ∙ ap f same)
 
-  again : (k : ℕ) → k ≡ r .next → f (p .rec i) ≡ true → Visit (linksOf p) 8 (λ j. f (p .rec j) ≡ true) k
+  again : (k : ℕ) → k ≡ r .next → f (p .rec i) ≡ true → Visit (policyLinks p) 8 (λ j. f (p .rec j) ≡ true) k
   again k e =
-      visit-step (linksOf p) 8 (S .links .heads 8 (omega arith) (omega arith)) (S .links .nexts) (λ j. f (p .rec j) ≡ true) i
+      visit-step (policyLinks p) 8 (S .links .heads 8 (omega arith) (omega arith)) (S .links .nexts) (λ j. f (p .rec j) ≡ true) i
       (K .before .loop-test .taken) (K .before .before .loop .inv) k (e ∙ same-fields same .next)
 
   less : left (p .size) (r .next) < left (p .size) i
   less =
-      visit-less (linksOf p) 8 (S .links .heads 8 (omega arith) (omega arith)) (S .links .nexts) (λ j. f (p .rec j) ≡ true) i
+      visit-less (policyLinks p) 8 (S .links .heads 8 (omega arith) (omega arith)) (S .links .nexts) (λ j. f (p .rec j) ≡ true) i
       (K .before .loop-test .taken) (K .before .before .loop .inv) (r .next) (same-fields same .next)
 
 constraint-holds-requires : tie.Need-constraint-holds-requires Inv-loop μ-loop
@@ -122,7 +122,7 @@ returns-2 c =
     let p = policyOf (s .args .image .now) in
     let f : Record → Bool = holds p (s .args .e) (s .args .x) (s .args .y) in
     let Q : ℕ → Type 0 = λ j. f (p .rec j) ≡ true in
-    let v : Visit (linksOf p) 8 Q 0 = subst (λ (j : ℕ). Visit (linksOf p) 8 Q j) (c .loop-test .left) (c .before .loop .inv) in
+    let v : Visit (policyLinks p) 8 Q 0 = subst (λ (j : ℕ). Visit (policyLinks p) 8 Q j) (c .loop-test .left) (c .before .loop .inv) in
     sym (every-yes p 8 f (visit-all p (S .links) (S .chains) 8 (omega arith) (omega arith) Q v))
 
 pub constraints-hold-spec : {M : Type 1} → statement M

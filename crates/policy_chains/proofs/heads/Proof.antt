@@ -1,8 +1,7 @@
 use lib.Seq.{getD-set-same, getD-set-other}
-use lib.ListN.{length-set}
-use Rattle.policy_image.specs.Layout.{headOf}
+use lib.ListN.{length-set, length, getD}
+use Rattle.policy_image.specs.Layout.{policyHead}
 use Rattle.base.proofs.Numbers.{upto-none, upto-more}
-use lib.ListN.{length, getD}
 use mathlib.Core.Path.{_≡_, _∙_}
 use Prim.Native.Nat.{ℕ, _≤_, _<_, _-_}
 use native.Mathlib.Omega.{arith}
@@ -11,7 +10,7 @@ use Rattle.policy_chains.proofs.heads.Statement.{statement}
 use Rattle.policy_chains.proofs.heads.Tie as tie
 
 abbrev Inv-loop : tie.InvT-loop
-Inv-loop image c₀ k₀ c k = (1 ≤ k) × (k ≤ 10) × (length c ≡ 10) × ((j : ℕ) → 1 ≤ j → j < k → getD c j 0 ≡ headOf image j)
+Inv-loop image c₀ k₀ c k = (1 ≤ k) × (k ≤ 10) × (length c ≡ 10) × ((j : ℕ) → 1 ≤ j → j < k → getD c j 0 ≡ policyHead image j)
 
 abbrev μ-loop : tie.MeasureT-loop
 μ-loop image c₀ k₀ c k = 10 - k

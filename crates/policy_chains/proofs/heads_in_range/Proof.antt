@@ -1,4 +1,4 @@
-use Rattle.policy_image.specs.Layout.{recordCount, headOf}
+use Rattle.policy_image.specs.Layout.{recordCount, policyHead}
 use Rattle.base.proofs.Numbers.{upto-none, upto-more}
 use mathlib.Core.Path.{_≡_}
 use Prim.Native.Nat.{ℕ, _≤_, _<_, _-_}
@@ -9,7 +9,7 @@ use Rattle.policy_chains.proofs.heads_in_range.Tie as tie
 
 abbrev Inv-loop : tie.InvT-loop
 Inv-loop image n k₀ k =
-    (1 ≤ k) × (k ≤ 10) × (n ≡ recordCount image) × ((j : ℕ) → 1 ≤ j → j < k → headOf image j ≤ recordCount image)
+    (1 ≤ k) × (k ≤ 10) × (n ≡ recordCount image) × ((j : ℕ) → 1 ≤ j → j < k → policyHead image j ≤ recordCount image)
 
 abbrev μ-loop : tie.MeasureT-loop
 μ-loop image n k₀ k = 10 - k

@@ -1,7 +1,7 @@
 use Rattle.policy_image.proofs.FieldLaws.{same-fields}
 use mathlib.Core.Logic.{inl, inr, ⊎-elim}
 use Rattle.base.specs.Chain.{Rises}
-use Rattle.policy_image.specs.Policy.{policyOf, linksOf}
+use Rattle.policy_image.specs.Policy.{policyOf, policyLinks}
 use Rattle.policy_image.specs.Layout.{recordCount}
 use Rattle.base.proofs.Numbers.{upto-none, upto-more}
 use mathlib.Core.Path.{_≡_}
@@ -13,7 +13,7 @@ use Rattle.policy_chains.proofs.nexts_rise.Tie as tie
 
 abbrev Inv-loop : tie.InvT-loop
 Inv-loop image n i₀ i =
-    (1 ≤ i) × (i ≤ n + 1) × (n ≡ recordCount image) × ((j : ℕ) → 1 ≤ j → j < i → Rises (linksOf (policyOf image)) j)
+    (1 ≤ i) × (i ≤ n + 1) × (n ≡ recordCount image) × ((j : ℕ) → 1 ≤ j → j < i → Rises (policyLinks (policyOf image)) j)
 
 abbrev μ-loop : tie.MeasureT-loop
 μ-loop image n i₀ i = n + 1 - i

@@ -12,11 +12,12 @@ use Rattle.base.proofs.QuestionLaws.{refused-first, refused-then, passed-both}
 use Rattle.policy_image.specs.declared.counts.Counts.{Counts}
 use Rattle.policy_image.specs.declared.counts.Checked.{Checked}
 use Rattle.policy_image.specs.declared.counts.Checked.the-variants.{Accepted, Refused}
-use Rattle.policy_image.specs.Counts.{CountsAnswer, countQuestions}
+use Rattle.policy_image.specs.inner.Answer.{CountsAnswer, countQuestions}
 use Rattle.policy_image.specs.Policy.{policyOf}
 use Rattle.policy_chains.specs.Chains.{LinksRise, ChainsByKind}
 use Rattle.policy_fields.specs.Fields.{FieldsInRange}
-use Rattle.policy_check.specs.Answer.{PolicyAnswer, policyQuestions}
+use Rattle.policy_check.specs.inner.Answer.{PolicyAnswer}
+use Rattle.policy_check.specs.Questions.{policyQuestions}
 use Rattle.policy_check.proofs.check.Statement.{statement}
 use Rattle.policy_check.proofs.check.Tie as tie
 

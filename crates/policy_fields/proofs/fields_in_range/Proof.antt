@@ -9,7 +9,7 @@ use Rattle.policy_image.specs.declared.records.Record.{Record}
 use Rattle.policy_image.specs.Layout.{recordCount}
 use Rattle.policy_image.specs.Policy.{Policy, policyOf}
 use Rattle.policy_fields.specs.declared.Limits.{Limits}
-use Rattle.policy_fields.specs.Fields.{limitsOf, Meets, Fits}
+use Rattle.policy_fields.specs.Fields.{limitsOf, WithinLimits, Fits}
 use Rattle.policy_fields.proofs.fields_in_range.Statement.{statement}
 use Rattle.policy_fields.proofs.fields_in_range.Tie as tie
 
@@ -22,9 +22,9 @@ abbrev μ-loop : tie.MeasureT-loop
 μ-loop image counts n i₀ i = n + 1 - i
 
 -- the limits as computed for the record as read are those of the policy's record
-fits-of : (p : Policy) (n : Counts) (l : Limits) (r s : Record) → n ≡ p .counts → l ≡ limitsOf n (r .kind) (r .a) → r ≡ s → Meets l r ≡ Fits (p .counts) s
+fits-of : (p : Policy) (n : Counts) (l : Limits) (r s : Record) → n ≡ p .counts → l ≡ limitsOf n (r .kind) (r .a) → r ≡ s → WithinLimits l r ≡ Fits (p .counts) s
 fits-of p n l r s e f g =
-    ap (λ (x : Limits). Meets x r) f ∙ ap (λ (m : Counts). Fits m r) e ∙ ap (λ (q : Record). Fits (p .counts) q) g
+    ap (λ (x : Limits). WithinLimits x r) f ∙ ap (λ (m : Counts). Fits m r) e ∙ ap (λ (q : Record). Fits (p .counts) q) g
 
 -- what is known where record i has been held to its limits
 module _ (K : tie.After-record-in-range Inv-loop μ-loop) where
@@ -34,7 +34,7 @@ module _ (K : tie.After-record-in-range Inv-loop μ-loop) where
   abbrev i : ℕ
   i = K .before .before .before .before .loop .i
 
-  said : Meets (K .before .kind-limits .result) (K .before .before .record-at .result) ≡ Fits (p .counts) (p .rec i)
+  said : WithinLimits (K .before .kind-limits .result) (K .before .before .record-at .result) ≡ Fits (p .counts) (p .rec i)
   said =
       fits-of p (K .before .before .before .before .before .before .args .counts) _ _ _
       (K .before .before .before .before .before .before .pre .same) (K .before .kind-limits .ensures) (K .before .before .record-at .ensures .same)

@@ -1,7 +1,6 @@
 use Rattle.policy_nodes.specs.Nodes.{useOf}
-use mathlib.Core.Path.{_≡_}
+use mathlib.Core.Path.{_≡_, _∙_, ap, sym}
 use native.Mathlib.Omega.{arith}
-use mathlib.Core.Path.{_∙_, ap, sym}
 use borrow.Author.Needs.{needs}
 use Rattle.policy_nodes.proofs.use_at.Statement.{statement}
 use Rattle.policy_nodes.proofs.use_at.Tie as tie

@@ -1,7 +1,7 @@
 use mathlib.Core.Path.{subst}
 use denote.Ref.{now}
 use Rattle.flowgoal.specs.declared.goal.Outcome.{Outcome}
-use Rattle.report.specs.Printing.{Shown}
+use Rattle.report.specs.inner.Printing.{Shown}
 use borrow.Author.Needs.{needs}
 use Rattle.report.proofs.print_outcome.Statement.{statement}
 use Rattle.report.proofs.print_outcome.Tie as tie

@@ -1,5 +1,5 @@
 use native.Mathlib.Omega.{arith}
-use Rattle.context.specs.Places.{contextAtIndex}
+use Rattle.context.specs.inner.Places.{contextAtIndex}
 use Rattle.context.specs.Ranges.{ContextInRange}
 use Rattle.context.proofs.PlaceLaws.{at-in-range}
 use borrow.Author.Needs.{needs}

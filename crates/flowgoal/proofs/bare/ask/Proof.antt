@@ -10,10 +10,12 @@ use Rattle.policy_image.specs.declared.counts.Counts.{Counts}
 use Rattle.policy_image.specs.declared.counts.Checked.{Checked}
 use Rattle.policy_image.specs.declared.counts.Checked.the-variants.{Accepted}
 use Rattle.policy_image.specs.Layout.{countsOf}
-use Rattle.policy_check.specs.Answer.{PolicyAnswer, policyQuestions}
+use Rattle.policy_check.specs.inner.Answer.{PolicyAnswer}
+use Rattle.policy_check.specs.Questions.{policyQuestions}
 use Rattle.context.specs.declared.Context.{Context}
 use Rattle.context.specs.declared.Event.{Event}
-use Rattle.flowgoal.specs.Bare.{AskedInRange, AskedAnswer}
+use Rattle.flowgoal.specs.Bare.{AskedInRange}
+use Rattle.flowgoal.specs.inner.Parts.{AskedAnswer}
 use Rattle.flowgoal.proofs.BareLaws.{last}
 use Rattle.flowgoal.proofs.bare.ask.Statement.{statement}
 use Rattle.flowgoal.proofs.bare.ask.Tie as tie

@@ -7,12 +7,12 @@ use native.Mathlib.Omega.{arith}
 use denote.Ref.{now}
 use borrow.Author.Needs.{needs}
 use Rattle.paths.specs.Paths.{OrderAt, EventsAt}
-use Rattle.paths.specs.Answer.{Right}
+use Rattle.paths.specs.inner.Answer.{Right}
 use Rattle.goal_model.specs.Images.{model}
 use Rattle.nodes.specs.declared.monitor.Mode.the-variants.{Order, Events}
 use Rattle.witness.specs.declared.verdict.Verdict.{Verdict}
 use Rattle.witness.specs.declared.verdict.Verdict.the-variants as verdict
-use Rattle.witness.specs.Shown.{answerOf, Something, stepsTo}
+use Rattle.witness.specs.inner.Shown.{answerOf, Something, stepsTo}
 use Rattle.flowgoal.proofs.AnswerLaws.{passed-task, passed-room, passed-back, short-of, judged, order-found, events-found, promise-order, promise-events}
 use Rattle.flowgoal.proofs.goal.answer_by.Statement.{statement}
 use Rattle.flowgoal.proofs.goal.answer_by.Tie as tie

@@ -8,12 +8,12 @@ use Rattle.base.proofs.Decide.{not-yes, not-no}
 use Rattle.policy_image.specs.declared.counts.Counts.{Counts}
 use Rattle.policy_image.specs.declared.counts.Checked.{Checked}
 use Rattle.policy_image.specs.declared.counts.Checked.the-variants as policy
-use Rattle.policy_check.specs.Answer.{PolicyAnswer}
-use Rattle.context.specs.Places.{Countable, contextCount}
+use Rattle.policy_check.specs.inner.Answer.{PolicyAnswer}
+use Rattle.context.specs.inner.Places.{Countable, contextCount}
 use Rattle.goal_image.specs.declared.check.Legs.{Legs}
 use Rattle.goal_image.specs.declared.check.CheckedGoal.{CheckedGoal}
 use Rattle.goal_image.specs.declared.check.CheckedGoal.the-variants as goal
-use Rattle.goal_image.specs.Questions.{GoalAnswer}
+use Rattle.goal_image.specs.inner.Answer.{GoalAnswer}
 use Rattle.flowgoal.proofs.AskedLaws.{policy-refused, goal-refused, asked-task, first-short, second-short, all-passed}
 use Rattle.flowgoal.proofs.goal.goal_question.Statement.{statement}
 use Rattle.flowgoal.proofs.goal.goal_question.Tie as tie

@@ -2,7 +2,7 @@ use mathlib.Core.Path.{_≡_, ap₂}
 use Prim.Native.Nat.{ℕ, _*_, _^_}
 use native.Mathlib.Omega.{arith}
 use Rattle.base.proofs.Decide.{dec-le}
-use Rattle.context.specs.Places.{contextCount}
+use Rattle.context.specs.inner.Places.{contextCount}
 use Rattle.flowgoal.proofs.goal.work_fits.Statement.{statement}
 use Rattle.flowgoal.proofs.goal.work_fits.Tie as tie
 

@@ -6,16 +6,16 @@ use lib.ListN.{length, getD, set, length-set}
 use lib.Seq.{getD-set-same, getD-set-other}
 use borrow.Author.Needs.{needs}
 use Rattle.base.specs.Chain.{Linked}
-use Rattle.goal_image.specs.Goal.{goalOf, linksOf}
+use Rattle.goal_image.specs.Goal.{goalOf, goalLinks}
 use Rattle.goal_image.specs.Layout.{goalCount}
-use Rattle.goal_image.specs.Reading.{LinksRise}
+use Rattle.goal_image.specs.inner.Reading.{LinksRise}
 use Rattle.goal_image.proofs.Pass.{Pass, pass-start, pass-none, pass-two, pass-step, pass-end, only-one}
 use Rattle.goal_image.proofs.chains.each_on_one.Statement.{statement}
 use Rattle.goal_image.proofs.chains.each_on_one.Tie as tie
 
 abbrev Inv-loop : tie.InvT-loop
 Inv-loop goal m cursor₀ i₀ cursor i =
-    (1 ≤ i) × (i ≤ m + 1) × (m ≡ goalCount goal) × (length cursor ≡ 15) × Pass (linksOf (goalOf goal)) i (λ k. getD cursor k 0)
+    (1 ≤ i) × (i ≤ m + 1) × (m ≡ goalCount goal) × (length cursor ≡ 15) × Pass (goalLinks (goalOf goal)) i (λ k. getD cursor k 0)
 
 abbrev μ-loop : tie.MeasureT-loop
 μ-loop goal m cursor₀ i₀ cursor i = m + 1 - i
@@ -23,7 +23,7 @@ abbrev μ-loop : tie.MeasureT-loop
 -- what is known where the first cursor at record i has been sought
 module _ (K : tie.After-first-at Inv-loop μ-loop) where
   abbrev links : Linked
-  links = linksOf (goalOf (K .before .before .before .before .before .args .goal .now))
+  links = goalLinks (goalOf (K .before .before .before .before .before .args .goal .now))
 
   abbrev rise : LinksRise links
   rise = K .before .before .before .before .before .pre .1
@@ -46,7 +46,7 @@ heads-requires c κs = search needs
 loop-holds : tie.Need-loop-holds Inv-loop μ-loop
 loop-holds c =
     let s = c .before .before in
-    let l = linksOf (goalOf (s .args .goal .now)) in
+    let l = goalLinks (goalOf (s .args .goal .now)) in
     (omega arith, omega arith, omega arith, search needs, pass-start l (s .pre .1) (λ k. getD (c .heads .result) k 0) (c .heads .ensures))
 
 first-at-requires : tie.Need-first-at-requires Inv-loop μ-loop
@@ -108,7 +108,7 @@ returns-3 : tie.Need-returns-3 Inv-loop μ-loop
 returns-3 c =
     let s = c .before .before .before .before in
     let l = c .before .loop in
-    let q : Linked = linksOf (goalOf (s .args .goal .now)) in
+    let q : Linked = goalLinks (goalOf (s .args .goal .now)) in
     let at : ℕ → ℕ = λ k. getD (l .cursor) k 0 in
     let z : l .i ≡ q .size + 1 = omega arith in
     pass-end q (s .pre .1) at (subst (λ (j : ℕ). Pass q j at) z (l .inv .4))

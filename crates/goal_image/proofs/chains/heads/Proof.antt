@@ -5,12 +5,12 @@ use lib.ListN.{length, getD, length-set}
 use lib.Seq.{getD-set-same, getD-set-other}
 use borrow.Author.Count.{below-none, below-more}
 use borrow.Author.Needs.{needs}
-use Rattle.goal_image.specs.Layout.{headOf}
+use Rattle.goal_image.specs.Layout.{goalHead}
 use Rattle.goal_image.proofs.chains.heads.Statement.{statement}
 use Rattle.goal_image.proofs.chains.heads.Tie as tie
 
 abbrev Inv-loop : tie.InvT-loop
-Inv-loop goal c₀ h₀ c h = (h ≤ 15) × (length c ≡ 15) × ((j : ℕ) → j < h → getD c j 0 ≡ headOf goal j)
+Inv-loop goal c₀ h₀ c h = (h ≤ 15) × (length c ≡ 15) × ((j : ℕ) → j < h → getD c j 0 ≡ goalHead goal j)
 
 abbrev μ-loop : tie.MeasureT-loop
 μ-loop goal c₀ h₀ c h = 15 - h

@@ -3,12 +3,12 @@ use mathlib.Core.Path.{_≡_}
 use native.Mathlib.Omega.{arith}
 use borrow.Author.Count.{below-none, below-more}
 use borrow.Author.Needs.{needs}
-use Rattle.goal_image.specs.Layout.{goalCount, headOf}
+use Rattle.goal_image.specs.Layout.{goalCount, goalHead}
 use Rattle.goal_image.proofs.chains.heads_in_range.Statement.{statement}
 use Rattle.goal_image.proofs.chains.heads_in_range.Tie as tie
 
 abbrev Inv-loop : tie.InvT-loop
-Inv-loop goal m h₀ h = (h ≤ 15) × (m ≡ goalCount goal) × ((j : ℕ) → j < h → headOf goal j ≤ goalCount goal)
+Inv-loop goal m h₀ h = (h ≤ 15) × (m ≡ goalCount goal) × ((j : ℕ) → j < h → goalHead goal j ≤ goalCount goal)
 
 abbrev μ-loop : tie.MeasureT-loop
 μ-loop goal m h₀ h = 15 - h

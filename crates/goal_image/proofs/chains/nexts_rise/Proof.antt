@@ -5,13 +5,13 @@ use native.Mathlib.Omega.{arith}
 use borrow.Author.Needs.{needs}
 use Rattle.base.proofs.Numbers.{upto-none, upto-more}
 use Rattle.base.specs.Chain.{Rises}
-use Rattle.goal_image.specs.Goal.{goalOf, linksOf}
+use Rattle.goal_image.specs.Goal.{goalOf, goalLinks}
 use Rattle.goal_image.specs.Layout.{goalCount}
 use Rattle.goal_image.proofs.chains.nexts_rise.Statement.{statement}
 use Rattle.goal_image.proofs.chains.nexts_rise.Tie as tie
 
 abbrev Inv-loop : tie.InvT-loop
-Inv-loop goal m i₀ i = (1 ≤ i) × (i ≤ m + 1) × (m ≡ goalCount goal) × ((j : ℕ) → 1 ≤ j → j < i → Rises (linksOf (goalOf goal)) j)
+Inv-loop goal m i₀ i = (1 ≤ i) × (i ≤ m + 1) × (m ≡ goalCount goal) × ((j : ℕ) → 1 ≤ j → j < i → Rises (goalLinks (goalOf goal)) j)
 
 abbrev μ-loop : tie.MeasureT-loop
 μ-loop goal m i₀ i = m + 1 - i

@@ -31,11 +31,11 @@ returns-3 c =
     (λ e. record {
       heads = not-yes (h .result) (h .ensures) (E .before .before .if1 .left);
       nexts = not-yes (n .result) (n .ensures) (E .if2 .left);
-      held = λ i a b. e .held i (omega arith) (omega arith);
+      on = λ i a b. e .on i (omega arith) (omega arith);
       once = λ h k i a b. e .once h k i (omega arith) (omega arith);
     })
     (λ o. record {
-      held = λ i a b. o .held i (omega arith) (omega arith);
+      on = λ i a b. o .on i (omega arith) (omega arith);
       once = λ h k i a b. o .once h k i (omega arith) (omega arith);
     })
     (c .each-on-one .ensures)

@@ -5,13 +5,13 @@ use denote.Ref.{now}
 use borrow.Author.Needs.{needs}
 use Rattle.base.proofs.Decide.{not-yes, not-no}
 use Rattle.goal_image.specs.Goal.{goalOf}
-use Rattle.goal_image.specs.Layout.{Exact}
+use Rattle.goal_image.specs.Layout.{GoalExact}
 use Rattle.goal_image.specs.Questions.{LegsInRange, OneChainEach}
 use Rattle.goal_image.proofs.check.check.Statement.{statement}
 use Rattle.goal_image.proofs.check.check.Tie as tie
 
 -- questions 7, 8 and 9 answered with yes
-exact : (K : tie.Else1) → Exact (now (K .before .before .before .args .goal))
+exact : (K : tie.Else1) → GoalExact (now (K .before .before .before .args .goal))
 exact K = not-yes (K .before .is-exact .result) (K .before .is-exact .ensures) (K .if1 .left)
 
 legs : (K : tie.Else2) → LegsInRange (goalOf (now (K .before .before .before .before .before .before .args .goal)))

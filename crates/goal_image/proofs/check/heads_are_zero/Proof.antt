@@ -2,13 +2,13 @@ use Prim.Native.Nat.{ℕ, _≤_, _<_, _-_}
 use mathlib.Core.Path.{_≡_, _∙_}
 use native.Mathlib.Omega.{arith}
 use borrow.Author.Needs.{needs}
-use Rattle.goal_image.specs.Layout.{headOf}
+use Rattle.goal_image.specs.Layout.{goalHead}
 use Rattle.goal_image.proofs.LegLaws.{from-none, from-more}
 use Rattle.goal_image.proofs.check.heads_are_zero.Statement.{statement}
 use Rattle.goal_image.proofs.check.heads_are_zero.Tie as tie
 
 abbrev Inv-loop : tie.InvT-loop
-Inv-loop goal a b h₀ h = (a ≤ h) × ((j : ℕ) → a ≤ j → j < h → headOf goal j ≡ 0)
+Inv-loop goal a b h₀ h = (a ≤ h) × ((j : ℕ) → a ≤ j → j < h → goalHead goal j ≡ 0)
 
 abbrev μ-loop : tie.MeasureT-loop
 μ-loop goal a b h₀ h = b - h

@@ -5,7 +5,7 @@ use borrow.Author.Needs.{needs}
 use Rattle.base.proofs.Decide.{decides-iff, not-yes, not-no}
 use Rattle.base.specs.Bits.{bit}
 use Rattle.base.specs.Ranges.{Within}
-use Rattle.goal_image.specs.Layout.{legsOf, headOf}
+use Rattle.goal_image.specs.Layout.{legsOf, goalHead}
 use Rattle.goal_image.proofs.LegLaws.{flags-yes, flags-no}
 use Rattle.goal_image.proofs.check.legs_in_range.Statement.{statement}
 use Rattle.goal_image.proofs.check.legs_in_range.Tie as tie
@@ -74,7 +74,7 @@ returns-4 c =
     })
     (λ r h a b.
     let q : 7 + (h - 7) ≡ h = omega arith in
-    subst (λ (x : ℕ). headOf g x ≡ 0) q (r .events (h - 7) (omega arith) (omega arith)))
+    subst (λ (x : ℕ). goalHead g x ≡ 0) q (r .events (h - 7) (omega arith) (omega arith)))
     (c .heads-are-zero2 .ensures)
 
 pub legs-in-range-spec : {M : Type 1} → statement M

@@ -3,16 +3,16 @@ use native.Mathlib.Omega.{arith}
 use borrow.Author.Needs.{needs}
 use Rattle.base.proofs.ChainLaws.{Visit, left}
 use Rattle.base.proofs.Decide.{not-yes, not-no}
-use Rattle.goal_image.specs.Goal.{Goal, goalOf, linksOf}
+use Rattle.goal_image.specs.Goal.{Goal, goalOf, goalLinks}
 use Rattle.goal_image.specs.Layout.{goalCount}
 use Rattle.goal_image.specs.Questions.{OneChainEach}
-use Rattle.goal_image.specs.Reading.{RecordFits}
+use Rattle.goal_image.specs.inner.Reading.{RecordFits}
 use Rattle.goal_image.proofs.Along.{along-start, along-step, along-less, along-end}
 use Rattle.goal_image.proofs.fields.chain_fits.Statement.{statement}
 use Rattle.goal_image.proofs.fields.chain_fits.Tie as tie
 
 abbrev Inv-loop : tie.InvT-loop
-Inv-loop goal counts h i₀ i = Visit (linksOf (goalOf goal)) h (RecordFits counts (goalOf goal) h) i
+Inv-loop goal counts h i₀ i = Visit (goalLinks (goalOf goal)) h (RecordFits counts (goalOf goal) h) i
 
 abbrev μ-loop : tie.MeasureT-loop
 μ-loop goal counts h i₀ i = left (goalCount goal) i
@@ -31,7 +31,7 @@ module _ (K : tie.After-next-at Inv-loop μ-loop) where
   abbrev i : ℕ
   i = K .before .before .before .before .loop .i
 
-  abbrev visit : Visit (linksOf g) h (RecordFits (K .before .before .before .before .before .before .before .args .counts) g h) i
+  abbrev visit : Visit (goalLinks g) h (RecordFits (K .before .before .before .before .before .before .before .args .counts) g h) i
   visit = K .before .before .before .before .loop .inv
 
 head-at-requires : tie.Need-head-at-requires Inv-loop μ-loop

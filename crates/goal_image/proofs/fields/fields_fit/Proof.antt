@@ -4,14 +4,14 @@ use borrow.Author.Count.{below-none, below-more}
 use borrow.Author.Needs.{needs}
 use Rattle.base.proofs.Decide.{not-yes, not-no}
 use Rattle.base.specs.Chain.{OnChain}
-use Rattle.goal_image.specs.Goal.{goalOf, linksOf}
-use Rattle.goal_image.specs.Reading.{RecordFits}
+use Rattle.goal_image.specs.Goal.{goalOf, goalLinks}
+use Rattle.goal_image.specs.inner.Reading.{RecordFits}
 use Rattle.goal_image.proofs.SortLaws.{context-below, event-below}
 use Rattle.goal_image.proofs.fields.fields_fit.Statement.{statement}
 use Rattle.goal_image.proofs.fields.fields_fit.Tie as tie
 
 abbrev Inv-loop : tie.InvT-loop
-Inv-loop goal counts h₀ h = (h ≤ 15) × ((j : ℕ) → j < h → (i : ℕ) → OnChain (linksOf (goalOf goal)) j i → RecordFits counts (goalOf goal) j i)
+Inv-loop goal counts h₀ h = (h ≤ 15) × ((j : ℕ) → j < h → (i : ℕ) → OnChain (goalLinks (goalOf goal)) j i → RecordFits counts (goalOf goal) j i)
 
 abbrev μ-loop : tie.MeasureT-loop
 μ-loop goal counts h₀ h = 15 - h

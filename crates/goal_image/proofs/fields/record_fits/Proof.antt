@@ -1,7 +1,7 @@
 use mathlib.Core.Path.{sym, _∙_, subst}
 use native.Mathlib.Omega.{arith}
 use borrow.Author.Needs.{needs}
-use Rattle.base.specs.Decides.{Decides}
+use Rattle.base.specs.inner.Decides.{Decides}
 use Rattle.goal_image.specs.Questions.{ContextFits, EventFits}
 use Rattle.goal_image.specs.declared.records.ContextRecord.{ContextRecord}
 use Rattle.goal_image.specs.declared.records.EventRecord.{EventRecord}

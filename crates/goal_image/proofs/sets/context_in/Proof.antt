@@ -9,10 +9,10 @@ use borrow.Author.Tests.{not-true, not-false}
 use Rattle.base.proofs.ChainLaws.{Visit, left}
 use Rattle.base.proofs.UptoLaws.{and-true}
 use Rattle.context.specs.declared.Context.{Context}
-use Rattle.goal_image.specs.Goal.{goalOf, linksOf, isContextChain}
+use Rattle.goal_image.specs.Goal.{goalOf, goalLinks, isContextChain}
 use Rattle.goal_image.specs.Layout.{goalCount}
 use Rattle.goal_image.specs.Sets.{matchesContext, contextIn}
-use Rattle.goal_image.specs.Sound.{SoundGoal}
+use Rattle.goal_image.specs.inner.Sound.{SoundGoal}
 use Rattle.goal_image.specs.declared.records.ContextRecord.{ContextRecord}
 use Rattle.goal_image.proofs.Along.{along-start, along-step, along-less, along-end}
 use Rattle.goal_image.proofs.SetLaws.{set-iff, set-none}
@@ -20,7 +20,7 @@ use Rattle.goal_image.proofs.sets.context_in.Statement.{statement}
 use Rattle.goal_image.proofs.sets.context_in.Tie as tie
 
 abbrev Inv-loop : tie.InvT-loop
-Inv-loop goal h x i₀ i = Visit (linksOf (goalOf goal)) h (λ j. matchesContext (goalOf goal .context j) x ≡ false) i
+Inv-loop goal h x i₀ i = Visit (goalLinks (goalOf goal)) h (λ j. matchesContext (goalOf goal .context j) x ≡ false) i
 
 abbrev μ-loop : tie.MeasureT-loop
 μ-loop goal h x i₀ i = left (goalCount goal) i
@@ -49,7 +49,7 @@ module _ (K : tie.After-matches-context Inv-loop μ-loop) where
   abbrev i : ℕ
   i = K .before .before .before .loop .i
 
-  abbrev visit : Visit (linksOf (goalOf g)) h (λ j. matchesContext (goalOf g .context j) x ≡ false) i
+  abbrev visit : Visit (goalLinks (goalOf g)) h (λ j. matchesContext (goalOf g .context j) x ≡ false) i
   visit = K .before .before .before .loop .inv
 
   -- what was found of the record as read holds of the goal's record

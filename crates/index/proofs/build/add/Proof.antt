@@ -3,8 +3,8 @@ use mathlib.Core.Path.{_≡_, refl}
 use Prim.Native.Nat.{_-_}
 use native.Mathlib.Omega.{arith}
 use lib.ListN.{length}
-use Rattle.index.specs.Rules.{rulesOf, RulesInRange}
-use Rattle.index.specs.Build.{Adds}
+use Rattle.index.specs.inner.Rules.{rulesOf, RulesInRange}
+use Rattle.index.specs.inner.Build.{Adds}
 use Rattle.index.proofs.BlockLaws.{Adding, adding-begin, adding-room, adding-step, adding-end}
 use Rattle.index.proofs.build.add.Statement.{statement}
 use Rattle.index.proofs.build.add.Tie as tie

@@ -5,9 +5,9 @@ use native.Mathlib.Omega.{arith}
 use mir.Val.{Fits}
 use mir.Syntax.{w32, w64}
 use lib.ListN.{length, length-set}
-use Rattle.index.specs.Rules.{rulesOf, RulesInRange}
-use Rattle.index.specs.Chained.{Chained}
-use Rattle.index.specs.Build.{Space}
+use Rattle.index.specs.inner.Rules.{rulesOf, RulesInRange}
+use Rattle.index.specs.inner.Chained.{Chained}
+use Rattle.index.specs.inner.Build.{Space}
 use Rattle.index.proofs.BlockLaws.{block-none, block-swap}
 use Rattle.index.proofs.BuildLaws.{Built, built-begin, built-step, built-end, built-room, added-room, space-first, space-second, space-set, in-range-swap, repeated}
 use Rattle.index.proofs.build.build.Statement.{statement}

@@ -11,10 +11,10 @@ use Rattle.policy_image.specs.declared.records.Record.{Record}
 use Rattle.policy_image.specs.Layout.{recordCount}
 use Rattle.policy_image.specs.Policy.{policyOf}
 use Rattle.policy_image.proofs.FieldLaws.{SameFields, same-fields}
-use Rattle.policy_check.specs.Sound.{Sound}
+use Rattle.policy_check.specs.inner.Sound.{Sound}
 use Rattle.policy_check.proofs.Along.{along-less}
 use Rattle.relations.specs.Relations.{domain, targetOf}
-use Rattle.index.specs.Extract.{Room}
+use Rattle.index.specs.inner.Extract.{Room}
 use Rattle.index.proofs.ExtractLaws.{Extracting, extract-start, extract-pass, extract-write, extract-end}
 use Rattle.index.proofs.extract.extract.Statement.{statement}
 use Rattle.index.proofs.extract.extract.Tie as tie

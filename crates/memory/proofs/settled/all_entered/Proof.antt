@@ -2,7 +2,7 @@ use Prim.Native.Nat.{_-_, _≤_}
 use mathlib.Core.Path.{refl}
 use borrow.Author.Tests.{not-false}
 use Rattle.base.proofs.UptoLaws.{clash}
-use Rattle.memory.specs.Memory.{Settled}
+use Rattle.memory.specs.inner.Memory.{Settled}
 use Rattle.memory.proofs.SettledLaws.{settled-begin, settled-join, settled-end}
 use native.Mathlib.Omega.{arith}
 use borrow.Author.Needs.{needs}

@@ -2,7 +2,7 @@ use mathlib.Core.Path.{_≡_, refl}
 use Prim.Native.Nat.{_-_, _≤_}
 use native.Mathlib.Omega.{arith}
 use lib.ListN.{length, length-set}
-use Rattle.nodes.specs.Seeds.{Cleared}
+use Rattle.nodes.specs.inner.Seeds.{Cleared}
 use Rattle.nodes.proofs.SeedLaws.{clear-more}
 use Rattle.nodes.proofs.seed.clear.Statement.{statement}
 use Rattle.nodes.proofs.seed.clear.Tie as tie

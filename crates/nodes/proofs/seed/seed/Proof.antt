@@ -1,5 +1,5 @@
 use Rattle.nodes.proofs.SeedLaws.{Sowing, nodes-of, nodes-few, roomy, sow-begin, sow-skip, sow-below, sow-room, sow-enter, sow-end, opened, skipped, sow-broken}
-use Rattle.plan.specs.Plan.{Planned}
+use Rattle.plan.specs.inner.Plan.{Planned}
 use lib.ListN.{length, length-set}
 use Prim.Native.Nat.{_-_}
 use mathlib.Core.Logic.{⊎-elim}

@@ -1,9 +1,9 @@
 use Prim.Native.Nat.{ℕ, _+_, _-_, _*_, _≤_}
 use mathlib.Core.Path.{_≡_, refl}
 use lib.ListN.{length, getD, length-set, length-replicate}
-use Rattle.base.specs.Fill.{Filled}
+use Rattle.base.specs.inner.Fill.{Filled}
 use Rattle.base.proofs.FillLaws.{fill-begin}
-use Rattle.plan.specs.Leads.{SameSets}
+use Rattle.plan.specs.inner.Leads.{SameSets}
 use Rattle.plan.proofs.LeadLaws.{alike-more, alike-all}
 use native.Mathlib.Omega.{arith}
 use borrow.Author.Needs.{needs}

@@ -1,9 +1,9 @@
 use Prim.Native.Nat.{_-_, _≤_}
 use mathlib.Core.Path.{_≡_, refl}
 use lib.ListN.{length, length-set}
-use Rattle.base.specs.Fill.{Filled}
+use Rattle.base.specs.inner.Fill.{Filled}
 use Rattle.base.proofs.FillLaws.{fill-begin, fill-more, fill-end}
-use Rattle.plan.specs.Leads.{EntryLeads}
+use Rattle.plan.specs.inner.Leads.{EntryLeads}
 use Rattle.plan.proofs.LeadLaws.{entry-more}
 use native.Mathlib.Omega.{arith}
 use borrow.Author.Needs.{needs}

@@ -1,5 +1,5 @@
 use Prim.Native.Nat.{_-_, _≤_}
-use Rattle.plan.specs.Leads.{SameSets}
+use Rattle.plan.specs.inner.Leads.{SameSets}
 use Rattle.plan.proofs.LeadLaws.{sets-begin, sets-next, sets-end}
 use native.Mathlib.Omega.{arith}
 use borrow.Author.Needs.{needs}

@@ -2,14 +2,14 @@ use Rattle.base.proofs.FillLaws.{fill-begin, fill-more, fill-end}
 use Prim.Native.Nat.{_-_, _≤_}
 use mathlib.Core.Path.{_≡_, refl}
 use lib.ListN.{length, length-set}
-use Rattle.base.specs.Fill.{Filled}
+use Rattle.base.specs.inner.Fill.{Filled}
 use Rattle.policy_image.specs.Policy.{policyOf}
-use Rattle.context.specs.Places.{contextCount, contextAtIndex}
+use Rattle.context.specs.inner.Places.{contextCount, contextAtIndex}
 use Rattle.goal_image.specs.Goal.{goalOf}
-use Rattle.goal_image.specs.Sound.{SoundGoal}
-use Rattle.tables.specs.Tables.{RoleTable, UserTable}
-use Rattle.plan.specs.Plan.{Ready, Known}
-use Rattle.plan.specs.Types.{SetsOfType}
+use Rattle.goal_image.specs.inner.Sound.{SoundGoal}
+use Rattle.tables.specs.inner.Tables.{RoleTable, UserTable}
+use Rattle.plan.specs.inner.Plan.{Ready, Known}
+use Rattle.plan.specs.inner.Types.{SetsOfType}
 use Rattle.plan.proofs.KnownLaws.{known-law, known-same, in-bytes}
 use Rattle.plan.proofs.TypeLaws.{sets-own, sets-none}
 use native.Mathlib.Omega.{arith}

@@ -3,10 +3,10 @@ use Rattle.base.proofs.FillLaws.{fill-begin, fill-more, fill-end}
 use Prim.Native.Nat.{_+_, _-_, _*_, _≤_}
 use mathlib.Core.Path.{_≡_, refl}
 use lib.ListN.{length, length-set}
-use Rattle.base.specs.Fill.{Filled}
+use Rattle.base.specs.inner.Fill.{Filled}
 use Rattle.context.specs.Codes.{eventOf}
 use Rattle.goal_image.specs.Goal.{goalOf}
-use Rattle.goal_image.specs.Sets.{EventSets}
+use Rattle.goal_image.specs.inner.Memberships.{EventSets}
 use native.Mathlib.Omega.{arith}
 use borrow.Author.Needs.{needs}
 use Rattle.plan.proofs.make.put_events.Statement.{statement}

@@ -3,7 +3,7 @@ use mathlib.Core.Path.{refl}
 use borrow.Author.Tests.{not-false}
 use Rattle.base.proofs.UptoLaws.{clash}
 use Rattle.goal_image.specs.Goal.{goalOf}
-use Rattle.plan.specs.Types.{AllByType}
+use Rattle.plan.specs.inner.Types.{AllByType}
 use Rattle.plan.proofs.TypeLaws.{all-begin, all-join, all-end}
 use native.Mathlib.Omega.{arith}
 use borrow.Author.Needs.{needs}

@@ -1,10 +1,10 @@
 use mathlib.Core.Path.{refl}
 use Rattle.base.proofs.ChainLaws.{Visit, left}
 use Rattle.base.proofs.UptoLaws.{clash}
-use Rattle.goal_image.specs.Goal.{goalOf, linksOf}
+use Rattle.goal_image.specs.Goal.{goalOf, goalLinks}
 use Rattle.goal_image.specs.Layout.{goalCount}
 use Rattle.goal_image.proofs.Along.{along-start, along-step, along-less, along-end}
-use Rattle.plan.specs.Types.{NamesLess}
+use Rattle.plan.specs.inner.Types.{NamesLess}
 use Rattle.plan.proofs.TypeLaws.{less-same, by-type}
 use native.Mathlib.Omega.{arith}
 use borrow.Author.Needs.{needs}
@@ -12,7 +12,7 @@ use Rattle.plan.proofs.types.chain_by_type.Statement.{statement}
 use Rattle.plan.proofs.types.chain_by_type.Tie as tie
 
 abbrev Inv-loop : tie.InvT-loop
-Inv-loop goal h ty i₀ i = Visit (linksOf (goalOf goal)) h (λ j. NamesLess (goalOf goal .context j) ty) i
+Inv-loop goal h ty i₀ i = Visit (goalLinks (goalOf goal)) h (λ j. NamesLess (goalOf goal .context j) ty) i
 
 abbrev μ-loop : tie.MeasureT-loop
 μ-loop goal h ty i₀ i = left (goalCount goal) i

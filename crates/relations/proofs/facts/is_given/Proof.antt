@@ -8,12 +8,12 @@ use borrow.Author.Needs.{needs}
 use Rattle.base.proofs.ChainLaws.{Visit, left}
 use Rattle.policy_image.specs.declared.records.Record.{Record}
 use Rattle.policy_image.specs.Layout.{recordCount}
-use Rattle.policy_image.specs.Policy.{Policy, policyOf, linksOf}
+use Rattle.policy_image.specs.Policy.{Policy, policyOf, policyLinks}
 use Rattle.policy_image.proofs.FieldLaws.{same-fields}
 use Rattle.policy_chains.proofs.KindLaws.{some-yes, some-no}
-use Rattle.policy_check.specs.Sound.{Sound}
+use Rattle.policy_check.specs.inner.Sound.{Sound}
 use Rattle.relations.specs.declared.facts.Fact.{Fact}
-use Rattle.relations.specs.Facts.{states}
+use Rattle.relations.specs.inner.Facts.{states}
 use Rattle.policy_check.proofs.Along.{along-start, along-step, along-less, along-kind, along-end}
 use Rattle.relations.proofs.facts.is_given.Statement.{statement}
 use Rattle.relations.proofs.facts.is_given.Tie as tie
@@ -23,7 +23,7 @@ abbrev Not : Policy → Fact → ℕ → Type 0
 Not p f j = states f (p .rec j) ≡ false
 
 abbrev Inv-loop : tie.InvT-loop
-Inv-loop image f kind i₀ i = Visit (linksOf (policyOf image)) (f .kind) (Not (policyOf image) f) i
+Inv-loop image f kind i₀ i = Visit (policyLinks (policyOf image)) (f .kind) (Not (policyOf image) f) i
 
 abbrev μ-loop : tie.MeasureT-loop
 μ-loop image f kind i₀ i = left (recordCount image) i
@@ -45,7 +45,7 @@ module _ (K : tie.After-is-stated Inv-loop μ-loop) where
   abbrev r : Record
   r = K .before .record-at .result
 
-  abbrev visit : Visit (linksOf (policyOf s)) (f .kind) (Not (policyOf s) f) i
+  abbrev visit : Visit (policyLinks (policyOf s)) (f .kind) (Not (policyOf s) f) i
   visit = K .before .before .before .loop .inv
 
   -- what was found of the record as read holds of the policy's record
@@ -91,7 +91,7 @@ returns-2 c =
     let q = a .args .f in
     let z : c .before .loop .i ≡ 0 = omega arith in
     sym (some-no p (q .kind) (states q) (along-end (a .args .image .now) (a .pre .0) (q .kind) (a .pre .1) (a .pre .2) (Not p q)
-    (subst (λ (j : ℕ). Visit (linksOf p) (q .kind) (Not p q) j) z (c .before .loop .inv))))
+    (subst (λ (j : ℕ). Visit (policyLinks p) (q .kind) (Not p q) j) z (c .before .loop .inv))))
 
 pub is-given-spec : {M : Type 1} → statement M
 is-given-spec =

@@ -5,7 +5,7 @@ use lib.Dec.{eqb}
 use mathlib.Core.Bool.{Bool}
 use Rattle.base.proofs.Numbers.{two-of, three-of, table-other}
 use Rattle.policy_image.specs.declared.records.Record.{Record}
-use Rattle.relations.specs.Facts.{statements, statesOf, never}
+use Rattle.relations.specs.inner.Facts.{statements, statesOf, never}
 use borrow.Author.Needs.{needs}
 use Rattle.relations.proofs.facts.is_stated.Statement.{statement}
 use Rattle.relations.proofs.facts.is_stated.Tie as tie

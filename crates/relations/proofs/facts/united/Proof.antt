@@ -11,10 +11,10 @@ use Rattle.policy_image.specs.declared.records.Record.{Record}
 use Rattle.policy_image.specs.Layout.{recordCount}
 use Rattle.policy_image.specs.Policy.{policyOf}
 use Rattle.policy_image.proofs.FieldLaws.{SameFields, same-fields}
-use Rattle.policy_check.specs.Sound.{Sound}
+use Rattle.policy_check.specs.inner.Sound.{Sound}
 use Rattle.policy_check.proofs.Along.{along-less}
 use Rattle.relations.specs.declared.facts.Fact.{Fact}
-use Rattle.relations.specs.Facts.{states}
+use Rattle.relations.specs.inner.Facts.{states}
 use Rattle.relations.proofs.Uniting.{Uniting, uniting-start, uniting-pass, uniting-join, uniting-end}
 use Rattle.relations.proofs.facts.united.Statement.{statement}
 use Rattle.relations.proofs.facts.united.Tie as tie

@@ -3,10 +3,10 @@ use Rattle.memory.proofs.StandLaws.{Around, around, at-place, stand, own-few, s
 use Rattle.memory.proofs.MemoryLaws.{memory-begin, memory-keep}
 use Rattle.nodes.proofs.ArrivalLaws.{later}
 use Rattle.nodes.proofs.SearchLaws.{enter, room, nothing, turn-chain, chain-bound}
-use Rattle.memory.specs.Memory.{keepsOf, Memory}
-use Rattle.nodes.specs.Tasks.{graphOf}
-use Rattle.nodes.specs.State.{Inv}
-use Rattle.plan.specs.Plan.{Planned}
+use Rattle.memory.specs.inner.Memory.{keepsOf, Memory}
+use Rattle.nodes.specs.inner.Tasks.{graphOf}
+use Rattle.nodes.specs.inner.State.{Inv}
+use Rattle.plan.specs.inner.Plan.{Planned}
 use lib.ListN.{length, length-set}
 use Prim.Native.Nat.{_-_}
 use mathlib.Core.Logic.{⊎-elim}

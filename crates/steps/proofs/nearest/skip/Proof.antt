@@ -1,5 +1,5 @@
 use Prim.Native.Nat.{_-_}
-use Rattle.steps.specs.Nearest.{Skipped}
+use Rattle.steps.specs.inner.Nearest.{Skipped}
 use Rattle.steps.proofs.NearestLaws.{skip-begin, skip-more}
 use borrow.Author.Needs.{needs}
 use Rattle.steps.proofs.nearest.skip.Statement.{statement}

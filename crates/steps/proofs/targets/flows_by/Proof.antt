@@ -1,7 +1,6 @@
 use Rattle.steps.proofs.OfferLaws.{ways-yes, ways-rest, roles-few, event-few}
 use native.Mathlib.Omega.{arith}
 use borrow.Author.Needs.{needs}
-use borrow.Author.Needs.{needs}
 use Rattle.steps.proofs.targets.flows_by.Statement.{statement}
 use Rattle.steps.proofs.targets.flows_by.Tie as tie
 

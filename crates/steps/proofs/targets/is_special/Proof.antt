@@ -5,7 +5,6 @@ use mathlib.Core.Path.{ap, _∙_}
 use Prim.Native.Nat.{ℕ, _/_, _%_}
 use native.Mathlib.Omega.{arith}
 use borrow.Author.Needs.{needs}
-use borrow.Author.Needs.{needs}
 use Rattle.steps.proofs.targets.is_special.Statement.{statement}
 use Rattle.steps.proofs.targets.is_special.Tie as tie
 

@@ -5,7 +5,6 @@ use Rattle.policy_image.specs.Policy.{policyOf}
 use Rattle.steps.proofs.OfferLaws.{not-held, no-rule, by-rule}
 use native.Mathlib.Omega.{arith}
 use borrow.Author.Needs.{needs}
-use borrow.Author.Needs.{needs}
 use Rattle.steps.proofs.targets.may_act.Statement.{statement}
 use Rattle.steps.proofs.targets.may_act.Tie as tie
 

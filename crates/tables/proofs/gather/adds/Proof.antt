@@ -8,7 +8,7 @@ use lib.Pow.{pow-lt}
 use borrow.Author.Needs.{needs}
 use Rattle.base.proofs.Numbers.{split-eq, two-of, table-other}
 use Rattle.policy_image.specs.declared.records.Record.{Record}
-use Rattle.tables.specs.Gather.{addsOf, additions, nothing}
+use Rattle.tables.specs.inner.Gather.{addsOf, additions, nothing}
 use Rattle.tables.proofs.gather.adds.Statement.{statement}
 use Rattle.tables.proofs.gather.adds.Tie as tie
 

@@ -11,9 +11,9 @@ use Rattle.policy_image.specs.Layout.{recordCount}
 use Rattle.policy_image.specs.Policy.{policyOf}
 use Rattle.policy_image.proofs.FieldLaws.{same-fields}
 use Rattle.policy_chains.proofs.KindLaws.{OfKind}
-use Rattle.policy_check.specs.Sound.{Sound}
+use Rattle.policy_check.specs.inner.Sound.{Sound}
 use Rattle.policy_check.proofs.Along.{along-less, along-kind}
-use Rattle.tables.specs.Gather.{entryOf, addsOf, Shifts}
+use Rattle.tables.specs.inner.Gather.{entryOf, addsOf, Shifts}
 use Rattle.tables.proofs.Gathering.{Gathering, gathering-start, gathering-step, gathering-end}
 use Rattle.tables.proofs.SoundLaws.{shifts}
 use Rattle.tables.proofs.gather.gather.Statement.{statement}

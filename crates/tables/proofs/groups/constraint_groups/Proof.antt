@@ -2,13 +2,13 @@ use Prim.Native.Nat.{ℕ, _+_, _*_, _<_}
 use mathlib.Core.List.{List}
 use mathlib.Core.Path.{_≡_, sym, _∙_}
 use lib.ListN.{length, getD}
-use Rattle.base.specs.Fill.{Filled}
+use Rattle.base.specs.inner.Fill.{Filled}
 use Rattle.base.proofs.ChainLaws.{left}
 use Rattle.policy_image.specs.Layout.{recordCount}
 use Rattle.policy_image.specs.Policy.{policyOf}
 use Rattle.policy_image.proofs.FieldLaws.{same-fields}
 use Rattle.policy_check.proofs.Along.{along-less, along-kind}
-use Rattle.tables.specs.Groups.{OnSide}
+use Rattle.tables.specs.inner.Groups.{OnSide}
 use Rattle.tables.proofs.SoundLaws.{room-8}
 use Rattle.tables.proofs.GroupLaws.{Grouping, grouping-start, grouping-step, grouping-end}
 use native.Mathlib.Omega.{arith}

@@ -1,9 +1,9 @@
 use Prim.Native.Nat.{_+_, _-_, _*_, _≤_}
 use mathlib.Core.Path.{_≡_, refl, sym}
 use lib.ListN.{length, getD, length-set}
-use Rattle.base.specs.Fill.{Filled}
+use Rattle.base.specs.inner.Fill.{Filled}
 use Rattle.base.proofs.FillLaws.{fill-begin, fill-more, fill-end}
-use Rattle.tables.specs.Groups.{OnSide}
+use Rattle.tables.specs.inner.Groups.{OnSide}
 use Rattle.tables.proofs.GroupLaws.{side-same, sides-at}
 use native.Mathlib.Omega.{arith}
 use borrow.Author.Needs.{needs}

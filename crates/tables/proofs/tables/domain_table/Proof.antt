@@ -1,6 +1,6 @@
 use native.Mathlib.Omega.{arith}
 use borrow.Author.Needs.{needs}
-use Rattle.tables.specs.Tables.{typeEntries}
+use Rattle.tables.specs.inner.Tables.{typeEntries}
 use Rattle.tables.proofs.MeaningLaws.{domain-means}
 use Rattle.tables.proofs.SoundLaws.{room-1}
 use Rattle.tables.proofs.tables.domain_table.Statement.{statement}

@@ -9,7 +9,7 @@ use lib.Seq.{getD-set-same, getD-set-other}
 use borrow.Author.Count.{below-more}
 use borrow.Author.Needs.{needs}
 use Rattle.base.specs.Bits.{bit}
-use Rattle.tables.specs.Tables.{typeEntries}
+use Rattle.tables.specs.inner.Tables.{typeEntries}
 use Rattle.tables.proofs.tables.object_roles.Statement.{statement}
 use Rattle.tables.proofs.tables.object_roles.Tie as tie
 

@@ -4,8 +4,8 @@ use native.Mathlib.Omega.{arith}
 use lib.ListN.{length}
 use borrow.Author.Needs.{needs}
 use Rattle.policy_image.specs.Policy.{policyOf}
-use Rattle.tables.specs.Gather.{Room}
-use Rattle.tables.specs.Tables.{typeEntries}
+use Rattle.tables.specs.inner.Gather.{Room}
+use Rattle.tables.specs.inner.Tables.{typeEntries}
 use Rattle.tables.proofs.MeaningLaws.{roles-mean}
 use Rattle.tables.proofs.SoundLaws.{room-5}
 use Rattle.tables.proofs.tables.role_table.Statement.{statement}

@@ -1,9 +1,9 @@
 use mathlib.Core.Path.{_∙_, ap}
 use native.Mathlib.Omega.{arith}
 use borrow.Author.Needs.{needs}
-use Rattle.context.specs.Codes.{contextCode}
+use Rattle.context.specs.inner.Coding.{contextCode}
 use Rattle.context.proofs.PlaceLaws.{at-in-range}
-use Rattle.nodes.specs.Nodes.{codeAt, placeOf}
+use Rattle.nodes.specs.inner.Nodes.{codeAt, placeOf}
 use Rattle.witness.proofs.path.code_of.Statement.{statement}
 use Rattle.witness.proofs.path.code_of.Tie as tie
 

@@ -3,7 +3,7 @@ use native.Mathlib.Omega.{arith}
 use borrow.Author.Needs.{needs}
 use denote.Ref.{now}
 use lib.ListN.{length-set}
-use Rattle.witness.specs.Shown.{Something}
+use Rattle.witness.specs.inner.Shown.{Something}
 use Rattle.witness.proofs.PathLaws.{shown-start}
 use Rattle.witness.proofs.path.show.Statement.{statement}
 use Rattle.witness.proofs.path.show.Tie as tie

@@ -8,7 +8,7 @@ use borrow.Author.Needs.{needs}
 use lib.ListN.{replicate}
 use Rattle.base.proofs.Decide.{yes-of, no-of}
 use Rattle.steps.specs.declared.nearest.Asker.{Asker}
-use Rattle.nodes.specs.Tasks.{graphOf}
+use Rattle.nodes.specs.inner.Tasks.{graphOf}
 use Rattle.memory.proofs.MemoryLaws.{AskerOf}
 use Rattle.witness.proofs.StepLaws.{Looking, from-below, to-below, from-range, asker, type-is, offered, only-here, look-begin, look-more, look-found, look-end}
 use Rattle.witness.proofs.step.least_event.Statement.{statement}

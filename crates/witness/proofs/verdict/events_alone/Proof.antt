@@ -1,9 +1,9 @@
 use mathlib.Core.Path.{sym, ap, subst, _∙_}
 use native.Mathlib.Omega.{arith}
 use borrow.Author.Needs.{needs}
-use Rattle.paths.specs.Answer.{events}
-use Rattle.paths.proofs.Verdict.{nowhere, answer}
-use Rattle.witness.specs.Shown.{reachedBy, Short}
+use Rattle.paths.specs.inner.Answer.{events}
+use Rattle.paths.specs.inner.Verdict.{nowhere, answer}
+use Rattle.witness.specs.inner.Shown.{reachedBy, Short}
 use Rattle.witness.proofs.JudgeLaws.{one-more}
 use Rattle.witness.proofs.verdict.events_alone.Statement.{statement}
 use Rattle.witness.proofs.verdict.events_alone.Tie as tie

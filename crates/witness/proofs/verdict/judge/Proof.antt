@@ -1,10 +1,10 @@
 use mathlib.Core.Path.{_≡_, refl, sym, ap, ap₂, subst, _∙_}
 use native.Mathlib.Omega.{arith}
 use borrow.Author.Needs.{needs}
-use Rattle.paths.specs.Answer.{order, events}
-use Rattle.paths.proofs.Verdict.{answer}
+use Rattle.paths.specs.inner.Answer.{order, events}
+use Rattle.paths.specs.inner.Verdict.{answer}
 use Rattle.search.specs.declared.levels.Found.{Found}
-use Rattle.witness.specs.Shown.{reachedBy, Short}
+use Rattle.witness.specs.inner.Shown.{reachedBy, Short}
 use Rattle.witness.proofs.JudgeLaws.{one-more, order-first, order-wins, events-win}
 use Rattle.witness.proofs.verdict.judge.Statement.{statement}
 use Rattle.witness.proofs.verdict.judge.Tie as tie

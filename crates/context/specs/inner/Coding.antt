@@ -1,0 +1,15 @@
+-- The codes of contexts and events (paper 01): "xj as 256t + 16r + u", "ej as 32c + p".
+use Prim.Native.Nat.{ℕ, _+_, _*_, _<_}
+use Rattle.context.specs.declared.Context.{Context}
+use Rattle.context.specs.declared.Event.{Event}
+
+abbrev pub contextCode : Context → ℕ
+contextCode x = 256 * x .ty + 16 * x .role + x .user
+
+abbrev pub eventCode : Event → ℕ
+eventCode e = 32 * e .class + e .perm
+
+-- an event that its code stands for; every event in range is one
+pub record Coded (e : Event) : Type 0 where
+  pub class : e .class < 65536
+  pub perm : e .perm < 32

@@ -1,0 +1,9 @@
+-- Definitions that contracts inside the project and proofs speak of. No outward promise rests on them.
+pub mod Graph
+pub mod State
+pub mod Nodes
+pub mod Watching
+pub mod Arrivals
+pub mod Blocks
+pub mod Tasks
+pub mod Seeds

@@ -1,0 +1,81 @@
+-- The graph that a search goes through: a node is a context in range and a state of a monitor, below 2 ^ n for n legs. Its number
+-- is the context's place times 2 ^ n, and the state.
+use mathlib.Core.Path.{_≡_}
+use mathlib.Core.Bool.{Bool}
+use Prim.Native.Nat.{ℕ, _*_, _/_, _%_, _^_, _<_}
+use lib.Dec.{T}
+use Rattle.policy_image.specs.declared.counts.Counts.{Counts}
+use Rattle.context.specs.inner.Coding.{contextCode}
+use Rattle.context.specs.inner.Places.{contextCount, contextAtIndex}
+use Rattle.paths.specs.Model.{Model}
+use Rattle.paths.specs.inner.Monitor.{Monitor, Start, Edge}
+use Rattle.paths.specs.inner.Monitors.{trackerN, stagerN}
+use Rattle.nodes.specs.declared.monitor.Mode.{Mode}
+use Rattle.nodes.specs.declared.monitor.Mode.the-variants.{Order, Events}
+use Rattle.nodes.specs.inner.Graph.{Graph}
+
+-- a monitor whose states are numbers
+pub record Watch : Type 0 where
+  pub start : ℕ → ℕ
+  pub step : ℕ → ℕ → ℕ → ℕ
+  pub bad : ℕ → Bool
+
+abbrev pub monitorOf : Watch → Monitor
+monitorOf W = record { State = ℕ; start = W .start; step = W .step; bad = W .bad }
+
+-- the monitor of each mode
+abbrev pub watchOf : Mode → Model → Watch
+watchOf Order M = record { start = trackerN M .start; step = trackerN M .step; bad = trackerN M .bad }
+watchOf Events M = record { start = stagerN M .start; step = stagerN M .step; bad = stagerN M .bad }
+
+-- the code of the context at place y
+unfoldable pub codeAt : Counts → ℕ → ℕ
+codeAt n y = contextCode (contextAtIndex n y)
+
+-- where a node's context stands, its code, and the node's state, for k states
+unfoldable pub placeOf : ℕ → ℕ → ℕ
+placeOf k v = v / k
+
+unfoldable pub stateOf : ℕ → ℕ → ℕ
+stateOf k v = v % k
+
+abbrev pub codeOf : Counts → ℕ → ℕ → ℕ
+codeOf n k v = codeAt n (placeOf k v)
+
+module _ (M : Model) (n : Counts) (W : Watch) where
+  -- the number of states
+  abbrev pub states : ℕ
+  states = 2 ^ M .legs
+
+  -- a start that is no end, in the monitor's first state
+  pub record StartAt (v : ℕ) : Type 0 where
+    pub begins : Start M (codeOf n states v)
+    pub state : stateOf states v ≡ W .start (codeOf n states v)
+    pub outside : ¬ T (M .σ (M .legs) (codeOf n states v))
+
+  -- a step that a path may take, and the monitor's. An end that is not bad is dropped: no edge goes there
+  pub record EdgeAt (u e v : ℕ) : Type 0 where
+    pub edge : Edge M (codeOf n states u) e (codeOf n states v)
+    pub state : stateOf states v ≡ W .step (stateOf states u) e (codeOf n states v)
+    pub kept : T (M .σ (M .legs) (codeOf n states v)) → T (W .bad (stateOf states v))
+
+  -- an end: its context is in σn
+  pub record EndAt (v : ℕ) : Type 0 where
+    pub arrives : T (M .σ (M .legs) (codeOf n states v))
+
+  abbrev pub graph : Graph
+  graph = record { k = contextCount n * states; e = 1024; Start = StartAt; Edge = EdgeAt; End = EndAt }
+
+  -- a start that is an end and bad: a path of no steps
+  pub record BadStart (x : ℕ) : Type 0 where
+    pub begins : Start M x
+    pub arrives : T (M .σ (M .legs) x)
+    pub verdict : T (W .bad (W .start x))
+
+  -- the codes of contexts in range have places, flow is by events with codes below 1024, and 2 ^ n states are enough
+  pub record Bounded : Type 0 where
+    pub placed : (x : ℕ) → T (M .context x) → (y : ℕ) × (y < contextCount n) × (codeAt n y ≡ x)
+    pub events : (x e y : ℕ) → T (M .flowBy x e y) → e < 1024
+    pub starts : (x : ℕ) → W .start x < states
+    pub steps : (s e y : ℕ) → ¬ T (M .σ (M .legs) y) → W .step s e y < states
+    pub bads : (s e y : ℕ) → T (W .bad (W .step s e y)) → W .step s e y < states

@@ -1,0 +1,5 @@
+-- Named inputs, written out, and what the theorems about them say. No outward promise rests on them.
+pub mod Goals
+pub mod Weir
+pub mod Called
+pub mod Own
