@@ -107,6 +107,10 @@ pub second-type-5 : RefusedWith (bareQuestions weir (at 2 2 1) (at 5 1 1) (event
 unfolding countsOf recordCount
 second-type-5 = refused-13 (at 2 2 1) (at 5 1 1) (event 2 0) refl
 
+pub second-user-2 : (p : ℕ) → RefusedWith (bareQuestions weir (at 2 2 1) (at 1 1 2) (event 2 p)) 13
+unfolding countsOf recordCount
+second-user-2 p = refused-13 (at 2 2 1) (at 1 1 2) (event 2 p) refl
+
 pub role-3 : RefusedWith (bareQuestions weir (at 2 3 1) (at 1 1 1) (event 2 0)) 13
 unfolding countsOf recordCount
 role-3 = refused-13 (at 2 3 1) (at 1 1 1) (event 2 0) refl

@@ -2,11 +2,16 @@
 -- (`right-unique`), so each theorem rules out what the misreading would answer.
 -- specs/cases/Drawings.antt has the drawings.
 use mathlib.Core.List.{[]}
+use Prim.Native.Nat.{_+_}
+use native.Mathlib.Omega.{arith}
 use Rattle.base.specs.Bits.{bit}
+use Rattle.paths.specs.Paths.{IsPath, BreaksEvents}
+use Rattle.paths.specs.Slice.{contextsIn, eventsIn, Shows}
 use Rattle.paths.specs.inner.Answer.{holds, order, events, Right}
 use Rattle.paths.specs.cases.Drawn.{drawnModel, except, failing, only}
-use Rattle.paths.specs.cases.Drawings.{selfRelease, startInFirst, oneLeg, startTooEarly, midTooEarly, highestAlone, lowestAlone, oneStepStays, repeatedStays, noStep, middleEvent, wrongPlace, bad, endGoesOn, outOfRange, metTwice, tie, fewest}
+use Rattle.paths.specs.cases.Drawings.{selfRelease, startInFirst, oneLeg, startTooEarly, midTooEarly, highestAlone, lowestAlone, oneStepStays, repeatedStays, noStep, middleEvent, wrongPlace, bad, endGoesOn, outOfRange, metTwice, tie, fewest, pastTheEnd}
 use Rattle.paths.proofs.Drawn.{answer-by}
+use Rattle.paths.proofs.Monitors.{events-verdict}
 
 -- ---- order
 -- "has no xl in σi with l < j". Context 1 is in σ1 and in σ2, and nothing before it is in σ1: it does not release itself.
@@ -136,3 +141,27 @@ order-on-a-tie = answer-by tie (order 1) tt
 pub fewest-steps : Right (drawnModel fewest) (events 1)
 unfolding bit
 fewest-steps = answer-by fewest (events 1) tt
+
+-- ---- what stands behind the end of a path counts for nothing
+-- "0 = p0 < p1 < .. < pn = m": 0, 1 ends in σ2 after one step, and two legs take two. Misread as pn ≥ m: events are followed by 0, 1, 2,
+-- which goes on behind the end.
+pub past-the-end : BreaksEvents (drawnModel pastTheEnd) 1 (λ j. j) (λ j. 7 + j)
+unfolding bit
+past-the-end = events-verdict (drawnModel pastTheEnd) (λ j. j) (λ j. 7 + j) 1 tt .0 tt
+
+-- a slice of no entry has no path, though what stands behind its end is 0, and 0, which is a context here, is a path of 0 steps
+pub no-slice : Shows (drawnModel oneLeg) 0 [] [] → ⊥
+no-slice s = omega (arith, s .room)
+
+pub no-slice-path : IsPath (drawnModel oneLeg) 0 (contextsIn []) (eventsIn [])
+no-slice-path =
+    record {
+      contexts = λ j h. tt;
+      flows = λ j h. absurd (omega arith);
+      starts = tt;
+      meets = tt;
+      arrives = tt;
+      first = λ j h. absurd (omega arith);
+      free = λ j h. absurd (omega arith);
+      freeE = λ j h. absurd (omega arith);
+    }

@@ -307,6 +307,10 @@ pub allow-with-d : Refused (image 1 1 1 1 (chainOf 4) (line 0 4 1 1 1 1 0 1 0 0 
 unfolding countsOf recordCount recordOf policyHead payloadOf decoded useOf
 allow-with-d = refused-5 refl refl refl refl refl
 
+pub allow-with-e : Refused (image 1 1 1 1 (chainOf 4) (line 0 4 1 1 1 0 1 1 0 0 0 ∷ [])) 5
+unfolding countsOf recordCount recordOf policyHead payloadOf decoded useOf
+allow-with-e = refused-5 refl refl refl refl refl
+
 -- a mask may be empty, or name what no kind 2 record gives
 pub empty-mask : Accepted (image 1 1 1 1 (chainOf 4) (allow 0 1 1 1 0 ∷ []))
 unfolding countsOf recordCount recordOf policyHead payloadOf decoded useOf

@@ -1,2 +1,3 @@
 pub mod UseLaws
 pub mod Marks
+pub mod Cases

@@ -29,10 +29,10 @@ use Rattle.goal_model.specs.cases.OwnGoals.{writeOnly}
 use Rattle.weir.specs.cases.Goals.{weirAllow41, exceptType, endTypeOne, oneLeg, noStart}
 
 -- with 4 on 1 read added: 1 to 4 by read too
-abbrev steps41 : List Step
+abbrev pub steps41 : List Step
 steps41 = step 273 64 545 ∷ step 273 64 1057 ∷ step 545 65 785 ∷ step 785 64 1057 ∷ []
 
-covers41 : T (not (uncovered (policyOf weirAllow41) steps41))
+pub covers41 : T (not (uncovered (policyOf weirAllow41) steps41))
 unfolding uncovered inRange flow authorized χ roleRule constraintsHold domain Γ writeLike readLike allowed α ρ μ roleChange some every bit countsOf recordCount recordOf payloadOf decoded
 covers41 = tt
 

@@ -5,34 +5,32 @@ use mathlib.Core.Logic.{_⊎_, inl, inr}
 use mathlib.Core.Path.{_≡_, refl, ap, _∙_}
 use native.Mathlib.Omega.{arith}
 use lib.ListN.{length}
-use Rattle.base.specs.Bits.{bit}
 use Rattle.base.specs.Questions.{Question, ask, AllYes, RefusedWith}
-use Rattle.base.proofs.QuestionLaws.{passed-not-refused, one-number, refused-first}
-use Rattle.policy_image.specs.Layout.{countsOf, recordCount}
+use Rattle.base.proofs.QuestionLaws.{passed-both, passed-not-refused, one-number, refused-first}
+use Rattle.policy_image.specs.Layout.{countsOf}
 use Rattle.policy_image.specs.cases.Weir.{weir, weirAllow31}
 use Rattle.policy_check.specs.Questions.{policyQuestions}
-use Rattle.policy_check.proofs.Cases.{weir-accepted, w10-short, w10-empty, w11}
+use Rattle.policy_check.proofs.Cases.{w10-short, w10-empty, w11}
 use Rattle.context.specs.declared.Context.{Context}
 use Rattle.context.specs.declared.Event.{Event}
-use Rattle.access.proofs.NoDomain.{w9-nothing}
-use Rattle.goal_image.specs.Layout.{legsOf, flagsOf, goalCount, goalHead, nextOf, contextRecordOf, eventRecordOf}
+use Rattle.access.proofs.NoDomain.{w9-accepted, w9-nothing}
 use Rattle.goal_image.specs.cases.WeirGoal.{goalG}
 use Rattle.goal_image.specs.Questions.{goalQuestions}
-use Rattle.goal_image.proofs.Tests.{Accepted as GoalAccepted, accepted as goal-accepted}
 use Rattle.paths.specs.Paths.{Holds, OrderAt, EventsAt}
 use Rattle.goal_model.specs.Images.{model}
 use Rattle.flowgoal.specs.declared.bare.Answer.{Answer}
 use Rattle.flowgoal.specs.declared.bare.Answer.the-variants as answer
-use Rattle.flowgoal.specs.Bare.{AuthorizationAnswer, numberOf, NumberOf}
+use Rattle.flowgoal.specs.Bare.{AskedInRange, bareQuestions, AuthorizationAnswer, numberOf, NumberOf}
 use Rattle.flowgoal.specs.declared.goal.Outcome.{Outcome}
 use Rattle.flowgoal.specs.declared.goal.Outcome.the-variants as outcome
-use Rattle.flowgoal.specs.GoalQuestion.{workLength, WorkFits, allQuestions, GoalPromise, outcomeNumber}
+use Rattle.flowgoal.specs.GoalQuestion.{WorkFits, allQuestions, GoalPromise, outcomeNumber}
 use Rattle.flowgoal.proofs.GoalLaws.{order-one, events-one, not-both, not-holds-order, not-holds-events, not-holds, least-one}
 use Rattle.goal_model.specs.cases.OwnGoals.{writeOnly}
 use Rattle.weir.specs.cases.Goals.{weirAllow41, empty, exceptType, endTypeOne, oneLeg, noStart}
 use Rattle.weir.specs.cases.Called.{Gives, SaysHolds, Refuses, SaysBroken, Prints, WeirCalled}
 use Rattle.weir.proofs.Answers.{w1, w2, w3, w4, w5, w6, w7, w8}
-use Rattle.weir.proofs.Theorem.{enough, w2-enough, w5-enough, w12-enough, w12-first, w12-second, w5-slice}
+use Rattle.weir.proofs.Accepted.{w1-enough, w2-enough, w3-enough, w4-enough, w5-enough, w6-enough, w7-enough, w8-enough}
+use Rattle.weir.proofs.Theorem.{w12-first, w12-second, w5-slice}
 
 -- ---- one outcome for each answer of the definitions
 module _ (s g : List ℕ) (work1 work2 : ℕ) where
@@ -109,83 +107,22 @@ module _ (s g : List ℕ) (all : AllYes (allQuestions s g 32 32)) where
         no-room = says-short (inr h);
       }
 
--- ---- the goals are accepted, and 32 entries suffice
-except-3-accepted : GoalAccepted (countsOf weir) (exceptType 3)
-unfolding countsOf recordCount legsOf flagsOf goalCount goalHead nextOf contextRecordOf eventRecordOf bit
-except-3-accepted = goal-accepted refl refl refl refl
-
-except-4-accepted : GoalAccepted (countsOf weir) (exceptType 4)
-unfolding countsOf recordCount legsOf flagsOf goalCount goalHead nextOf contextRecordOf eventRecordOf bit
-except-4-accepted = goal-accepted refl refl refl refl
-
-end-accepted : GoalAccepted (countsOf weir) endTypeOne
-unfolding countsOf recordCount legsOf flagsOf goalCount goalHead nextOf contextRecordOf eventRecordOf bit
-end-accepted = goal-accepted refl refl refl refl
-
-one-leg-accepted : GoalAccepted (countsOf weir) oneLeg
-unfolding countsOf recordCount legsOf flagsOf goalCount goalHead nextOf contextRecordOf eventRecordOf bit
-one-leg-accepted = goal-accepted refl refl refl refl
-
-no-start-accepted : GoalAccepted (countsOf weir) noStart
-unfolding countsOf recordCount legsOf flagsOf goalCount goalHead nextOf contextRecordOf eventRecordOf bit
-no-start-accepted = goal-accepted refl refl refl refl
-
-two-legs : (g : List ℕ) → legsOf g ≡ 2 → workLength weir g ≤ 32
-unfolding countsOf recordCount
-two-legs g q = rw q (omega arith)
-
-one-leg : (g : List ℕ) → legsOf g ≡ 1 → workLength weir g ≤ 32
-unfolding countsOf recordCount
-one-leg g q = rw q (omega arith)
-
-legs-3 : legsOf (exceptType 3) ≡ 2
-unfolding legsOf
-legs-3 = refl
-
-legs-4 : legsOf (exceptType 4) ≡ 2
-unfolding legsOf
-legs-4 = refl
-
-legs-6 : legsOf endTypeOne ≡ 2
-unfolding legsOf
-legs-6 = refl
-
-legs-7 : legsOf oneLeg ≡ 1
-unfolding legsOf
-legs-7 = refl
-
-legs-8 : legsOf noStart ≡ 2
-unfolding legsOf
-legs-8 = refl
-
-w3-enough : AllYes (allQuestions weir (exceptType 3) 32 32)
-w3-enough = enough weir (exceptType 3) 32 weir-accepted except-3-accepted (two-legs (exceptType 3) legs-3)
-
-w4-enough : AllYes (allQuestions weir (exceptType 4) 32 32)
-w4-enough = enough weir (exceptType 4) 32 weir-accepted except-4-accepted (two-legs (exceptType 4) legs-4)
-
-w6-enough : AllYes (allQuestions weir endTypeOne 32 32)
-w6-enough = enough weir endTypeOne 32 weir-accepted end-accepted (two-legs endTypeOne legs-6)
-
-w7-enough : AllYes (allQuestions weir oneLeg 32 32)
-w7-enough = enough weir oneLeg 32 weir-accepted one-leg-accepted (one-leg oneLeg legs-7)
-
-w8-enough : AllYes (allQuestions weir noStart 32 32)
-w8-enough = enough weir noStart 32 weir-accepted no-start-accepted (two-legs noStart legs-8)
-
 -- ---- W5's path, W9 and W10
 called-path : (before after : List ℕ) (n : ℕ) → 3 ≤ length before → Gives weirAllow41 goalG 32 32 before after n → Prints before after
 called-path before after n room G =
     let z = w5-slice before after (G .outcome) room (G .promised) in
     record { whole = z .whole; x0 = z .x0; e0 = z .e0; x1 = z .x1; rest = z .rest }
 
-never-yes : (x y : Context) (e : Event) (n : ℕ) → x .ty ≡ 3 → NumberOf (AuthorizationAnswer weirAllow31 x y e) n → n ≡ 1 → ⊥
-never-yes x y e n q N h = go (N .answer) (N .promised) (N .number)
+never-yes : (x y : Context) (e : Event) (n : ℕ) → x .ty ≡ 3 → AskedInRange (countsOf weirAllow31) x y e → NumberOf (AuthorizationAnswer weirAllow31 x y e) n
+    → n ≡ 0
+never-yes x y e n q r N = go (N .answer) (N .promised) (N .number)
   where
-    go : (r : Answer) → AuthorizationAnswer weirAllow31 x y e r → n ≡ numberOf r → ⊥
-    go answer.Yes p k = let t = p .1 in let f = w9-nothing e x y q in let z : _≡_ {A = ℕ} 0 1 = cc in omega arith
-    go answer.No p k = omega arith
-    go (answer.Refused i) p k = omega arith
+    go : (a : Answer) → AuthorizationAnswer weirAllow31 x y e a → n ≡ numberOf a → n ≡ 0
+    go answer.Yes p k = let t = p .1 in let f = w9-nothing e x y q in let z : _≡_ {A = ℕ} 0 1 = cc in absurd (omega arith)
+    go answer.No p k = k
+    go (answer.Refused i) p k =
+        absurd (passed-not-refused (bareQuestions weirAllow31 x y e) i
+        (passed-both (policyQuestions weirAllow31) (ask 13 (AskedInRange (countsOf weirAllow31) x y e) ∷ []) (w9-accepted .it) (r, tt)) p)
 
 -- a refusal by questions that are numbered from n on has a number from n on
 abbrev From : ℕ → List Question → Type 0
@@ -221,7 +158,7 @@ empty-passed g work1 work2 before after n k G small e = go (G .outcome) (G .prom
 pub weir-called : WeirCalled
 weir-called =
     record {
-      w1 = says-holds weir goalG w12-enough w1;
+      w1 = says-holds weir goalG w1-enough w1;
       w2 = says-events weir writeOnly w2-enough w2;
       w3 = says-holds weir (exceptType 3) w3-enough w3;
       w4 = says-events weir (exceptType 4) w4-enough w4;

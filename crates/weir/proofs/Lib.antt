@@ -1,5 +1,9 @@
+pub mod Accepted
 pub mod Answers
 pub mod Theorem
 pub mod StandIns
 pub mod Called
 pub mod Own
+pub mod Bytes
+pub mod Shown
+pub mod Clauses

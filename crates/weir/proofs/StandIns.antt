@@ -2,14 +2,15 @@
 use Prim.Native.Nat.{ℕ, _≤_, _<_}
 use mathlib.Core.List.{List, [], _∷_, _++_}
 use mathlib.Core.Logic.{inl, inr}
-use mathlib.Core.Path.{_≡_, refl, ap}
+use mathlib.Core.Path.{_≡_, refl, ap, subst}
 use native.Mathlib.Omega.{arith}
 use lib.ListN.{length, getD}
-use Rattle.base.specs.Questions.{ask}
+use Rattle.base.specs.Questions.{Question, ask, RefusedWith}
 use Rattle.base.proofs.QuestionLaws.{passed-not-refused, passed-then, one-number}
 use Rattle.policy_image.specs.Layout.{countsOf}
 use Rattle.policy_image.specs.cases.Weir.{weir}
 use Rattle.policy_check.specs.Questions.{policyQuestions}
+use Rattle.policy_check.proofs.Cases.{weir-accepted}
 use Rattle.goal_image.specs.cases.WeirGoal.{goalG}
 use Rattle.goal_image.specs.Questions.{goalQuestions}
 use Rattle.paths.specs.Slice.{contextsIn, eventsIn}
@@ -21,7 +22,9 @@ use Rattle.flowgoal.proofs.GoalLaws.{order-one, not-both, not-holds-order, not-
 use Rattle.goal_model.specs.cases.OwnGoals.{writeOnly}
 use Rattle.weir.specs.cases.Goals.{weirAllow41}
 use Rattle.weir.proofs.Answers.{w1, w2, w5, w2-path}
-use Rattle.weir.proofs.Theorem.{w2-enough, w12-enough, w12-second, refused-11, w5-slice, work-length}
+use Rattle.weir.proofs.Accepted.{w1-enough, w2-enough, refused-11, g-accepted, work-length}
+use Rattle.weir.proofs.Called.{events-only}
+use Rattle.weir.proofs.Theorem.{w12-second, w5-slice}
 
 -- what may be said of W5's input
 abbrev W5 : List ℕ → List ℕ → Outcome → Type 0
@@ -48,7 +51,7 @@ not-untouched r p = let s = w5-slice (0 ∷ 0 ∷ 0 ∷ []) (0 ∷ 0 ∷ 0 ∷ [
 
 -- "one refusing all"
 pub not-refusing : (before after : List ℕ) (k : ℕ) → GoalPromise weir goalG 32 32 before after (outcome.Refused k) → ⊥
-not-refusing before after k p = passed-not-refused (allQuestions weir goalG 32 32) k w12-enough (p .0)
+not-refusing before after k p = passed-not-refused (allQuestions weir goalG 32 32) k w1-enough (p .0)
 
 -- "one following only the first leg": it would let W2 pass, whose leg 0 is done and whose leg 1 is not
 pub not-first-leg : (before after : List ℕ) → GoalPromise weir writeOnly 32 32 before after outcome.Holds → ⊥
@@ -91,7 +94,7 @@ not-one-slice before after p = passed-not-refused (allQuestions weir goalG 32 31
 pub not-half-the-work : (before after : List ℕ) → GoalPromise weir goalG 16 16 before after outcome.Holds → ⊥
 not-half-the-work before after p =
     let b = work-length in
-    passed-not-refused (allQuestions weir goalG 16 16) 11 (p .0) (refused-11 16 16 (λ h. let a = h .first in omega arith))
+    passed-not-refused (allQuestions weir goalG 16 16) 11 (p .0) (refused-11 weir goalG 16 16 weir-accepted g-accepted (λ h. let a = h .first in omega arith))
 
 -- a path one step too long, or too short: the count is the path's
 pub not-longer : (before after : List ℕ) → W5 before after (outcome.Order 2) → ⊥
@@ -104,6 +107,14 @@ not-shorter before after p = let e = not-invented before after 0 p in omega arit
 pub w2-slice : (before after : List ℕ) → GoalPromise weir writeOnly 32 32 before after (outcome.Events 3)
     → (getD after 0 0 ≡ 273) × (getD after 1 0 ≡ 64) × (getD after 2 0 ≡ 545) × (getD after 3 0 ≡ 65) × (getD after 4 0 ≡ 785) × (getD after 5 0 ≡ 64) × (getD after 6 0 ≡ 1057)
 w2-slice before after p = w2-path (contextsIn after) (eventsIn after) (p .2 .path)
+
+-- "one always naming the same path": no slice shows both W5's path and W2's, whatever the outcomes beside it are
+pub not-same-path : (b b′ a : List ℕ) (r r′ : Outcome) → 3 ≤ length b → 7 ≤ length b′ → W5 b a r → GoalPromise weir writeOnly 32 32 b′ a r′ → ⊥
+not-same-path b b′ a r r′ room room′ p q =
+    let x = w5-slice b a r room p .x1 in
+    let e = events-only weir writeOnly 32 32 w2-enough {m = 3} b′ a r′ w2 room′ q in
+    let y = w2-slice b′ a (subst (λ (o : Outcome). GoalPromise weir writeOnly 32 32 b′ a o) e q) .2 in
+    omega arith
 
 -- W5's path shown for W2, with the count that W2 has
 pub not-w5-path : (before : List ℕ) → GoalPromise weir writeOnly 32 32 before (273 ∷ 64 ∷ 1057 ∷ 64 ∷ 1057 ∷ 64 ∷ 1057 ∷ []) (outcome.Events 3) → ⊥
@@ -148,7 +159,16 @@ number-refused = refl
 pub number-no-room : outcomeNumber (outcome.NoRoom 3) ≡ 819
 number-no-room = refl
 
--- two answers never share a number: what C gets tells which it was. A refusal of a list of questions has a number up to 11
+-- a refusal of the list of questions has a number up to 11, so a promised outcome is one of those of number-tells
+abbrev Within11 : List Question → Type 0
+Within11 [] = Unit
+Within11 (q ∷ qs) = (q .number ≤ 11) × Within11 qs
+
+refused-within : (k : ℕ) (qs : List Question) → Within11 qs → RefusedWith qs k → k ≤ 11
+refused-within k [] f r = absurd r
+refused-within k (q ∷ qs) f (inl r) = omega (arith, f .0, r .1)
+refused-within k (q ∷ qs) f (inr r) = refused-within k qs (f .1) (r .1)
+
 abbrev UpTo11 : Outcome → Type 0
 UpTo11 outcome.Holds = Unit
 UpTo11 (outcome.Order m) = Unit
@@ -156,6 +176,16 @@ UpTo11 (outcome.Events m) = Unit
 UpTo11 (outcome.Refused i) = i ≤ 11
 UpTo11 (outcome.NoRoom m) = Unit
 
+pub promised-up-to-11 : (s g : List ℕ) (w1 w2 : ℕ) (b a : List ℕ) (r : Outcome) → GoalPromise s g w1 w2 b a r → UpTo11 r
+promised-up-to-11 s g w1 w2 b a outcome.Holds p = tt
+promised-up-to-11 s g w1 w2 b a (outcome.Order m) p = tt
+promised-up-to-11 s g w1 w2 b a (outcome.Events m) p = tt
+promised-up-to-11 s g w1 w2 b a (outcome.Refused k) p =
+    refused-within k (allQuestions s g w1 w2)
+    (omega arith, (omega arith, (omega arith, (omega arith, (omega arith, (omega arith, (omega arith, (omega arith, (omega arith, (omega arith, (omega arith, tt))))))))))) (p .0)
+promised-up-to-11 s g w1 w2 b a (outcome.NoRoom m) p = tt
+
+-- two answers never share a number: what C gets tells which it was
 pub number-tells : (q r : Outcome) → UpTo11 q → UpTo11 r → outcomeNumber q ≡ outcomeNumber r → q ≡ r
 number-tells outcome.Holds outcome.Holds h k e = refl
 number-tells outcome.Holds (outcome.Order m′) h k e = absurd (omega arith)
@@ -182,3 +212,9 @@ number-tells (outcome.NoRoom m) (outcome.Order m′) h k e = absurd (omega arith
 number-tells (outcome.NoRoom m) (outcome.Events m′) h k e = absurd (omega arith)
 number-tells (outcome.NoRoom m) (outcome.Refused i′) h k e = absurd (omega arith)
 number-tells (outcome.NoRoom m) (outcome.NoRoom m′) h k e = ap outcome.NoRoom (omega arith)
+
+-- .. of any two inputs
+pub number-one : (s g s′ g′ : List ℕ) (w1 w2 w1′ w2′ : ℕ) (b a b′ a′ : List ℕ) (q r : Outcome) → GoalPromise s g w1 w2 b a q → GoalPromise s′ g′ w1′ w2′ b′ a′ r
+    → outcomeNumber q ≡ outcomeNumber r → q ≡ r
+number-one s g s′ g′ w1 w2 w1′ w2′ b a b′ a′ q r p p′ e =
+    number-tells q r (promised-up-to-11 s g w1 w2 b a q p) (promised-up-to-11 s′ g′ w1′ w2′ b′ a′ r p′) e

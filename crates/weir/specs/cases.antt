@@ -1,5 +1,8 @@
 -- Named inputs, written out, and what the theorems about them say. No outward promise rests on them.
 pub mod Goals
+pub mod Wrong
+pub mod Clauses
 pub mod Weir
 pub mod Called
 pub mod Own
+pub mod Bytes

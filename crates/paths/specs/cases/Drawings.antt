@@ -141,3 +141,10 @@ fewest =
     ((0 by 7 to 1) ∷ (2 by 7 to 3) ∷ (3 by 7 to 4) ∷ [])
     ((0 ∷ 2 ∷ []) ∷ only 0 ∷ (1 ∷ 4 ∷ []) ∷ [])
     (once (only 7) ∷ once (only 7) ∷ [])
+
+abbrev pub pastTheEnd : Drawn
+pastTheEnd =
+    drawn 3
+    ((0 by 7 to 1) ∷ (1 by 8 to 2) ∷ [])
+    (only 0 ∷ only 1 ∷ (1 ∷ 2 ∷ []) ∷ [])
+    (once (only 7) ∷ once (only 8) ∷ [])

@@ -9,7 +9,7 @@ use Rattle.policy_image.specs.cases.Weir.{weir, weirAllow31}
 use Rattle.context.specs.declared.Context.{Context}
 use Rattle.context.specs.declared.Event.{Event}
 use Rattle.goal_image.specs.cases.WeirGoal.{goalG}
-use Rattle.flowgoal.specs.Bare.{AuthorizationAnswer, NumberOf}
+use Rattle.flowgoal.specs.Bare.{AskedInRange, AuthorizationAnswer, NumberOf}
 use Rattle.flowgoal.specs.GoalQuestion.{GoalPromise, OutcomeNumber}
 use Rattle.goal_model.specs.cases.OwnGoals.{writeOnly}
 use Rattle.weir.specs.cases.Goals.{weirAllow41, empty, exceptType, endTypeOne, oneLeg, noStart}
@@ -57,8 +57,9 @@ pub record WeirCalled : Type 0 where
   pub w7 : SaysBroken weir oneLeg 0 2
   -- "W8 σ0 empty: holds."
   pub w8 : SaysHolds weir noStart
-  -- "W9 an added allow 3 on 1 read authorizes nothing.": the answer is never yes from type 3
-  pub w9 : (x y : Context) (e : Event) (n : ℕ) → x .ty ≡ 3 → NumberOf (AuthorizationAnswer weirAllow31 x y e) n → n ≡ 1 → ⊥
+  -- "W9 an added allow 3 on 1 read authorizes nothing.": the policy passes, and where the question is in range the answer is no from type 3
+  pub w9 : (x y : Context) (e : Event) (n : ℕ) → x .ty ≡ 3 → AskedInRange (countsOf weirAllow31) x y e → NumberOf (AuthorizationAnswer weirAllow31 x y e) n
+      → n ≡ 0
   -- "W10 23 bytes: 1; 24 bytes, N 0, counts 1, heads 0: accepted.": not refused with 1 to 6
   pub w10 : (s g : List ℕ) (work1 work2 : ℕ) → length s ≡ 23 → Refuses s g work1 work2 1
   pub w10-empty : (g : List ℕ) (work1 work2 : ℕ) (before after : List ℕ) (n k : ℕ) → Gives empty g work1 work2 before after n → k ≤ 6 → n ≡ 4 * k + 3 → ⊥

@@ -14,7 +14,8 @@ use Rattle.context.specs.declared.Context.{Context}
 use Rattle.context.specs.declared.Event.{Event}
 use Rattle.access.specs.Authorization.{authorized, flow}
 use Rattle.goal_image.specs.cases.WeirGoal.{goalG}
-use Rattle.paths.specs.inner.Answer.{Right, holds, order, events}
+use Rattle.paths.specs.Model.{Model}
+use Rattle.paths.specs.Paths.{Holds, OrderAt, EventsAt}
 use Rattle.goal_model.specs.Images.{model}
 use Rattle.flowgoal.specs.declared.goal.Outcome.{Outcome}
 use Rattle.flowgoal.specs.declared.goal.Outcome.the-variants.{Order}
@@ -31,25 +32,31 @@ pub record W5Slice (before after : List ℕ) (r : Outcome) : Type 0 where
   pub x1 : getD after 2 0 ≡ 1057
   pub rest : (i : ℕ) → 3 ≤ i → getD after i 0 ≡ getD before i 0
 
+-- the images pass questions 1 to 11 with 32 entries in each work slice, and the answer is right
+pub record Answered (s g : List ℕ) (right : Model → Type 0) : Type 0 where
+  pub accepted : AllYes (allQuestions s g 32 32)
+  pub answer : right (model s g)
+
 pub record Weir : Type 0 where
   -- "W1 G holds."
-  pub w1 : Right (model weir goalG) holds
+  pub w1 : Answered weir goalG Holds
   -- "W2 leg 1 write only: events 3."
-  pub w2 : Right (model weir writeOnly) (events 3)
+  pub w2 : Answered weir writeOnly (λ M. EventsAt M 3)
   -- "W3 as W2 with σe type 3: holds."
-  pub w3 : Right (model weir (exceptType 3)) holds
+  pub w3 : Answered weir (exceptType 3) Holds
   -- "W4 as W2 with σe type 4: events 3."
-  pub w4 : Right (model weir (exceptType 4)) (events 3)
+  pub w4 : Answered weir (exceptType 4) (λ M. EventsAt M 3)
   -- "W5 policy with 4 on 1 read added, G": by answer, count and path slice
-  pub w5 : Right (model weirAllow41 goalG) (order 1)
+  pub w5 : Answered weirAllow41 goalG (λ M. OrderAt M 1)
   pub w5-slice : (before after : List ℕ) (r : Outcome) → 3 ≤ length before → GoalPromise weirAllow41 goalG 32 32 before after r → W5Slice before after r
   -- "W6 σ2 type 1 in G: order 0."
-  pub w6 : Right (model weir endTypeOne) (order 0)
+  pub w6 : Answered weir endTypeOne (λ M. OrderAt M 0)
   -- "W7 one leg, σ0 and σ1 type 1: events 0."
-  pub w7 : Right (model weir oneLeg) (events 0)
+  pub w7 : Answered weir oneLeg (λ M. EventsAt M 0)
   -- "W8 σ0 empty: holds."
-  pub w8 : Right (model weir noStart) holds
+  pub w8 : Answered weir noStart Holds
   -- "W9 an added allow 3 on 1 read authorizes nothing.": nothing from type 3, and every answer is as without the record
+  pub w9-accepted : AllYes (policyQuestions weirAllow31)
   pub w9 : (e : Event) (x y : Context) → x .ty ≡ 3 → authorized (policyOf weirAllow31) e x y ≡ false
   pub w9-authorized : (e : Event) (x y : Context) → authorized (policyOf weirAllow31) e x y ≡ authorized (policyOf weir) e x y
   pub w9-flow : (e : Event) (x y : Context) → flow (policyOf weirAllow31) e x y ≡ flow (policyOf weir) e x y
