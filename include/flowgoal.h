@@ -1,6 +1,27 @@
 /* The flow goal checker, for C and C++.
  *
- * Link with the static library that `rt staticlib flowgoal` writes to target/staticlib/libflowgoal.a (x86-64).
+ * Link with the static library that `rt staticlib flowgoal` writes to target/staticlib/libflowgoal.a (x86-64). It needs nothing
+ * else but memcpy and memset.
+ *
+ * An example, which the tests compile and run as it stands here:
+ *
+ *     #include "flowgoal.h"
+ *     #include <stdio.h>
+ *
+ *     // room for 64 types, 4 roles, 4 users and 4 legs, and for a path of 100 steps: what needs more is refused
+ *     enum { WORK = FLOWGOAL_WORK_ENTRIES(64, 4, 4, 4), PATH = FLOWGOAL_PATH_ENTRIES(100) };
+ *     static uint32_t work1[WORK], work2[WORK], path[PATH];
+ *
+ *     int may_be_loaded(const uint8_t *policy, size_t policy_length, const uint8_t *goal, size_t goal_length)
+ *     {
+ *         uint64_t result = flowgoal_check(policy, policy_length, goal, goal_length, work1, WORK, work2, WORK, path, PATH);
+ *         uint64_t last = FLOWGOAL_PATH_ENTRIES(FLOWGOAL_STEPS(result)) - 1;
+ *         if (FLOWGOAL_ANSWER(result) == FLOWGOAL_REFUSED)
+ *             printf("refused with %u\n", FLOWGOAL_NUMBER(result));
+ *         else if (FLOWGOAL_ANSWER(result) != FLOWGOAL_HOLDS)
+ *             printf("broken by a path from type %u to type %u\n", path[0] / 256, path[last] / 256);
+ *         return FLOWGOAL_ANSWER(result) == FLOWGOAL_HOLDS;
+ *     }
  *
  * What is lent. An image is lent as a pointer to its first byte and its length in bytes. It is only read, and only while the
  * call runs; nothing is kept. A work slice or a path slice is lent as a pointer to its first entry, of 32 bits, and the number
@@ -31,6 +52,20 @@ extern "C" {
 
 /* The stack that a call needs at the most, in bytes. */
 #define FLOWGOAL_STACK (1024 * 1024)
+
+/* The largest images, in bytes: 4,095 and 255 records. What is longer is refused with 1 or 7. */
+#define FLOWGOAL_LARGEST_POLICY (24 + 12 * 4095)
+#define FLOWGOAL_LARGEST_GOAL (34 + 8 * 255)
+
+/* The entries that each work slice needs, for counts in range: T types, R roles and U users stand in bytes 0, 1 and 2 of the
+ * policy and n legs in byte 0 of the goal. They may be relied on where a call with work slices of length 0 is refused with 11:
+ * then both images are accepted. FLOWGOAL_LARGEST_WORK entries, 3,672,000, are enough for all. */
+#define FLOWGOAL_WORK_ENTRIES(types, roles, users, legs) \
+    ((size_t)(types) * (size_t)(roles) * (size_t)(users) * ((size_t)1 << (legs)))
+#define FLOWGOAL_LARGEST_WORK FLOWGOAL_WORK_ENTRIES(255, 15, 15, 6)
+
+/* The entries that the path slice needs for a path of so many steps. */
+#define FLOWGOAL_PATH_ENTRIES(steps) (2 * (size_t)(steps) + 1)
 
 /* A result is 256 * steps + 4 * number + answer. The number is that of the refusal, and 0 for every other answer. Steps are
  * those of a shortest path that breaks a goal, and 0 where there is none to tell of. */

@@ -9,12 +9,12 @@
 
 /* W1 to W12 need 32 entries of work: 4 types, 2 roles, 1 user, 2 legs. */
 enum { WORK = 32, PATH = 16, UNTOUCHED = 0x5EED };
-enum { HOLDS = 0, ORDER = 1, EVENTS = 2, REFUSED = 3 };
 
 static struct policy policy;
 static struct goal goal;
 static uint32_t path[PATH];
 
+/* A result as the specification writes it, from the header's number of the answer: where that is wrong, no result is as wanted. */
 static uint64_t result(uint64_t steps, unsigned number, unsigned answer)
 {
     return 256 * steps + 4 * number + answer;
@@ -63,25 +63,8 @@ static int untouched_from(unsigned entry)
 
 static void expect_refused(const char *what, unsigned number)
 {
-    expect(what, ask(WORK, WORK, PATH), result(0, number, REFUSED));
+    expect(what, ask(WORK, WORK, PATH), result(0, number, FLOWGOAL_REFUSED));
     expect("the path slice after a refusal", untouched_from(0), 1);
-}
-
-/* As a loader does: a file of at most so many bytes. */
-static size_t read_image(const char *folder, const char *name, uint8_t *bytes, size_t most)
-{
-    char file[512];
-    size_t length;
-    FILE *stream;
-    snprintf(file, sizeof file, "%s/%s", folder, name);
-    stream = fopen(file, "rb");
-    if (stream == NULL) {
-        printf("%s cannot be opened\n", file);
-        exit(1);
-    }
-    length = fread(bytes, 1, most, stream);
-    fclose(stream);
-    return length;
 }
 
 struct weir_case {
@@ -93,18 +76,18 @@ struct weir_case {
 static void weir_examples(const char *examples)
 {
     static const struct weir_case cases[] = {
-        {"weir-w1", 0, HOLDS, {0}},
-        {"weir-w2", 3, EVENTS, {0x111, 64, 0x221, 65, 0x311, 64, 0x421}},
-        {"weir-w3", 0, HOLDS, {0}},
-        {"weir-w4", 3, EVENTS, {0x111, 64, 0x221, 65, 0x311, 64, 0x421}},
-        {"weir-w5", 1, ORDER, {0x111, 64, 0x421}},
-        {"weir-w6", 0, ORDER, {0x111}},
-        {"weir-w7", 0, EVENTS, {0x111}},
-        {"weir-w8", 0, HOLDS, {0}},
+        {"weir-w1", 0, FLOWGOAL_HOLDS, {0}},
+        {"weir-w2", 3, FLOWGOAL_EVENTS, {0x111, 64, 0x221, 65, 0x311, 64, 0x421}},
+        {"weir-w3", 0, FLOWGOAL_HOLDS, {0}},
+        {"weir-w4", 3, FLOWGOAL_EVENTS, {0x111, 64, 0x221, 65, 0x311, 64, 0x421}},
+        {"weir-w5", 1, FLOWGOAL_ORDER, {0x111, 64, 0x421}},
+        {"weir-w6", 0, FLOWGOAL_ORDER, {0x111}},
+        {"weir-w7", 0, FLOWGOAL_EVENTS, {0x111}},
+        {"weir-w8", 0, FLOWGOAL_HOLDS, {0}},
     };
     for (size_t i = 0; i < sizeof cases / sizeof *cases; i++) {
         const struct weir_case *weir = &cases[i];
-        unsigned entries = weir->answer == HOLDS ? 0 : 2 * weir->steps + 1;
+        unsigned entries = weir->answer == FLOWGOAL_HOLDS ? 0 : 2 * weir->steps + 1;
         char folder[400];
         snprintf(folder, sizeof folder, "%s/%s", examples, weir->name);
         policy.length = read_image(folder, "policy.img", policy.bytes, sizeof policy.bytes);
@@ -113,11 +96,13 @@ static void weir_examples(const char *examples)
         expect("its path", memcmp(path, weir->path, entries * sizeof *path) == 0, 1);
         expect("the entries after it", untouched_from(entries), 1);
         for (unsigned length = 0; length < entries; length++) {
-            expect("no room for its path", ask(WORK, WORK, length), result(weir->steps, 12, REFUSED));
+            expect("no room for its path", ask(WORK, WORK, length), result(weir->steps, 12, FLOWGOAL_REFUSED));
             expect("the path slice after 12", untouched_from(0), 1);
         }
-        if (entries > 0)
+        if (entries > 0) {
             expect("just room for its path", ask(WORK, WORK, entries), result(weir->steps, 0, weir->answer));
+            expect("FLOWGOAL_PATH_ENTRIES", FLOWGOAL_PATH_ENTRIES(weir->steps), entries);
+        }
     }
 }
 
@@ -138,7 +123,7 @@ static void weir_9(void)
     expect("W9: all answers as without the record", same, 1);
     expect("W9: type 3 is authorized to nothing", from_3, 0);
     goal_g(&goal);
-    expect("W9: G", ask(WORK, WORK, PATH), result(0, 0, HOLDS));
+    expect("W9: G", ask(WORK, WORK, PATH), result(0, 0, FLOWGOAL_HOLDS));
 }
 
 static void weir_10_to_12(void)
@@ -156,10 +141,10 @@ static void weir_10_to_12(void)
     put16(policy.bytes + POLICY_HEADER, 1);
     expect_refused("W11", 3);
     policy_weir(&policy);
-    expect("W12: 31 entries in the first", ask(31, 32, PATH), result(0, 11, REFUSED));
-    expect("W12: 31 entries in the second", ask(32, 31, PATH), result(0, 11, REFUSED));
+    expect("W12: 31 entries in the first", ask(31, 32, PATH), result(0, 11, FLOWGOAL_REFUSED));
+    expect("W12: 31 entries in the second", ask(32, 31, PATH), result(0, 11, FLOWGOAL_REFUSED));
     expect("W12: its path slice", untouched_from(0), 1);
-    expect("W12: 32 suffice", ask(32, 32, PATH), result(0, 0, HOLDS));
+    expect("W12: 32 suffice", ask(32, 32, PATH), result(0, 0, FLOWGOAL_HOLDS));
 }
 
 struct damage {
@@ -190,7 +175,7 @@ static void refusals(void)
         policy_add(&policy, 9, 1, 0, 0, 0, 12);
         policy_add(&policy, 8, 2, 0, 0, 13, 1);
         goal_g(&goal);
-        expect("before the damage", ask(WORK, WORK, PATH), result(0, 0, HOLDS));
+        expect("before the damage", ask(WORK, WORK, PATH), result(0, 0, FLOWGOAL_HOLDS));
         (cases[i].in_goal ? goal.bytes : policy.bytes)[cases[i].offset] = (uint8_t)cases[i].value;
         expect_refused(cases[i].what, cases[i].number);
     }
@@ -209,16 +194,86 @@ static void null_pointers(void)
 {
     policy_weir(&policy);
     goal_g(&goal);
-    expect("all null", ask_nulls(0, 0, 0), result(0, 1, REFUSED));
-    expect("no goal", ask_nulls(policy.length, 0, 1), result(0, 7, REFUSED));
-    expect("no work", ask_nulls(policy.length, goal.length, 0), result(0, 11, REFUSED));
-    expect("no path slice where the goal holds", ask_nulls(policy.length, goal.length, 1), result(0, 0, HOLDS));
+    expect("all null", ask_nulls(0, 0, 0), result(0, 1, FLOWGOAL_REFUSED));
+    expect("no goal", ask_nulls(policy.length, 0, 1), result(0, 7, FLOWGOAL_REFUSED));
+    expect("no work", ask_nulls(policy.length, goal.length, 0), result(0, 11, FLOWGOAL_REFUSED));
+    expect("no path slice where the goal holds", ask_nulls(policy.length, goal.length, 1), result(0, 0, FLOWGOAL_HOLDS));
     policy_add(&policy, 4, 4, 1, 2, 0, 1);
-    expect("no path slice where it does not", ask_nulls(policy.length, goal.length, 1), result(1, 12, REFUSED));
+    expect("no path slice where it does not", ask_nulls(policy.length, goal.length, 1), result(1, 12, FLOWGOAL_REFUSED));
     goal_start(&goal, 1, 0);
     goal_sigma(&goal, SIGMA + 0, 1, 0, 0);
     goal_sigma(&goal, SIGMA + 1, 1, 0, 0);
-    expect("no path slice for no step", ask_nulls(policy.length, goal.length, 1), result(0, 12, REFUSED));
+    expect("no path slice for no step", ask_nulls(policy.length, goal.length, 1), result(0, 12, FLOWGOAL_REFUSED));
+}
+
+/* The answers' numbers are the specification's, and the header takes out of a result what stands in it. */
+static void fields(uint64_t got, uint64_t steps, unsigned number, unsigned answer)
+{
+    expect("FLOWGOAL_STEPS", FLOWGOAL_STEPS(got), steps);
+    expect("FLOWGOAL_NUMBER", FLOWGOAL_NUMBER(got), number);
+    expect("FLOWGOAL_ANSWER", FLOWGOAL_ANSWER(got), answer);
+}
+
+static void numbers(void)
+{
+    expect("FLOWGOAL_HOLDS", FLOWGOAL_HOLDS, 0);
+    expect("FLOWGOAL_ORDER", FLOWGOAL_ORDER, 1);
+    expect("FLOWGOAL_EVENTS", FLOWGOAL_EVENTS, 2);
+    expect("FLOWGOAL_REFUSED", FLOWGOAL_REFUSED, 3);
+    expect("FLOWGOAL_NO", FLOWGOAL_NO, 0);
+    expect("FLOWGOAL_YES", FLOWGOAL_YES, 1);
+    policy_weir(&policy);
+    goal_g(&goal);
+    fields(ask(WORK, WORK, PATH), 0, 0, FLOWGOAL_HOLDS);
+    fields(ask(WORK, WORK - 1, PATH), 0, 11, FLOWGOAL_REFUSED);
+    policy_add(&policy, 4, 4, 1, 2, 0, 1);
+    fields(ask(WORK, WORK, PATH), 1, 0, FLOWGOAL_ORDER);
+    fields(ask(WORK, WORK, 2), 1, 12, FLOWGOAL_REFUSED);
+    fields(UINT64_MAX, UINT64_MAX / 256, 63, 3);
+}
+
+/* One entry less than the header names is refused with 11, in either slice, and so is none: that says that both images are
+ * accepted, so that the counts may be read from them. */
+static void work_lengths(void)
+{
+    static const unsigned counts[][4] = {{1, 1, 1, 1}, {4, 2, 1, 2}, {64, 4, 4, 4}, {7, 15, 3, 5}, {255, 15, 15, 6}};
+    for (size_t i = 0; i < sizeof counts / sizeof *counts; i++) {
+        size_t entries = FLOWGOAL_WORK_ENTRIES(counts[i][0], counts[i][1], counts[i][2], counts[i][3]);
+        policy_start(&policy, counts[i][0], counts[i][1], counts[i][2], 1);
+        goal_start(&goal, counts[i][3], 0);
+        expect("no work", ask(0, 0, 0), result(0, 11, FLOWGOAL_REFUSED));
+        expect("the counts in the images",
+               FLOWGOAL_WORK_ENTRIES(policy.bytes[0], policy.bytes[1], policy.bytes[2], goal.bytes[0]), entries);
+        expect("one entry less in the first", ask(entries - 1, entries, 0), result(0, 11, FLOWGOAL_REFUSED));
+        expect("one entry less in the second", ask(entries, entries - 1, 0), result(0, 11, FLOWGOAL_REFUSED));
+        expect("just the entries", ask(entries, entries, 0), result(0, 0, FLOWGOAL_HOLDS));
+    }
+    expect("FLOWGOAL_LARGEST_WORK", FLOWGOAL_LARGEST_WORK, FLOWGOAL_WORK_ENTRIES(255, 15, 15, 6));
+}
+
+/* Images of just the largest lengths are accepted, and one record more is not, in an image that has room for it. */
+static void largest_images(void)
+{
+    static uint8_t longer_policy[sizeof policy.bytes + POLICY_RECORD], longer_goal[sizeof goal.bytes + GOAL_RECORD];
+    policy_start(&policy, 1, 1, 1, 1);
+    while (policy.records < POLICY_MOST)
+        policy_add(&policy, 1, 1, 0, 0, 0, 0);
+    goal_start(&goal, 1, 0);
+    while (goal.records < GOAL_MOST)
+        goal_sigma(&goal, SIGMA + 0, 1, 0, 0);
+    expect("FLOWGOAL_LARGEST_POLICY", FLOWGOAL_LARGEST_POLICY, policy.length);
+    expect("FLOWGOAL_LARGEST_GOAL", FLOWGOAL_LARGEST_GOAL, goal.length);
+    expect("the largest images", ask(WORK, WORK, PATH), result(0, 0, FLOWGOAL_HOLDS));
+    memcpy(longer_policy, policy.bytes, policy.length);
+    put16(longer_policy + 4, POLICY_MOST + 1);
+    memcpy(longer_goal, goal.bytes, goal.length);
+    put16(longer_goal + 2, GOAL_MOST + 1);
+    expect("a longer policy",
+           flowgoal_check(longer_policy, sizeof longer_policy, goal.bytes, goal.length, NULL, 0, NULL, 0, NULL, 0),
+           result(0, 1, FLOWGOAL_REFUSED));
+    expect("a longer goal",
+           flowgoal_check(policy.bytes, policy.length, longer_goal, sizeof longer_goal, NULL, 0, NULL, 0, NULL, 0),
+           result(0, 7, FLOWGOAL_REFUSED));
 }
 
 /* The deepest constraints that a goal question can come to: a class, its way of flow, a constraint, and nodes up to the record
@@ -267,8 +322,11 @@ int main(int count, char **arguments)
     weir_10_to_12();
     refusals();
     null_pointers();
-    deepest(0, POLICY_MOST, result(0, 0, HOLDS));
-    deepest(1, POLICY_MOST, result(0, 0, HOLDS));
-    deepest(1, POLICY_MOST - 1, result(1, 0, EVENTS));
+    numbers();
+    work_lengths();
+    largest_images();
+    deepest(0, POLICY_MOST, result(0, 0, FLOWGOAL_HOLDS));
+    deepest(1, POLICY_MOST, result(0, 0, FLOWGOAL_HOLDS));
+    deepest(1, POLICY_MOST - 1, result(1, 0, FLOWGOAL_EVENTS));
     return results();
 }

@@ -103,6 +103,22 @@ void goal_g(struct goal *goal)
     goal_gamma(goal, GAMMA + 1, 2, 3);
 }
 
+size_t read_image(const char *folder, const char *name, uint8_t *bytes, size_t most)
+{
+    char file[512];
+    size_t length;
+    FILE *stream;
+    snprintf(file, sizeof file, "%s/%s", folder, name);
+    stream = fopen(file, "rb");
+    if (stream == NULL) {
+        printf("%s cannot be opened\n", file);
+        exit(1);
+    }
+    length = fread(bytes, 1, most, stream);
+    fclose(stream);
+    return length;
+}
+
 void expect(const char *what, uint64_t got, uint64_t wanted)
 {
     if (got == wanted) {

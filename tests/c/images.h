@@ -38,6 +38,9 @@ void goal_gamma(struct goal *goal, unsigned chain, unsigned class_number, uint32
 /* Goal G of the specification. */
 void goal_g(struct goal *goal);
 
+/* The file of at most so many bytes, read as a loader does; gives its length. The run ends where it cannot be opened. */
+size_t read_image(const char *folder, const char *name, uint8_t *bytes, size_t most);
+
 /* Counts one check, and prints what it got where that is not what was wanted. */
 void expect(const char *what, uint64_t got, uint64_t wanted);
 /* Prints 'N passed, M failed'; gives the exit status. */

@@ -16,6 +16,8 @@ static void answers(void)
     expect("a read flows in", flowgoal_flows(image, policy.length, 1, 1, 1, 2, 2, 1, 2, 0), FLOWGOAL_YES);
     expect("and not out", flowgoal_flows(image, policy.length, 2, 2, 1, 1, 1, 1, 2, 0), FLOWGOAL_NO);
     expect("permission 32", flowgoal_authorized(image, policy.length, 2, 2, 1, 1, 1, 1, 2, 32), 4 * 13 + FLOWGOAL_REFUSED);
+    expect("its number", FLOWGOAL_NUMBER(flowgoal_authorized(image, policy.length, 2, 2, 1, 1, 1, 1, 2, 32)), 13);
+    expect("its answer", FLOWGOAL_ANSWER(flowgoal_authorized(image, policy.length, 2, 2, 1, 1, 1, 1, 2, 32)), FLOWGOAL_REFUSED);
     expect("type 257", flowgoal_flows(image, policy.length, 257, 1, 1, 2, 2, 1, 2, 0), 4 * 13 + FLOWGOAL_REFUSED);
     expect("the largest numbers",
            flowgoal_authorized(image, policy.length, UINT32_MAX, UINT32_MAX, UINT32_MAX, UINT32_MAX, UINT32_MAX, UINT32_MAX,

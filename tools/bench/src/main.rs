@@ -29,7 +29,7 @@ const STATION: Size = Size { types: 255, classes: 8, allows: 3000, legs: 2, ..PR
 const SIX_LEGS: Size = Size { legs: 6, ..STATION };
 const LARGEST: Size = Size { roles: 15, users: 15, classes: 31, ..SIX_LEGS };
 
-/// The sizes of the design's table, each with masks of one bit and of 32, and what else is to be measured.
+/// The sizes, from the limit of the goal program to the largest policy and goal, each with masks of one bit and of 32, and what else is to be measured.
 fn cases() -> Vec<(String, Size)> {
     let mut all = Vec::new();
     let sizes = [

@@ -1,0 +1,158 @@
+//! Holds the pages of the trace, docs/TRACE.md and docs/trace/, to the repository: what they name is there, and no row is
+//! lost. With --write-edits it makes docs/trace/edits.md. Its last line is 'N passed, M failed'.
+mod edits;
+mod index;
+mod names;
+mod pages;
+mod quote;
+mod repository;
+mod rows;
+mod spans;
+mod trials;
+mod wrap;
+
+use names::Looked;
+use pages::Page;
+use repository::{listed, name_of, Repository};
+use std::collections::BTreeSet;
+use std::fs;
+use std::path::Path;
+use std::process::exit;
+use trials::{Trial, TRIALS};
+
+const USAGE: &str = "usage: trace-test [--write-edits] ROOT";
+/// The page that is damaged to see that the test can fail.
+const DAMAGED: &str = "docs/trace/policy-image.md";
+
+/// One thing that is checked, and what is wrong with it.
+struct Checked {
+    what: String,
+    wrong: Vec<String>,
+}
+
+/// The names of the pages and their texts.
+fn texts(root: &Path) -> Vec<(String, String)> {
+    let pages = listed(&root.join("docs/trace")).into_iter().map(|path| format!("docs/trace/{}", name_of(&path)));
+    let names = [index::INDEX.to_string()].into_iter().chain(pages.filter(|name| name.ends_with(".md")));
+    names.map(|name| (name.clone(), fs::read_to_string(root.join(&name)).unwrap_or_default())).collect()
+}
+
+/// Everything that one page names, unit by unit.
+fn check_page(page: &Page, rows: &BTreeSet<rows::Number>, repository: &Repository) -> (Checked, Vec<String>) {
+    let (mut all, mut wrong) = (Looked::default(), Vec::new());
+    for unit in &page.units {
+        let looked = names::look(page, unit, repository);
+        let mut stale = looked.stale;
+        stale.extend(rows::stale(unit, rows, repository));
+        stale.extend(index::dead(page, unit, &repository.root));
+        if unit.is_row && rows::Number::parse(&unit.at).is_some() {
+            stale.extend(rows::misformed(unit));
+        }
+        wrong.extend(stale.iter().map(|what| format!("{}: {}: {what}", page.name, unit.at)));
+        all.paths += looked.paths;
+        all.names += looked.names;
+        all.labels.extend(looked.labels);
+    }
+    let counts = format!("{} rows, {} paths, {} names, {} labels", page.rows().count(), all.paths, all.names, all.labels.len());
+    (Checked { what: format!("{}: {counts}", page.name), wrong }, all.labels)
+}
+
+/// Edits that do not say why, and edits that no row speaks of.
+fn check_edits(pages: &[Page], named: &BTreeSet<String>, repository: &Repository) -> Vec<String> {
+    let mut wrong = Vec::new();
+    for (label, edit) in &repository.edits {
+        if edit.why.is_none() {
+            wrong.push(format!("{label}: the edit's first line is no `why: `"));
+        }
+        let has_row = pages.iter().flat_map(Page::rows).any(|row| row.at == *label);
+        if !has_row && !named.contains(label) {
+            wrong.push(format!("{label}: no row names this edit"));
+        }
+    }
+    wrong
+}
+
+/// All checks but that of the logs.
+fn check(texts: &[(String, String)], repository: &Repository) -> Vec<Checked> {
+    let pages: Vec<Page> = texts.iter().map(|(name, text)| Page::read(name, text)).collect();
+    let rows = rows::numbers(&pages);
+    let (mut checked, mut named) = (Vec::new(), BTreeSet::new());
+    for page in &pages {
+        let (result, labels) = check_page(page, &rows, repository);
+        checked.push(result);
+        named.extend(labels);
+    }
+    let mut add = |what: String, wrong| checked.push(Checked { what, wrong });
+    add(format!("{} numbered rows, each number once", rows.len()), rows::repeated(&pages));
+    add("the index has every page and its rows".to_string(), index::stale(&pages));
+    add(format!("{} edits say why and are named", repository.edits.len()), check_edits(&pages, &named, repository));
+    checked
+}
+
+/// Whether each damage of a page is noticed.
+fn try_damage(texts: &[(String, String)], repository: &Repository) -> Vec<Checked> {
+    let count = |texts: &[(String, String)]| check(texts, repository).iter().map(|checked| checked.wrong.len()).sum::<usize>();
+    let before = count(texts);
+    let noticed = |Trial { what, damage }| {
+        let harmed = texts.iter().map(|(name, text)| {
+            let text = if name == DAMAGED { damage(text) } else { text.clone() };
+            (name.clone(), text)
+        });
+        let is_noticed = count(&harmed.collect::<Vec<_>>()) > before;
+        let wrong = if is_noticed { Vec::new() } else { vec![format!("{what} in {DAMAGED} is not noticed")] };
+        Checked { what: format!("noticed: {what}"), wrong }
+    };
+    TRIALS.map(noticed).into()
+}
+
+fn report(checked: &[Checked]) -> (usize, usize) {
+    for Checked { what, wrong } in checked {
+        println!("{what}{}", if wrong.is_empty() { "" } else { ": FAILED" });
+        wrong.iter().for_each(|line| println!("  {line}"));
+    }
+    let failed = checked.iter().filter(|checked| !checked.wrong.is_empty()).count();
+    (checked.len() - failed, failed)
+}
+
+fn write_edits(repository: &Repository) -> ! {
+    let made = edits::make(repository);
+    if let Err(why) = fs::write(repository.root.join(edits::PAGE), &made.text) {
+        eprintln!("{} cannot be written: {why}", edits::PAGE);
+        exit(1);
+    }
+    println!(
+        "{}: {} edits, {} of them with their first error",
+        edits::PAGE,
+        repository.edits.len(),
+        repository.edits.len() - made.unlogged.len()
+    );
+    edits::advice(&made.unlogged).iter().for_each(|line| println!("{line}"));
+    exit(!made.unlogged.is_empty() as i32);
+}
+
+fn main() {
+    let arguments: Vec<String> = std::env::args().skip(1).collect();
+    let (writes, root) = match arguments.iter().map(String::as_str).collect::<Vec<_>>()[..] {
+        ["--write-edits", root] => (true, root),
+        [root] if !root.starts_with('-') => (false, root),
+        _ => {
+            eprintln!("{USAGE}");
+            exit(2);
+        }
+    };
+    let repository = Repository::read(Path::new(root));
+    if writes {
+        write_edits(&repository);
+    }
+    println!("the pages of the trace against the repository ..");
+    let texts = texts(&repository.root);
+    let mut checked = check(&texts, &repository);
+    checked.extend(try_damage(&texts, &repository));
+    checked.push(Checked {
+        what: format!("{} is what the edits and their logs say", edits::PAGE),
+        wrong: edits::stale(&repository),
+    });
+    let (passed, failed) = report(&checked);
+    println!("{passed} passed, {failed} failed");
+    exit((failed > 0) as i32);
+}

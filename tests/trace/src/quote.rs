@@ -1,0 +1,170 @@
+//! The first error of the prover's log, made readable: the file, the theorem, and the sentence that says what no longer holds.
+use crate::spans::is_closed;
+use std::collections::BTreeMap;
+
+/// The longest quote and the longest term in it, in characters.
+const LENGTH: usize = 300;
+const TERM: usize = 90;
+
+/// An error, or a note where there is none, as the log prints it: its place and its words, which may go on in lines set in by two.
+struct Said {
+    place: String,
+    first: String,
+    more: Vec<String>,
+}
+
+/// `FILE:LINE:COLUMN: error: WORDS`, or the same with `note: ` before it.
+fn error_in(line: &str) -> Option<(&str, &str)> {
+    line.split_once(": error: ").filter(|(place, _)| !place.contains(' '))
+}
+
+fn note_in(line: &str) -> Option<(&str, &str)> {
+    line.strip_prefix("note: ")?.split_once(": ").filter(|(place, _)| place.contains('/') && !place.contains(' '))
+}
+
+fn said_in(log: &str, line_of: impl Fn(&str) -> Option<(&str, &str)>) -> Option<Said> {
+    let mut lines = log.lines().skip_while(|line| line_of(line).is_none());
+    let (place, first) = line_of(lines.next()?)?;
+    let more = lines.take_while(|line| line.starts_with("  ")).map(|line| line.trim().to_string()).collect();
+    Some(Said { place: place.to_string(), first: first.to_string(), more })
+}
+
+/// A file within the copy of the crate, without line and column, so that a proof can be moved; never a place of the machine.
+fn file<'a>(place: &'a str, label: &str) -> &'a str {
+    let path = place.trim_end_matches(|c: char| c.is_ascii_digit() || c == ':');
+    match path.split_once(&format!("/{label}/")) {
+        Some((_, within)) => within,
+        None => path.rsplit('/').next().unwrap_or(path),
+    }
+}
+
+/// The words of an error, with a file in place of each path of the machine.
+fn homely(text: &str, label: &str) -> String {
+    let word = |word: &str| {
+        let start = word.find(|c| !"`(".contains(c)).unwrap_or(0);
+        let (before, path) = word.split_at(start);
+        let is_path = path.starts_with('/') && path.matches('/').count() > 1;
+        format!("{before}{}", if is_path { file(path, label) } else { path })
+    };
+    text.split(' ').map(word).collect::<Vec<_>>().join(" ")
+}
+
+/// The words with their further lines; where a line begins a sentence of its own, a semicolon stands before it.
+fn joined(said: &Said) -> String {
+    let mut text = said.first.clone();
+    for line in &said.more {
+        let begins = ["computed as far", "as printed", "expected type"].iter().any(|start| line.starts_with(start));
+        text += if begins { "; " } else { " " };
+        text += line;
+    }
+    text
+}
+
+/// The part of an error that says most: what two types come to, the numbers at which a goal fails, what a rewriting left; and
+/// what the error goes on to say of the types.
+fn telling(text: &str) -> (&str, &str) {
+    let from = if let Some(at) = text.find("computed as far as they go") {
+        at
+    } else if let Some(at) = text.find("does not follow from what it read") {
+        text[..at].rfind("`omega`: the").unwrap_or(0)
+    } else if let Some(at) = text.find("` has no last argument") {
+        text[..at].rfind('`').unwrap_or(0)
+    } else {
+        0
+    };
+    let text = &text[from..];
+    // what `omega` counts up after that says how it went about it
+    let text = text.split(". It read ").next().unwrap_or(text);
+    text.find("; expected type ").map_or((text, ""), |at| text.split_at(at))
+}
+
+/// The characters at which a name in a term ends.
+fn ends_name(c: char) -> bool {
+    c.is_whitespace() || "()[]{},;".contains(c)
+}
+
+/// A term without what the prover itself left out of it, `…[168 bytes]…` with the pieces of names on both sides.
+fn elided(term: &str) -> String {
+    let mut text = term.to_string();
+    while let Some(at) = text.find("…[") {
+        let Some(end) = text[at..].find("]…").map(|end| at + end + "]…".len()) else { break };
+        let before = text[..at].trim_end_matches(|c| !ends_name(c)).len();
+        let after = text.len() - text[end..].trim_start_matches(|c| !ends_name(c)).len();
+        text.replace_range(before..after, "\u{2026}");
+    }
+    text
+}
+
+/// A term with the modules cut off its names: `Prim.Native.Nat.max` is `max`. A field, `.args`, stays.
+fn unqualified(term: &str) -> String {
+    let mut text = String::new();
+    for piece in term.split_inclusive(ends_name) {
+        let name = piece.trim_end_matches(ends_name);
+        let after = if name.starts_with('.') || name.ends_with('.') { None } else { name.rfind('.') };
+        text += &piece[after.map_or(0, |dot| dot + 1)..];
+    }
+    text
+}
+
+/// Cut at a word, where it is longer than that.
+fn cut(text: &str, length: usize) -> String {
+    if text.chars().count() <= length {
+        return text.to_string();
+    }
+    let kept: String = text.chars().take(length).collect();
+    let kept = kept.rfind(' ').map_or(kept.as_str(), |at| &kept[..at]).trim_end_matches([' ', '…', ',', ';']);
+    format!("{kept} …")
+}
+
+/// The text with each of its terms (what stands in backquotes) made readable. Where two terms would then look the same they
+/// stay as they are, since their modules are what tells them apart.
+fn readable(text: &str, longest: usize) -> String {
+    let terms: Vec<&str> = text.split('`').skip(1).step_by(2).collect();
+    let mut short: BTreeMap<String, Vec<&str>> = BTreeMap::new();
+    for term in &terms {
+        let sharing = short.entry(unqualified(&elided(term))).or_default();
+        if !sharing.contains(term) {
+            sharing.push(term);
+        }
+    }
+    let written = |term: &str| {
+        let brief = unqualified(&elided(term));
+        let is_own = short.get(&brief).is_some_and(|sharing| sharing.len() == 1);
+        cut(&if is_own { brief } else { elided(term).replace("Rattle·", "") }, longest)
+    };
+    let pieces = text.split('`').enumerate();
+    pieces.map(|(k, piece)| if k % 2 == 0 { piece.to_string() } else { format!("`{}`", written(piece)) }).collect()
+}
+
+/// The quote cut to its length, with no span left open.
+fn bounded(text: &str) -> String {
+    let text = cut(text, LENGTH);
+    if is_closed(&text) {
+        text
+    } else {
+        text + "`"
+    }
+}
+
+/// The name of the theorem, with which an error begins, and the rest.
+fn theorem(text: &str) -> (&str, &str) {
+    let end = text.strip_prefix('`').and_then(|rest| rest.find("`: ")).map_or(0, |at| at + "``: ".len());
+    text.split_at(end)
+}
+
+/// The first error of the log of an edit, or nothing where there is none.
+pub fn first_error(log: &str, label: &str) -> Option<String> {
+    let said = said_in(log, error_in).or_else(|| said_in(log, note_in))?;
+    let text = homely(&joined(&said), label);
+    let (name, rest) = theorem(&text);
+    let (part, types) = telling(rest);
+    let left_out = if rest.starts_with(part) { "" } else { "… " };
+    let head = format!("{}: {name}{left_out}", file(&said.place, label));
+    // the types themselves only where they are short enough to be read
+    let expected = types.find(" but this has type").map_or(types, |at| types[..at].trim_end_matches(','));
+    let whole = |types: &str| format!("{head}{}", readable(&format!("{part}{types}"), usize::MAX));
+    if let Some(whole) = [types, expected].map(whole).into_iter().find(|whole| whole.chars().count() <= LENGTH) {
+        return Some(whole);
+    }
+    Some(bounded(&format!("{head}{}", readable(part, TERM))))
+}

@@ -1,0 +1,106 @@
+//! What the pages speak of: the files of the repository and their words, the functions, the must-fail edits, the decisions.
+use crate::edits::Edit;
+use std::collections::{BTreeMap, BTreeSet};
+use std::fs;
+use std::path::{Path, PathBuf};
+
+/// A path starts in crates/, unless it starts with one of these.
+const FOLDERS: [&str; 5] = ["docs/", "examples/", "include/", "tests/", "tools/"];
+
+pub struct Repository {
+    pub root: PathBuf,
+    /// the functions of all src/*.rt
+    pub functions: BTreeSet<String>,
+    /// by their labels, `crate/name`
+    pub edits: BTreeMap<String, Edit>,
+    /// the numbers of the headings of docs/DECISIONS.md
+    pub decisions: BTreeSet<String>,
+}
+
+/// What stands in a folder, in order; nothing where there is no such folder.
+pub fn listed(folder: &Path) -> Vec<PathBuf> {
+    let mut paths: Vec<PathBuf> = fs::read_dir(folder).into_iter().flatten().flatten().map(|entry| entry.path()).collect();
+    paths.sort();
+    paths
+}
+
+pub fn name_of(path: &Path) -> String {
+    path.file_name().unwrap_or_default().to_string_lossy().into_owned()
+}
+
+/// The text of a file, where it is a file of Rattle without its comments and imports: a name that only they have is a stale
+/// one, or one of another file.
+fn code_of(path: &Path) -> Option<String> {
+    let text = fs::read_to_string(path).ok()?;
+    let comment = match path.extension()?.to_str()? {
+        "antt" => "--",
+        "rt" => "//",
+        _ => return Some(text),
+    };
+    let is_import = |line: &&str| ["use ", "ghost use ", "open "].iter().any(|word| line.trim_start().starts_with(word));
+    let lines = text.lines().map(|line| line.split(comment).next().unwrap_or(line)).filter(|line| !is_import(line));
+    Some(lines.collect::<Vec<_>>().join("\n"))
+}
+
+/// Whether a character can be part of a name; `-` and primes can, in a definition's.
+fn in_name(c: char) -> bool {
+    c.is_alphanumeric() || "_-'′·".contains(c)
+}
+
+/// Whether the name stands in the text, and not as a part of a longer one.
+fn has_word(text: &str, name: &str) -> bool {
+    text.match_indices(name).any(|(at, _)| {
+        let (before, after) = (text[..at].chars().next_back(), text[at + name.len()..].chars().next());
+        !before.is_some_and(in_name) && !after.is_some_and(in_name)
+    })
+}
+
+/// The functions that a file of code has.
+fn functions_of(path: &Path) -> Vec<String> {
+    let code = code_of(path).unwrap_or_default();
+    let name = |after: &str| after.chars().take_while(|c| c.is_alphanumeric() || *c == '_').collect();
+    code.split_whitespace().zip(code.split_whitespace().skip(1)).filter(|pair| pair.0 == "fn").map(|pair| name(pair.1)).collect()
+}
+
+impl Repository {
+    pub fn read(root: &Path) -> Repository {
+        let (mut functions, mut edits) = (BTreeSet::new(), BTreeMap::new());
+        for member in listed(&root.join("crates")) {
+            for file in listed(&member.join("src")) {
+                functions.extend(functions_of(&file));
+            }
+            for file in listed(&member.join("must-fail")) {
+                if let Some(label) = name_of(&file).strip_suffix(".edit") {
+                    edits.insert(format!("{}/{label}", name_of(&member)), Edit::read(&file));
+                }
+            }
+        }
+        let decisions = fs::read_to_string(root.join("docs/DECISIONS.md")).unwrap_or_default();
+        let number = |line: &str| Some(line.strip_prefix("### ")?.split_once(". ")?.0.to_string());
+        let decisions = decisions.lines().filter_map(number).collect();
+        Repository { root: root.to_path_buf(), functions, edits, decisions }
+    }
+
+    /// The place that a path of a page names.
+    fn place(&self, path: &str) -> PathBuf {
+        if FOLDERS.iter().any(|folder| path.starts_with(folder)) {
+            self.root.join(path)
+        } else {
+            self.root.join("crates").join(path)
+        }
+    }
+
+    pub fn has(&self, path: &str) -> bool {
+        self.place(path).exists()
+    }
+
+    pub fn has_file(&self, path: &str) -> bool {
+        self.place(path).is_file()
+    }
+
+    /// Whether a name stands in a file; of `A::b` each part does.
+    pub fn names(&self, path: &str, name: &str) -> bool {
+        let code = code_of(&self.place(path)).unwrap_or_default();
+        name.split("::").all(|part| has_word(&code, part))
+    }
+}

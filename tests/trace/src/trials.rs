@@ -1,0 +1,35 @@
+//! Damaged pages, each of which must be noticed: a test that could not fail would say nothing.
+use crate::names::CASES;
+
+/// A way to damage a page, and what it stands for.
+pub struct Trial {
+    pub what: &'static str,
+    pub damage: fn(&str) -> String,
+}
+
+pub const TRIALS: [Trial; 10] = [
+    Trial { what: "a path that is not there", damage: |page| added(page, "`base/specs/Stale.antt`") },
+    Trial { what: "a name that its file does not have", damage: |page| added(page, &format!("`{CASES}` `stale`")) },
+    Trial { what: "a name that no file of its row has", damage: |page| added(page, "`stale-case`") },
+    Trial { what: "a proof of no function", damage: |page| added(page, "proof of `stale`") },
+    Trial { what: "a label of no edit", damage: |page| added(page, "`base/stale`") },
+    Trial { what: "a decision that was not taken", damage: |page| added(page, "as D9999 says") },
+    Trial { what: "a row that there is not", damage: |page| added(page, "as P9999") },
+    Trial { what: "a link that leads nowhere", damage: |page| added(page, "[here](stale.md)") },
+    Trial { what: "a row that stands twice", damage: |page| format!("{page}\n### {}", last_row(page)) },
+    Trial { what: "a row that is gone", damage: without_last },
+];
+
+/// The page with more in the last line of its last row.
+fn added(page: &str, text: &str) -> String {
+    format!("{}; {text}\n", page.trim_end())
+}
+
+/// The last row, from its number on.
+fn last_row(page: &str) -> &str {
+    page.rsplit("\n### ").next().unwrap_or(page)
+}
+
+fn without_last(page: &str) -> String {
+    page.rsplit_once("\n### ").map_or(page, |(rest, _)| rest).to_string()
+}
