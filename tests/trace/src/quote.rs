@@ -13,9 +13,10 @@ struct Said {
     more: Vec<String>,
 }
 
-/// `FILE:LINE:COLUMN: error: WORDS`, or the same with `note: ` before it.
+/// `FILE:LINE:COLUMN: error: WORDS`, or the same with `note: ` before it. That something else was not admitted says nothing of
+/// its own.
 fn error_in(line: &str) -> Option<(&str, &str)> {
-    line.split_once(": error: ").filter(|(place, _)| !place.contains(' '))
+    line.split_once(": error: ").filter(|(place, words)| !place.contains(' ') && !words.contains("was not admitted"))
 }
 
 fn note_in(line: &str) -> Option<(&str, &str)> {
