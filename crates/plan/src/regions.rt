@@ -1,4 +1,4 @@
-// Where each region of a plan starts. What its entries mean is said in specs/Plan.antt.
+// Where each region of a plan starts. What its entries mean is said in specs/inner/Plan.antt.
 
 // By class: the permissions on which there is a constraint, and process transition.
 pub const SPECIAL: usize = 0;

@@ -29,13 +29,7 @@ fn target(r: Record) -> u32
 fn has_way(r: Record, f: Fact) -> bool
     ensures { λ t. ⌜ t ≡ statesOf f 3 r ⌝ }
 {
-    if r.a != f.a {
-        return false;
-    }
-    if r.b == f.b {
-        return true;
-    }
-    r.b == 3
+    (r.a == f.a) & ((r.b == f.b) | (r.b == 3))
 }
 
 // Whether an allow record is of the fact's source, target and class.
@@ -55,10 +49,7 @@ fn allows(r: Record, f: Fact) -> bool
 fn has_pair(r: Record, f: Fact) -> bool
     ensures { λ t. ⌜ t ≡ statesOf f 5 r ⌝ }
 {
-    if r.a != f.a {
-        return false;
-    }
-    r.b == f.b
+    (r.a == f.a) & (r.b == f.b)
 }
 
 // Whether a record states the fact, its mask aside.
