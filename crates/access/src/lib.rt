@@ -33,25 +33,7 @@ pub struct Clauses {
 pub fn decide(k: Clauses) -> bool
     ensures { λ r. ⌜ r ≡ allHold k ⌝ }
 {
-    if !k.alpha {
-        return false;
-    }
-    if !k.rho1 {
-        return false;
-    }
-    if !k.rho2 {
-        return false;
-    }
-    if !k.mu1 {
-        return false;
-    }
-    if !k.mu2 {
-        return false;
-    }
-    if !k.chi {
-        return false;
-    }
-    k.rule
+    k.alpha & (k.rho1 & (k.rho2 & (k.mu1 & (k.mu2 & (k.chi & k.rule)))))
 }
 
 // Whether the event is in Γ and every constraint on it is true.

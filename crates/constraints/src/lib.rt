@@ -2,6 +2,19 @@
 use base::bits::has_bit;
 use context::Context;
 use context::Event;
+use policy_image::kinds::AND;
+use policy_image::kinds::CONSTRAINTS;
+use policy_image::kinds::NOT;
+use policy_image::kinds::OR;
+use policy_image::kinds::ROLE_1;
+use policy_image::kinds::ROLE_2;
+use policy_image::kinds::SAME_ROLE;
+use policy_image::kinds::SAME_TYPE;
+use policy_image::kinds::SAME_USER;
+use policy_image::kinds::TYPE_1;
+use policy_image::kinds::TYPE_2;
+use policy_image::kinds::USER_1;
+use policy_image::kinds::USER_2;
 use policy_image::records::Record;
 use policy_image::records::head_at;
 use policy_image::records::record_at;
@@ -28,30 +41,30 @@ pub fn eval(image: &[u8], node: usize, x: Context, y: Context) -> bool
     let left = (r.mask % 65536) as usize;
     let right = (r.mask / 65536) as usize;
     match op {
-        1 => !eval(image, left, x, y),
-        2 => {
+        NOT => !eval(image, left, x, y),
+        AND => {
             if eval(image, left, x, y) {
                 eval(image, right, x, y)
             } else {
                 false
             }
         }
-        3 => {
+        OR => {
             if eval(image, left, x, y) {
                 true
             } else {
                 eval(image, right, x, y)
             }
         }
-        4 => x.ty == y.ty,
-        5 => x.role == y.role,
-        6 => x.user == y.user,
-        7 => x.ty == b,
-        8 => y.ty == b,
-        9 => x.role == b,
-        10 => y.role == b,
-        11 => x.user == b,
-        12 => y.user == b,
+        SAME_TYPE => x.ty == y.ty,
+        SAME_ROLE => x.role == y.role,
+        SAME_USER => x.user == y.user,
+        TYPE_1 => x.ty == b,
+        TYPE_2 => y.ty == b,
+        ROLE_1 => x.role == b,
+        ROLE_2 => y.role == b,
+        USER_1 => x.user == b,
+        USER_2 => y.user == b,
         _ => false,
     }
 }
@@ -76,7 +89,7 @@ pub fn constraints_hold(image: &[u8], e: Event, x: Context, y: Context) -> bool
     requires { ⌜ Sound (now image) × (e .perm < 32) ⌝ }
     ensures { λ r. ⌜ r ≡ constraintsHold (policyOf (now (image .entry))) e x y ⌝ }
 {
-    let mut i = head_at(image, 8);
+    let mut i = head_at(image, CONSTRAINTS);
     while i != 0 {
         let r = record_at(image, i);
         if !constraint_holds(image, r, e, x, y) {

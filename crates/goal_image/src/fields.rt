@@ -19,23 +19,14 @@ ghost use Rattle.goal_image.specs.inner.Reading.{RecordFits};
 pub fn is_context_chain(h: usize) -> bool
     ensures { λ r. ⌜ r ≡ isContextChain h ⌝ }
 {
-    if h < 7 {
-        return true;
-    }
-    h == 13
+    (h < 7) | (h == 13)
 }
 
 // Whether h is the number of a γ chain: γ0 to γ5, γe.
 pub fn is_event_chain(h: usize) -> bool
     ensures { λ r. ⌜ r ≡ isEventChain h ⌝ }
 {
-    if h < 7 {
-        return false;
-    }
-    if h < 13 {
-        return true;
-    }
-    h == 14
+    ((7 <= h) & (h < 13)) | (h == 14)
 }
 
 // Whether a record of a σ chain has its fields at most their counts, and its spare bytes 0.

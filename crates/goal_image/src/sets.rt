@@ -23,10 +23,7 @@ ghost use Rattle.goal_image.specs.inner.Sound.{SoundGoal};
 fn fits_field(field: u32, value: u32) -> bool
     ensures { λ r. ⌜ r ≡ fits field value ⌝ }
 {
-    if field == 0 {
-        return true;
-    }
-    field == value
+    (field == 0) | (field == value)
 }
 
 // Whether the record of a σ chain matches the context.

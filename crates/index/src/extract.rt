@@ -1,5 +1,6 @@
 // The allow records of a policy image, as rules in four lists.
 use base::bits::has_bit;
+use policy_image::kinds::ALLOWS;
 use policy_image::records::Record;
 use policy_image::records::head_at;
 use policy_image::records::record_at;
@@ -34,7 +35,7 @@ pub fn extract(
     ensures { λ n. ⌜ Extracted (policyOf (now (image .entry))) (now (src .exit)) (now (dst .exit)) (now (class .exit)) (now (mask .exit)) n ⌝ }
 {
     let mut n: usize = 0;
-    let mut i = head_at(image, 4);
+    let mut i = head_at(image, ALLOWS);
     while i != 0 {
         let r = record_at(image, i);
         let a = r.a as usize;

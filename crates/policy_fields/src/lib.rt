@@ -1,6 +1,26 @@
 // Question 5: the range of each field of a record, by its kind.
 use base::ranges::within;
 use policy_image::counts::Counts;
+use policy_image::kinds::ALLOW;
+use policy_image::kinds::AND;
+use policy_image::kinds::CONSTRAINT;
+use policy_image::kinds::DOMAIN;
+use policy_image::kinds::FLOW;
+use policy_image::kinds::NODE;
+use policy_image::kinds::NOT;
+use policy_image::kinds::OR;
+use policy_image::kinds::PERMISSIONS;
+use policy_image::kinds::ROLE_1;
+use policy_image::kinds::ROLE_2;
+use policy_image::kinds::ROLE_CHANGE;
+use policy_image::kinds::ROLE_TYPE;
+use policy_image::kinds::SAME_TYPE;
+use policy_image::kinds::SAME_USER;
+use policy_image::kinds::TYPE_1;
+use policy_image::kinds::TYPE_2;
+use policy_image::kinds::USER_1;
+use policy_image::kinds::USER_2;
+use policy_image::kinds::USER_ROLE;
 use policy_image::records::Record;
 use policy_image::records::record_at;
 ghost use mathlib.Core.Path.{_≡_};
@@ -45,12 +65,12 @@ fn node_limits(n: Counts, op: u32) -> Limits
     ensures { λ r. ⌜ r ≡ getD (nodeLimits n) op none ⌝ }
 {
     match op {
-        1 => plain(12, 0, 0, 65535),
-        2..=3 => plain(12, 0, 0, 4294967295),
-        4..=6 => plain(12, 0, 0, 0),
-        7..=8 => plain(12, 1, n.types, 0),
-        9..=10 => plain(12, 1, n.roles, 0),
-        11..=12 => plain(12, 1, n.users, 0),
+        NOT => plain(12, 0, 0, 65535),
+        AND..=OR => plain(12, 0, 0, 4294967295),
+        SAME_TYPE..=SAME_USER => plain(12, 0, 0, 0),
+        TYPE_1..=TYPE_2 => plain(12, 1, n.types, 0),
+        ROLE_1..=ROLE_2 => plain(12, 1, n.roles, 0),
+        USER_1..=USER_2 => plain(12, 1, n.users, 0),
         _ => plain(0, 0, 0, 0),
     }
 }
@@ -84,15 +104,15 @@ fn kind_limits(n: Counts, kind: u32, op: u32) -> Limits
     ensures { λ r. ⌜ r ≡ limitsOf n kind op ⌝ }
 {
     match kind {
-        1 => plain(n.types, 0, 0, 0),
-        2 => plain(n.classes, 0, 0, 4294967295),
-        3 => plain(n.classes, 1, 3, 4294967295),
-        4 => allow_limits(n),
-        5 => plain(n.roles, 1, n.types, 0),
-        6 => plain(n.users, 1, n.roles, 0),
-        7 => plain(n.roles, 1, n.roles, 0),
-        8 => constraint_limits(n),
-        9 => node_limits(n, op),
+        DOMAIN => plain(n.types, 0, 0, 0),
+        PERMISSIONS => plain(n.classes, 0, 0, 4294967295),
+        FLOW => plain(n.classes, 1, 3, 4294967295),
+        ALLOW => allow_limits(n),
+        ROLE_TYPE => plain(n.roles, 1, n.types, 0),
+        USER_ROLE => plain(n.users, 1, n.roles, 0),
+        ROLE_CHANGE => plain(n.roles, 1, n.roles, 0),
+        CONSTRAINT => constraint_limits(n),
+        NODE => node_limits(n, op),
         _ => plain(0, 0, 0, 0),
     }
 }

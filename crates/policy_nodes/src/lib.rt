@@ -1,5 +1,10 @@
 // Question 6: the nodes that constraints and expression nodes use.
 use policy_image::counts::Counts;
+use policy_image::kinds::AND;
+use policy_image::kinds::CONSTRAINT;
+use policy_image::kinds::NODE;
+use policy_image::kinds::NOT;
+use policy_image::kinds::OR;
 use policy_image::records::Record;
 use policy_image::records::record_at;
 ghost use mathlib.Core.Path.{_≡_};
@@ -23,9 +28,9 @@ fn first_use(r: Record) -> Use
     let kind = r.kind;
     let op = r.a;
     match kind {
-        8 => Use::Node((r.d + 256 * r.e) as usize),
-        9 => match op {
-            1..=3 => Use::Node((r.mask % 65536) as usize),
+        CONSTRAINT => Use::Node((r.d + 256 * r.e) as usize),
+        NODE => match op {
+            NOT..=OR => Use::Node((r.mask % 65536) as usize),
             _ => Use::Nothing,
         },
         _ => Use::Nothing,
@@ -39,8 +44,8 @@ fn second_use(r: Record) -> Use
     let kind = r.kind;
     let op = r.a;
     match kind {
-        9 => match op {
-            2..=3 => Use::Node((r.mask / 65536) as usize),
+        NODE => match op {
+            AND..=OR => Use::Node((r.mask / 65536) as usize),
             _ => Use::Nothing,
         },
         _ => Use::Nothing,
@@ -69,10 +74,10 @@ fn used_well(image: &[u8], counts: Counts, i: usize, kind: u32, m: usize) -> boo
     if counts.records < m {
         return false;
     }
-    if record_at(image, m).kind != 9 {
+    if record_at(image, m).kind != NODE {
         return false;
     }
-    if kind == 9 {
+    if kind == NODE {
         if i <= m {
             return false;
         }

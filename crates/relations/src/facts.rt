@@ -1,4 +1,11 @@
 // Loops over the records of one kind: whether some record states a fact, and the union of the masks of those that do.
+use policy_image::kinds::ALLOW;
+use policy_image::kinds::BOTH;
+use policy_image::kinds::DOMAIN;
+use policy_image::kinds::FLOW;
+use policy_image::kinds::PERMISSIONS;
+use policy_image::kinds::ROLE_CHANGE;
+use policy_image::kinds::ROLE_TYPE;
 use policy_image::records::Record;
 use policy_image::records::head_at;
 use policy_image::records::record_at;
@@ -29,13 +36,7 @@ fn target(r: Record) -> u32
 fn has_way(r: Record, f: Fact) -> bool
     ensures { λ t. ⌜ t ≡ statesOf f 3 r ⌝ }
 {
-    if r.a != f.a {
-        return false;
-    }
-    if r.b == f.b {
-        return true;
-    }
-    r.b == 3
+    (r.a == f.a) & ((r.b == f.b) | (r.b == BOTH))
 }
 
 // Whether an allow record is of the fact's source, target and class.
@@ -55,10 +56,7 @@ fn allows(r: Record, f: Fact) -> bool
 fn has_pair(r: Record, f: Fact) -> bool
     ensures { λ t. ⌜ t ≡ statesOf f 5 r ⌝ }
 {
-    if r.a != f.a {
-        return false;
-    }
-    r.b == f.b
+    (r.a == f.a) & (r.b == f.b)
 }
 
 // Whether a record states the fact, its mask aside.
@@ -67,10 +65,10 @@ fn is_stated(r: Record, f: Fact) -> bool
 {
     let kind = f.kind;
     match kind {
-        1..=2 => r.a == f.a,
-        3 => has_way(r, f),
-        4 => allows(r, f),
-        5..=7 => has_pair(r, f),
+        DOMAIN..=PERMISSIONS => r.a == f.a,
+        FLOW => has_way(r, f),
+        ALLOW => allows(r, f),
+        ROLE_TYPE..=ROLE_CHANGE => has_pair(r, f),
         _ => false,
     }
 }

@@ -4,6 +4,13 @@ use crate::facts::is_given;
 use crate::facts::united;
 use base::bits::has_bit;
 use context::Event;
+use policy_image::kinds::ALLOW;
+use policy_image::kinds::DOMAIN;
+use policy_image::kinds::FLOW;
+use policy_image::kinds::PERMISSIONS;
+use policy_image::kinds::ROLE_CHANGE;
+use policy_image::kinds::ROLE_TYPE;
+use policy_image::kinds::USER_ROLE;
 ghost use mathlib.Core.Path.{_≡_};
 ghost use Prim.Native.Nat.{_<_};
 ghost use Rattle.policy_image.specs.Policy.{policyOf};
@@ -19,7 +26,7 @@ pub fn is_domain(image: &[u8], t: u32) -> bool
     is_given(
         image,
         Fact {
-            kind: 1,
+            kind: DOMAIN,
             a: t,
             b: 0,
             c: 0,
@@ -35,7 +42,7 @@ pub fn gamma(image: &[u8], e: Event) -> bool
     let mask = united(
         image,
         Fact {
-            kind: 2,
+            kind: PERMISSIONS,
             a: e.class,
             b: 0,
             c: 0,
@@ -52,7 +59,7 @@ pub fn flows_as(image: &[u8], way: u32, e: Event) -> bool
     let mask = united(
         image,
         Fact {
-            kind: 3,
+            kind: FLOW,
             a: e.class,
             b: way,
             c: 0,
@@ -69,7 +76,7 @@ pub fn allow_mask(image: &[u8], source: u32, target: u32, class: u32) -> u32
     united(
         image,
         Fact {
-            kind: 4,
+            kind: ALLOW,
             a: source,
             b: target,
             c: class,
@@ -95,7 +102,7 @@ pub fn rho(image: &[u8], role: u32, t: u32) -> bool
     ensures { λ r. ⌜ r ≡ ρ (policyOf (now (image .entry))) role t ⌝ }
 {
     let f = Fact {
-        kind: 5,
+        kind: ROLE_TYPE,
         a: role,
         b: t,
         c: 0,
@@ -114,7 +121,7 @@ pub fn mu(image: &[u8], user: u32, role: u32) -> bool
     ensures { λ r. ⌜ r ≡ μ (policyOf (now (image .entry))) user role ⌝ }
 {
     let f = Fact {
-        kind: 6,
+        kind: USER_ROLE,
         a: user,
         b: role,
         c: 0,
@@ -133,7 +140,7 @@ pub fn role_change(image: &[u8], r1: u32, r2: u32) -> bool
     is_given(
         image,
         Fact {
-            kind: 7,
+            kind: ROLE_CHANGE,
             a: r1,
             b: r2,
             c: 0,

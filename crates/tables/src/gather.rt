@@ -1,4 +1,12 @@
 // One pass over the records of a kind, each of which adds bits to an entry of a table. Every table is made by it.
+use policy_image::kinds::BOTH;
+use policy_image::kinds::CONSTRAINT;
+use policy_image::kinds::DOMAIN;
+use policy_image::kinds::FLOW;
+use policy_image::kinds::PERMISSIONS;
+use policy_image::kinds::ROLE_CHANGE;
+use policy_image::kinds::ROLE_TYPE;
+use policy_image::kinds::USER_ROLE;
 use policy_image::records::Record;
 use policy_image::records::head_at;
 use policy_image::records::record_at;
@@ -15,7 +23,7 @@ ghost use Rattle.tables.specs.inner.Gather.{entryOf, addsOf, Shifts, Roo
 fn entry(r: Record, kind: u32) -> usize
     ensures { λ t. ⌜ t ≡ entryOf kind r ⌝ }
 {
-    if kind == 5 {
+    if kind == ROLE_TYPE {
         r.b as usize
     } else {
         r.a as usize
@@ -29,7 +37,7 @@ fn flow_mask(r: Record, way: u32) -> u32
     if r.b == way {
         return r.mask;
     }
-    if r.b == 3 {
+    if r.b == BOTH {
         return r.mask;
     }
     0
@@ -41,12 +49,12 @@ fn adds(r: Record, kind: u32, way: u32) -> u32
     ensures { λ m. ⌜ m ≡ addsOf way kind r ⌝ }
 {
     match kind {
-        1 => 1,
-        2 => r.mask,
-        3 => flow_mask(r, way),
-        5 => 1 << r.a,
-        6..=7 => 1 << r.b,
-        8 => r.mask,
+        DOMAIN => 1,
+        PERMISSIONS => r.mask,
+        FLOW => flow_mask(r, way),
+        ROLE_TYPE => 1 << r.a,
+        USER_ROLE..=ROLE_CHANGE => 1 << r.b,
+        CONSTRAINT => r.mask,
         _ => 0,
     }
 }

@@ -1,6 +1,7 @@
 // The permissions of a class that no constraint tells apart.
 use base::bits::has_bit;
 use base::bits::without;
+use policy_image::kinds::CONSTRAINTS;
 use policy_image::records::head_at;
 use policy_image::records::record_at;
 ghost use Prim.Native.Nat.{_+_, _*_, _≤_, _<_};
@@ -46,7 +47,7 @@ pub fn constraint_groups(image: &[u8]) -> [u32; EVENTS]
     ensures { λ r. ⌜ ConstraintGroups (policyOf (now (image .entry))) r ⌝ }
 {
     let mut groups = [ALL; EVENTS];
-    let mut i = head_at(image, 8);
+    let mut i = head_at(image, CONSTRAINTS);
     while i != 0 {
         let r = record_at(image, i);
         tell_apart(&mut groups, r.a, r.mask);

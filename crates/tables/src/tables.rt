@@ -1,6 +1,13 @@
 // The tables of a checked policy. An entry is a set of 32 numbers, one to a bit.
 use crate::gather::gather;
 use base::bits::has_bit;
+use policy_image::kinds::CONSTRAINT;
+use policy_image::kinds::DOMAIN;
+use policy_image::kinds::FLOW;
+use policy_image::kinds::PERMISSIONS;
+use policy_image::kinds::ROLE_CHANGE;
+use policy_image::kinds::ROLE_TYPE;
+use policy_image::kinds::USER_ROLE;
 ghost use mathlib.Core.Bool.{not, _&&_};
 ghost use mathlib.Core.Path.{_≡_};
 ghost use Prim.Native.Nat.{ℕ};
@@ -28,7 +35,7 @@ pub fn gamma_masks(image: &[u8]) -> [u32; CLASSES]
     ensures { λ r. ⌜ GammaMasks (policyOf (now (image .entry))) r ⌝ }
 {
     let mut masks = [0u32; CLASSES];
-    gather(image, 2, 0, &mut masks);
+    gather(image, PERMISSIONS, 0, &mut masks);
     masks
 }
 
@@ -38,7 +45,7 @@ pub fn flow_masks(image: &[u8], way: u32) -> [u32; CLASSES]
     ensures { λ r. ⌜ FlowMasks (policyOf (now (image .entry))) way r ⌝ }
 {
     let mut masks = [0u32; CLASSES];
-    gather(image, 3, way, &mut masks);
+    gather(image, FLOW, way, &mut masks);
     masks
 }
 
@@ -48,7 +55,7 @@ pub fn constraint_masks(image: &[u8]) -> [u32; CLASSES]
     ensures { λ r. ⌜ ConstraintMasks (policyOf (now (image .entry))) r ⌝ }
 {
     let mut masks = [0u32; CLASSES];
-    gather(image, 8, 0, &mut masks);
+    gather(image, CONSTRAINT, 0, &mut masks);
     masks
 }
 
@@ -58,7 +65,7 @@ pub fn domain_table(image: &[u8]) -> [u32; TYPES]
     ensures { λ r. ⌜ DomainTable (policyOf (now (image .entry))) r ⌝ }
 {
     let mut domains = [0u32; TYPES];
-    gather(image, 1, 0, &mut domains);
+    gather(image, DOMAIN, 0, &mut domains);
     domains
 }
 
@@ -88,7 +95,7 @@ pub fn role_table(image: &[u8], domains: &[u32; TYPES]) -> [u32; TYPES]
     ensures { λ r. ⌜ RoleTable (policyOf (now (image .entry))) r ⌝ }
 {
     let mut roles = object_roles(domains);
-    gather(image, 5, 0, &mut roles);
+    gather(image, ROLE_TYPE, 0, &mut roles);
     roles
 }
 
@@ -98,7 +105,7 @@ pub fn user_table(image: &[u8]) -> [u32; USERS]
     ensures { λ r. ⌜ UserTable (policyOf (now (image .entry))) r ⌝ }
 {
     let mut roles = [OBJECT_ROLE; USERS];
-    gather(image, 6, 0, &mut roles);
+    gather(image, USER_ROLE, 0, &mut roles);
     roles
 }
 
@@ -108,6 +115,6 @@ pub fn role_changes(image: &[u8]) -> [u32; ROLES]
     ensures { λ r. ⌜ RoleChanges (policyOf (now (image .entry))) r ⌝ }
 {
     let mut changes = [0u32; ROLES];
-    gather(image, 7, 0, &mut changes);
+    gather(image, ROLE_CHANGE, 0, &mut changes);
     changes
 }
