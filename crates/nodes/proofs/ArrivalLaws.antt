@@ -3,7 +3,7 @@ use mathlib.Core.Path.{_≡_, refl, sym, _∙_, ap, subst}
 use mathlib.Core.Bool.{Bool, true, false, not}
 use mathlib.Core.List.{List}
 use mathlib.Core.Logic.{⊎-elim}
-use Prim.Native.Nat.{ℕ, suc, _+_, _*_, _^_, _≤_, _<_}
+use Prim.Native.Nat.{ℕ, suc, _+_, _*_, _%_, _^_, _≤_, _<_}
 use native.Mathlib.Nat.{mul-le-mul-right}
 use native.Mathlib.Omega.{arith}
 use borrow.Author.Tests.{lt-ltb, le-leb, not-true, not-false}
@@ -140,11 +140,11 @@ arriving {g} {n} {l} {m} {state} {by} {into} {y} r G h S st a =
     }
 
 -- ---- the first step
-module _ {p : Policy} {g : Goal} {x : Context} {into : ℕ} (S : ContextSets g x into) where
+module _ {g : Goal} {x : Context} {into : ℕ} (S : ContextSets g x into) where
   excepted : bit into 13 ≡ contextIn g σeChain x
   excepted = S .at 13
 
-  pub asks-not : {b : Bool} → b ≡ bit into 13 → b ≡ true → Asks p g x false
+  pub asks-not : {p : Policy} {b : Bool} → b ≡ bit into 13 → b ≡ true → Asks p g x false
   asks-not q t =
       record {
         free = λ k. absurd (clash k refl);
@@ -152,7 +152,7 @@ module _ {p : Policy} {g : Goal} {x : Context} {into : ℕ} (S : ContextSets g x
         never = λ _ f _. clash (sym excepted ∙ sym q ∙ t) f;
       }
 
-  pub asks-if : {b c : Bool} → b ≡ bit into 13 → b ≡ false → c ≡ meetsρμ p x → Asks p g x c
+  pub asks-if : {p : Policy} {b c : Bool} → b ≡ bit into 13 → b ≡ false → c ≡ meetsρμ p x → Asks p g x c
   asks-if q t r =
       record {
         free = λ _. sym excepted ∙ sym q ∙ t;

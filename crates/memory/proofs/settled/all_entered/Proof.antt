@@ -10,16 +10,16 @@ use Rattle.memory.proofs.settled.all_entered.Statement.{statement}
 use Rattle.memory.proofs.settled.all_entered.Tie as tie
 
 abbrev Inv-loop : tie.InvT-loop
-Inv-loop policy goal counts plan legs mode state by back start end y₀ y = (start ≤ y) × Settled policy goal counts mode back state by start y
+Inv-loop policy goal counts plan legs mode state by back ty start end y₀ y = (start ≤ y) × Settled policy goal counts mode back state by start y × Task policy goal counts legs × Planned policy goal counts plan × OfEvent goal by × (graphOf policy goal counts mode .k ≤ length back) × Within 1 (counts .types) ty × (start ≡ startOf counts ty) × (end ≡ startOf counts (ty + 1))
 
 abbrev μ-loop : tie.MeasureT-loop
-μ-loop policy goal counts plan legs mode state by back start end y₀ y = end - y
+μ-loop policy goal counts plan legs mode state by back ty start end y₀ y = end - y
 
 loop-holds : tie.Need-loop-holds Inv-loop μ-loop
 loop-holds c = (omega arith, settled-begin _)
 
 is-entered-requires : tie.Need-is-entered-requires Inv-loop μ-loop
-is-entered-requires c κs = search needs
+is-entered-requires c κs = let v = c .before .loop .inv in (v .2, v .3, v .4, v .5, record { type = v .6; low = omega (arith, v .0, v .7); high = omega (arith, v .8, c .loop-test .taken) })
 
 returns : tie.Need-returns Inv-loop μ-loop
 returns c = λ t. absurd (clash t refl)
