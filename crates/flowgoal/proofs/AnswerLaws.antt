@@ -83,14 +83,6 @@ module _ {s g : List ℕ} {n : Counts} {l : Legs} {work1 work2 : ℕ} (P : Passe
   pub passed-task : Task s g n l
   passed-task = task-of policy-sound (P .counts) sound-goal (P .legs)
 
-  -- a plan has room for what is said of each context
-  pub plan-room : 34560 + contextCount n ≤ 91935
-  plan-room =
-      let r = subst CountsInRange (sym (P .counts)) (policy-sound .range) in
-      let h : contextCount n ≤ 57375
-      = mul-le-mul {n₂ = 3825} {m₂ = 15} (mul-le-mul {n₂ = 255} {m₂ = 15} (r .types .high) (r .roles .high)) (r .users .high) in
-      omega arith
-
   pub some-leg : 0 < legsOf g
   some-leg = sound-goal .legs .legs .low
 

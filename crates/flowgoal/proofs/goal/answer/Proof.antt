@@ -1,5 +1,5 @@
 use native.Mathlib.Omega.{arith}
-use Rattle.flowgoal.proofs.AnswerLaws.{passed-task, plan-room}
+use Rattle.flowgoal.proofs.AnswerLaws.{passed-task}
 use borrow.Author.Needs.{needs}
 use Rattle.flowgoal.proofs.goal.answer.Statement.{statement}
 use Rattle.flowgoal.proofs.goal.answer.Tie as tie
