@@ -2,7 +2,6 @@
 use Prim.Native.Nat.{ℕ, suc, _+_, _*_, _^_, _≤_, _<_}
 use mathlib.Core.List.{List, [], _∷_, _++_}
 use mathlib.Core.Path.{_≡_, sym, ap, subst, _∙_}
-use native.Mathlib.Nat.{mul-le-mul}
 use native.Mathlib.Omega.{arith}
 use native.Mathlib.Decide.{decLt}
 use lib.ListN.{length}
@@ -10,7 +9,6 @@ use Rattle.base.specs.Questions.{Question, ask, AllYes}
 use Rattle.base.proofs.QuestionLaws.{passed-first, passed-then}
 use Rattle.policy_image.specs.declared.counts.Counts.{Counts}
 use Rattle.policy_image.specs.Layout.{countsOf}
-use Rattle.policy_image.specs.Counts.{CountsInRange}
 use Rattle.policy_check.specs.Questions.{policyQuestions}
 use Rattle.policy_check.specs.inner.Sound.{Sound}
 use Rattle.policy_check.proofs.AnswerLaws.{sound}
