@@ -2,7 +2,6 @@
 use Prim.Native.Nat.{ℕ, suc, _+_, _*_, _^_, _≤_, _<_}
 use mathlib.Core.List.{List, [], _∷_, _++_}
 use mathlib.Core.Path.{_≡_, sym, ap, subst, _∙_}
-use native.Mathlib.Nat.{mul-le-mul}
 use native.Mathlib.Omega.{arith}
 use native.Mathlib.Decide.{decLt}
 use lib.ListN.{length}
@@ -10,7 +9,6 @@ use Rattle.base.specs.Questions.{Question, ask, AllYes}
 use Rattle.base.proofs.QuestionLaws.{passed-first, passed-then}
 use Rattle.policy_image.specs.declared.counts.Counts.{Counts}
 use Rattle.policy_image.specs.Layout.{countsOf}
-use Rattle.policy_image.specs.Counts.{CountsInRange}
 use Rattle.policy_check.specs.Questions.{policyQuestions}
 use Rattle.policy_check.specs.inner.Sound.{Sound}
 use Rattle.policy_check.proofs.AnswerLaws.{sound}
@@ -82,14 +80,6 @@ module _ {s g : List ℕ} {n : Counts} {l : Legs} {work1 work2 : ℕ} (P : Passe
 
   pub passed-task : Task s g n l
   passed-task = task-of policy-sound (P .counts) sound-goal (P .legs)
-
-  -- a plan has room for what is said of each context
-  pub plan-room : 34560 + contextCount n ≤ 91935
-  plan-room =
-      let r = subst CountsInRange (sym (P .counts)) (policy-sound .range) in
-      let h : contextCount n ≤ 57375
-      = mul-le-mul {n₂ = 3825} {m₂ = 15} (mul-le-mul {n₂ = 255} {m₂ = 15} (r .types .high) (r .roles .high)) (r .users .high) in
-      omega arith
 
   pub some-leg : 0 < legsOf g
   some-leg = sound-goal .legs .legs .low

@@ -27,7 +27,7 @@ fn fits_field(field: u32, value: u32) -> bool
 }
 
 // Whether the record of a σ chain matches the context.
-fn matches_context(r: ContextRecord, x: Context) -> bool
+pub fn matches_context(r: ContextRecord, x: Context) -> bool
     ensures { λ t. ⌜ t ≡ matchesContext r x ⌝ }
 {
     if !fits_field(r.ty, x.ty) {

@@ -37,12 +37,13 @@ use Rattle.nodes.specs.inner.Graph.{Graph, FoundAt}
 use Rattle.nodes.specs.inner.State.{Inv, Turn}
 use Rattle.nodes.specs.inner.Nodes.{watchOf, codeAt}
 use Rattle.nodes.specs.inner.Arrivals.{Lands, LandsOpen, LandsGood, LandsBad, Arriving}
-use Rattle.nodes.specs.inner.Blocks.{startOf, Asks, Ahead, FirstStep}
+use Rattle.plan.specs.inner.Types.{startOf, OfType}
+use Rattle.nodes.specs.inner.Blocks.{Asks, Ahead, FirstStep}
 use Rattle.memory.specs.inner.Memory.{Marks, OfEvent, Settled, Memory}
 use Rattle.nodes.specs.inner.Tasks.{Task, graphOf, Stands, Asked, Faced}
 use Rattle.nodes.proofs.SearchLaws.{enter, take-up, turn-chain, chain-bound, end-turn}
 use Rattle.nodes.proofs.ArrivalLaws.{later}
-use Rattle.nodes.proofs.TypeLaws.{type-is, start-le, start-next}
+use Rattle.plan.proofs.TypeLaws.{type-is, start-le, start-next}
 use Rattle.nodes.proofs.LevelLaws.{step-on, step-past, few-types, range-at, chain-open, edge-free, edge-flow, not-target, swept-to, dropped, enter-below, entered, seen, broken}
 use Rattle.memory.proofs.StandLaws.{Around}
 use Rattle.memory.proofs.MemoryLaws.{AskerOf, passed, edge-like, memory-swept, memory-spent}
@@ -227,6 +228,9 @@ module _ {s g : List ℕ} {n : Counts} {plan : List ℕ} {l : Legs} {m : Mode} {
     module _ (h : y < end) where
       pub inner-place : y < contextCount n
       inner-place = omega (arith, I .within)
+
+      pub inner-type : OfType n (o .at % 4096) y
+      inner-type = record { type = record { low = type-low (I .fixed) (I .ahead); high = type-high (I .fixed) (I .ahead) }; low = I .low; high = omega (arith, I .ends) }
 
       pub inner-fits : y + 1 < 2 ^ 32
       inner-fits = omega (arith, inner-place, I .fixed .fewer)

@@ -41,11 +41,12 @@ use Rattle.nodes.specs.inner.State.{Turn, Clear}
 use Rattle.nodes.specs.inner.Nodes.{Watch, watchOf, placeOf, stateOf, codeOf}
 use Rattle.nodes.specs.inner.Watching.{By}
 use Rattle.nodes.specs.inner.Tasks.{typeOf, Task, graphOf, Stands}
-use Rattle.nodes.specs.inner.Blocks.{startOf, Asks, Ahead}
+use Rattle.plan.specs.inner.Types.{startOf}
+use Rattle.nodes.specs.inner.Blocks.{Asks, Ahead}
 use Rattle.memory.specs.inner.Memory.{keepsOf, stateKey, Marks, Settled, Memory}
 use Rattle.nodes.proofs.SearchLaws.{clear-keep, turn-chain}
 use Rattle.nodes.proofs.ArrivalLaws.{by-of}
-use Rattle.nodes.proofs.TypeLaws.{type-lt, type-le}
+use Rattle.plan.proofs.TypeLaws.{type-lt, type-le}
 use Rattle.memory.proofs.KeyLaws.{kept, step-by-key}
 use Rattle.nodes.proofs.LevelLaws.{place-lt, place-le, whole, chain-open, edge-flow, edge-free, edge-freeE, edge-at, types-few, same-counts}
 

@@ -3,7 +3,7 @@ use goal_image::check::Legs;
 use nodes::arrival::Arrival;
 use nodes::arrival::arrive;
 use nodes::monitor::Mode;
-use nodes::places::first_place;
+use plan::places::first_place;
 use policy_image::counts::Counts;
 use steps::targets::is_held;
 ghost use mathlib.Core.Path.{_≡_};
@@ -12,13 +12,12 @@ ghost use mathlib.Core.Logic.{_⊎_};
 ghost use Prim.Native.Nat.{_+_, _≤_, _<_};
 ghost use lib.ListN.{length};
 ghost use Rattle.base.specs.Ranges.{Within};
-ghost use Rattle.context.specs.inner.Places.{contextCount};
 ghost use Rattle.plan.specs.inner.Plan.{Planned};
-ghost use Rattle.nodes.specs.inner.Blocks.{startOf};
+ghost use Rattle.plan.specs.inner.Types.{startOf, OfType};
 ghost use Rattle.nodes.specs.inner.Tasks.{Task, graphOf};
 ghost use Rattle.memory.specs.inner.Memory.{OfEvent, Settled};
 
-// Whether an arrival at the context at place y would be at a node that is entered, or at an end that breaks nothing. A context that
+// Whether an arrival at the context at place y, of the type, would be at a node that is entered, or at an end that breaks nothing. A context that
 // does not meet ρ and μ is never arrived at.
 fn is_entered(
     policy: &[u8],
@@ -30,15 +29,16 @@ fn is_entered(
     state: u32,
     by: u32,
     back: &[u32],
+    ty: u32,
     y: u32,
 ) -> bool
-    requires { ⌜ Task (now policy) (now goal) counts legs × Planned (now policy) (now goal) counts (now plan) × OfEvent (now goal) by × (graphOf (now policy) (now goal) counts mode .k ≤ length (now back)) × (y < contextCount counts) ⌝ }
+    requires { ⌜ Task (now policy) (now goal) counts legs × Planned (now policy) (now goal) counts (now plan) × OfEvent (now goal) by × (graphOf (now policy) (now goal) counts mode .k ≤ length (now back)) × OfType counts ty y ⌝ }
     ensures { λ r. ⌜ (r ≡ true → Settled (now (policy .entry)) (now (goal .entry)) counts mode (now (back .entry)) state by y (y + 1)) ⌝ }
 {
-    if !is_held(policy, counts, plan, y) {
+    if !is_held(policy, counts, plan, ty, y) {
         return true;
     }
-    match arrive(goal, counts, plan, legs, mode, state, by, y) {
+    match arrive(goal, counts, plan, legs, mode, state, by, ty, y) {
         Arrival::Enter(v) => {
             let at = v as usize;
             back[at] != 0
@@ -48,7 +48,7 @@ fn is_entered(
     }
 }
 
-// The same for the contexts at the places from start to below end.
+// The same for all contexts of the type, at the places from start to below end.
 fn all_entered(
     policy: &[u8],
     goal: &[u8],
@@ -59,15 +59,16 @@ fn all_entered(
     state: u32,
     by: u32,
     back: &[u32],
+    ty: u32,
     start: u32,
     end: u32,
 ) -> bool
-    requires { ⌜ Task (now policy) (now goal) counts legs × Planned (now policy) (now goal) counts (now plan) × OfEvent (now goal) by × (graphOf (now policy) (now goal) counts mode .k ≤ length (now back)) × (end ≤ contextCount counts) ⌝ }
+    requires { ⌜ Task (now policy) (now goal) counts legs × Planned (now policy) (now goal) counts (now plan) × OfEvent (now goal) by × (graphOf (now policy) (now goal) counts mode .k ≤ length (now back)) × Within 1 (counts .types) ty × (start ≡ startOf counts ty) × (end ≡ startOf counts (ty + 1)) ⌝ }
     ensures { λ r. ⌜ (r ≡ true → Settled (now (policy .entry)) (now (goal .entry)) counts mode (now (back .entry)) state by start end) ⌝ }
 {
     let mut y = start;
     while y < end {
-        if !is_entered(policy, goal, counts, plan, legs, mode, state, by, back, y) {
+        if !is_entered(policy, goal, counts, plan, legs, mode, state, by, back, ty, y) {
             return false;
         }
         y += 1;
@@ -107,6 +108,7 @@ pub fn is_settled(
         state,
         by,
         back,
+        ty,
         start,
         end,
     )

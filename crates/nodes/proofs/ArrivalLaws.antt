@@ -23,8 +23,7 @@ use Rattle.goal_image.specs.Sets.{contextIn, eventIn}
 use Rattle.goal_image.specs.inner.Memberships.{ContextSets, EventSets}
 use Rattle.paths.specs.Model.{Model}
 use Rattle.paths.proofs.StageLaws.{one-shl}
-use Rattle.goal_model.specs.Images.{model}
-use Rattle.plan.specs.inner.Plan.{contextsAt, Planned}
+use Rattle.goal_model.specs.Images.{meetsρμ, model}
 use Rattle.steps.specs.declared.nearest.Asker.{Asker}
 use Rattle.steps.specs.declared.nearest.Offer.{Offer}
 use Rattle.steps.specs.inner.Nearest.{Cursor}
@@ -141,24 +140,24 @@ arriving {g} {n} {l} {m} {state} {by} {into} {y} r G h S st a =
     }
 
 -- ---- the first step
-module _ {s g : List ℕ} {n : Counts} {plan : List ℕ} (P : Planned s g n plan) {y : ℕ} (h : y < contextCount n) where
-  excepted : bit (contextsAt plan y % 32768) 13 ≡ contextIn (goalOf g) σeChain (contextAtIndex n y)
-  excepted = P .goal .contexts y h .at 13
+module _ {g : Goal} {x : Context} {into : ℕ} (S : ContextSets g x into) where
+  excepted : bit into 13 ≡ contextIn g σeChain x
+  excepted = S .at 13
 
-  pub asks-not : {b : Bool} → b ≡ bit (contextsAt plan y % 32768) 13 → b ≡ true → Asks (policyOf s) (goalOf g) (contextAtIndex n y) false
-  asks-not p t =
+  pub asks-not : {p : Policy} {b : Bool} → b ≡ bit into 13 → b ≡ true → Asks p g x false
+  asks-not q t =
       record {
         free = λ k. absurd (clash k refl);
         meets = λ k. absurd (clash k refl);
-        never = λ _ f _. clash (sym excepted ∙ sym p ∙ t) f;
+        never = λ _ f _. clash (sym excepted ∙ sym q ∙ t) f;
       }
 
-  pub asks-if : {b c : Bool} → b ≡ bit (contextsAt plan y % 32768) 13 → b ≡ false → c ≡ bit (contextsAt plan y) 31 → Asks (policyOf s) (goalOf g) (contextAtIndex n y) c
-  asks-if p t q =
+  pub asks-if : {p : Policy} {b c : Bool} → b ≡ bit into 13 → b ≡ false → c ≡ meetsρμ p x → Asks p g x c
+  asks-if q t r =
       record {
-        free = λ _. sym excepted ∙ sym p ∙ t;
-        meets = λ k. sym (P .policy .meets y h) ∙ sym q ∙ k;
-        never = λ f _ k. clash k (sym (P .policy .meets y h) ∙ sym q ∙ f);
+        free = λ _. sym excepted ∙ sym q ∙ t;
+        meets = λ k. sym r ∙ k;
+        never = λ f _ k. clash k (sym r ∙ f);
       }
 
 module _ {p : Policy} {g : Goal} {plan swept : List ℕ} {a : Asker} {x : Context} {b : Bool} (A : Asks p g x b) where

@@ -31,14 +31,14 @@ use Rattle.nodes.specs.inner.Graph.{Graph, Chain, Chain.root, Chain.link
 use Rattle.nodes.specs.inner.State.{Turn, Clear, Through}
 use Rattle.nodes.specs.inner.Nodes.{Watch, watchOf, codeAt, placeOf, stateOf, codeOf, Bounded}
 use Rattle.nodes.specs.inner.Arrivals.{LandsOpen, LandsGood, LandsBad}
-use Rattle.nodes.specs.inner.Blocks.{startOf}
+use Rattle.plan.specs.inner.Types.{startOf}
 use Rattle.nodes.specs.inner.Tasks.{typeOf, Task, graphOf, Stands, Asked, Faced}
 use Rattle.nodes.proofs.SearchLaws.{pass-to, visited, found, turn-chain}
 use Rattle.nodes.proofs.NodeLaws.{place-of, state-of}
 use Rattle.nodes.proofs.ModelLaws.{to-true, of-true, bounded}
 use Rattle.base.proofs.UptoLaws.{clash}
 use Rattle.nodes.proofs.ArrivalLaws.{code-of-place}
-use Rattle.nodes.proofs.TypeLaws.{type-lt, type-le, start-le}
+use Rattle.plan.proofs.TypeLaws.{type-lt, type-le, start-le}
 
 -- ---- over any graph: the targets from a to below b, of which v alone may have an edge
 pub block-visit : {g : Graph} {back queue : List ℕ} {head tail stop depth u ev a v : ℕ} (b : ℕ) → Turn g back queue head tail stop depth u ev a → v < b

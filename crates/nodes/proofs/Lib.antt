@@ -3,6 +3,5 @@ pub mod NodeLaws
 pub mod ModelLaws
 pub mod WatchLaws
 pub mod ArrivalLaws
-pub mod TypeLaws
 pub mod LevelLaws
 pub mod SeedLaws

@@ -73,17 +73,17 @@ module _ {s g : List ℕ} {n : Counts} {l : Legs} (A : Task s g n l) (m : Mode) 
     no-set {into} {b} S p k =
         begins-not (λ z. clash (to-true (M .σ 0 (codeAt n y)) (z .starts)) (ap (contextIn (goalOf g) 0) here ∙ sym (in-set S 0 (omega arith)) ∙ sym p ∙ not-true b k))
 
-    pub no-held : {b : Bool} (v : ℕ) → bit v 31 ≡ meetsρμ (policyOf s) x → b ≡ bit v 31 → not b ≡ true → BeginsNot M n W y
-    no-held {b} v e p k =
-        begins-not (λ z. clash (to-true (M .held (codeAt n y)) (z .meets)) (ap (meetsρμ (policyOf s)) here ∙ sym e ∙ sym p ∙ not-true b k))
+    pub no-held : {b : Bool} → b ≡ meetsρμ (policyOf s) x → not b ≡ true → BeginsNot M n W y
+    no-held {b} p k =
+        begins-not (λ z. clash (to-true (M .held (codeAt n y)) (z .meets)) (ap (meetsρμ (policyOf s)) here ∙ sym p ∙ not-true b k))
 
-    pub start-of : {into : ℕ} {a b : Bool} (v : ℕ) → ContextSets (goalOf g) x into → a ≡ bit into 0 → not a ≡ false → bit v 31 ≡ meetsρμ (policyOf s) x → b ≡ bit v 31 → not b ≡ false
+    pub start-of : {into : ℕ} {a b : Bool} → ContextSets (goalOf g) x into → a ≡ bit into 0 → not a ≡ false → b ≡ meetsρμ (policyOf s) x → not b ≡ false
         → Start M (codeAt n y)
-    start-of {into} {a} {b} v S p p′ e r r′ =
+    start-of {into} {a} {b} S p p′ r r′ =
         record {
           context-at = subst (λ (z : Context). T (inRange (countsOf s) z)) (sym (code-of-place (A .legs) h)) (in-range-T (subst (λ (k : Counts). ContextInRange k (contextAtIndex n y)) (A .given .ready .same) (at-in-range n y (A .legs .countable .roles) (A .legs .countable .users) h)));
           starts = of-true _ (ap (contextIn (goalOf g) 0) here ∙ sym (in-set S 0 (omega arith)) ∙ sym p ∙ not-false a p′);
-          meets = of-true _ (ap (meetsρμ (policyOf s)) here ∙ sym e ∙ sym r ∙ not-false b r′);
+          meets = of-true _ (ap (meetsρμ (policyOf s)) here ∙ sym r ∙ not-false b r′);
         }
 
     pub beginning : {into t : ℕ} (r : Arrival) → Start M (codeAt n y) → ContextSets (goalOf g) x into → Started m l into t → Arrived m l into y t r → Begins M n W y r

@@ -5,18 +5,20 @@ use crate::monitor::step_state;
 use base::bits::has_bit;
 use context::Context;
 use goal_image::check::Legs;
-use plan::regions::CONTEXTS;
+use plan::sets::sets_at;
 use policy_image::counts::Counts;
 use steps::nearest::Asker;
 use steps::nearest::NONE;
 use steps::nearest::Offer;
 use steps::offers::first_offer;
+use steps::targets::is_held;
 ghost use Prim.Native.Nat.{suc, _*_, _^_, _≤_, _<_};
 ghost use Rattle.policy_image.specs.Policy.{policyOf};
 ghost use Rattle.context.specs.Ranges.{ContextInRange};
-ghost use Rattle.context.specs.inner.Places.{contextCount, contextAtIndex};
+ghost use Rattle.context.specs.inner.Places.{contextAtIndex};
 ghost use Rattle.goal_image.specs.Goal.{goalOf};
 ghost use Rattle.plan.specs.inner.Plan.{GoalPlan, Planned};
+ghost use Rattle.plan.specs.inner.Types.{OfType};
 ghost use Rattle.nodes.specs.inner.Arrivals.{Given, GivenGoal, States, Arrived, Arriving};
 ghost use Rattle.nodes.specs.inner.Blocks.{Asks, FirstStep};
 
@@ -49,7 +51,8 @@ pub fn land(mode: Mode, legs: Legs, into: u32, y: u32, state: u32) -> Arrival
     Arrival::Enter(y * states_of(legs) + state)
 }
 
-// What a step to the context at place y comes to, from the state, by an event in the sets by. The plan has the goal's sets.
+// What a step to the context at place y, of the type, comes to, from the state, by an event in the sets by. The plan has the goal's
+// sets.
 pub fn arrive(
     goal: &[u8],
     counts: Counts,
@@ -58,27 +61,33 @@ pub fn arrive(
     mode: Mode,
     state: u32,
     by: u32,
+    ty: u32,
     y: u32,
 ) -> Arrival
-    requires { ⌜ GivenGoal (now goal) counts legs × GoalPlan (now goal) counts (now plan) × (y < contextCount counts) ⌝ }
+    requires { ⌜ GivenGoal (now goal) counts legs × GoalPlan (now goal) counts (now plan) × OfType counts ty y ⌝ }
     ensures { λ r. ⌜ Arriving (now (goal .entry)) counts legs mode state by y r ⌝ }
 {
-    let at = CONTEXTS + (y as usize);
-    let into = plan[at] % 32768;
+    let into = sets_at(goal, counts, plan, ty, y);
     land(mode, legs, into, y, step_state(mode, legs, state, by, into))
 }
 
-// Whether steps from the context at place y are asked at all: it is not in σe, and meets ρ and μ.
-pub fn is_asked(policy: &[u8], goal: &[u8], counts: Counts, plan: &[u32], y: u32) -> bool
-    requires { ⌜ Planned (now policy) (now goal) counts (now plan) × (y < contextCount counts) ⌝ }
+// Whether steps from the context at place y, of the type, are asked at all: it is not in σe, and meets ρ and μ.
+pub fn is_asked(
+    policy: &[u8],
+    goal: &[u8],
+    counts: Counts,
+    plan: &[u32],
+    ty: u32,
+    y: u32,
+) -> bool
+    requires { ⌜ Planned (now policy) (now goal) counts (now plan) × OfType counts ty y ⌝ }
     ensures { λ r. ⌜ Asks (policyOf (now (policy .entry))) (goalOf (now (goal .entry))) (contextAtIndex counts y) r ⌝ }
 {
-    let at = CONTEXTS + (y as usize);
-    let known = plan[at];
-    if has_bit(known % 32768, 13) {
+    let into = sets_at(goal, counts, plan, ty, y);
+    if has_bit(into, 13) {
         return false;
     }
-    has_bit(known, 31)
+    is_held(policy, counts, plan, ty, y)
 }
 
 // The first step to ask from x that is not closed.

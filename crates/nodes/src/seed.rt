@@ -7,12 +7,13 @@ use crate::monitor::start_state;
 use base::bits::has_bit;
 use context::Context;
 use goal_image::check::Legs;
-use plan::regions::CONTEXTS;
+use plan::sets::sets_at;
 use policy_image::counts::Counts;
-ghost use Prim.Native.Nat.{_≤_, _<_};
+use steps::targets::is_held;
+ghost use Prim.Native.Nat.{_≤_};
 ghost use lib.ListN.{length};
-ghost use Rattle.context.specs.inner.Places.{contextCount};
 ghost use Rattle.plan.specs.inner.Plan.{Planned};
+ghost use Rattle.plan.specs.inner.Types.{OfType};
 ghost use Rattle.nodes.specs.inner.Seeds.{Cleared, Roomy, Beginning, Sown};
 ghost use Rattle.nodes.specs.inner.Tasks.{Task};
 
@@ -22,7 +23,7 @@ pub enum Seeded {
     Start(u32),
 }
 
-// What the context at place y comes to as a start: where it is none, it is dropped.
+// What the context at place y, of the type, comes to as a start: where it is none, it is dropped.
 pub fn start_at(
     policy: &[u8],
     goal: &[u8],
@@ -30,18 +31,17 @@ pub fn start_at(
     plan: &[u32],
     legs: Legs,
     mode: Mode,
+    ty: u32,
     y: u32,
 ) -> Arrival
-    requires { ⌜ Task (now policy) (now goal) counts legs × Planned (now policy) (now goal) counts (now plan) × (y < contextCount counts) ⌝ }
+    requires { ⌜ Task (now policy) (now goal) counts legs × Planned (now policy) (now goal) counts (now plan) × OfType counts ty y ⌝ }
     ensures { λ r. ⌜ Beginning (now (policy .entry)) (now (goal .entry)) counts mode y r ⌝ }
 {
-    let at = CONTEXTS + (y as usize);
-    let known = plan[at];
-    let into = known % 32768;
+    let into = sets_at(goal, counts, plan, ty, y);
     if !has_bit(into, 0) {
         return Arrival::Dropped;
     }
-    if !has_bit(known, 31) {
+    if !is_held(policy, counts, plan, ty, y) {
         return Arrival::Dropped;
     }
     land(mode, legs, into, y, start_state(mode, legs, into))
@@ -80,7 +80,8 @@ pub fn seed(
     let mut tail: usize = 0;
     let mut y: u32 = 0;
     while y < count {
-        match start_at(policy, goal, counts, plan, legs, mode, y) {
+        let ty = Context::at(y, counts).ty;
+        match start_at(policy, goal, counts, plan, legs, mode, ty, y) {
             Arrival::Broken(_) => {
                 return Seeded::Start(y);
             }

@@ -17,7 +17,6 @@ use Rattle.policy_image.specs.Policy.{Policy, policyOf}
 use Rattle.policy_image.specs.Layout.{countsOf}
 use Rattle.policy_image.specs.inner.Reading.{Counted}
 use Rattle.context.specs.Codes.{eventAt, eventOf}
-use Rattle.context.specs.inner.Places.{contextCount, contextAtIndex}
 use Rattle.relations.specs.Relations.{α, flowsAs, writeLike, readLike}
 use Rattle.tables.specs.inner.Tables.{FlowMasks}
 use Rattle.index.specs.inner.Index.{Bears, Ranged}
@@ -25,10 +24,13 @@ use Rattle.index.specs.inner.Meaning.{AllowBlock, AllowIndex}
 use Rattle.index.proofs.MeaningLaws.{entry-towards, entry-from}
 use Rattle.goal_image.specs.Goal.{goalOf}
 use Rattle.goal_image.specs.inner.Memberships.{EventSets}
+use Rattle.goal_image.specs.inner.Sound.{SoundGoal}
 use Rattle.base.specs.inner.Fill.{Filled}
 use Rattle.base.proofs.FillLaws.{fill-begin, fill-more}
 use Rattle.plan.proofs.LeadLaws.{last-first}
-use Rattle.plan.specs.inner.Plan.{Ready, firstAt, keyAt, outsAt, insAt, guardsAt, contextsAt, specialsAt, EntryOf, OfferBlock, Blocks, Tops, BlocksPut, GuardsOf, GuardsPut, LeadsPut, TablesPut, Known, Planned}
+use Rattle.plan.proofs.ContextLaws.{plan-counts, holding-kept, sorting-kept}
+use Rattle.plan.specs.inner.Regions.{rolesStart, planEntries}
+use Rattle.plan.specs.inner.Plan.{Ready, firstAt, keyAt, outsAt, insAt, guardsAt, specialsAt, EntryOf, OfferBlock, Blocks, Tops, BlocksPut, GuardsOf, GuardsPut, LeadsPut, TablesPut, ContextsPut, Planned}
 
 -- ---- bounds
 module _ {s : List ℕ} {n : Counts} (R : Ready s n) where
@@ -263,14 +265,14 @@ guarding-end G h =
     }
 
 -- ---- the whole plan
-pub planned : {s g old p1 p2 p3 p4 p5 plan : List ℕ} {n : Counts} {classes types : ℕ} → 34560 + contextCount n ≤ length plan → classes ≡ n .classes → Ready s n → types ≡ n .types
+pub planned : {s g old p1 p2 p3 p4 p5 plan : List ℕ} {n : Counts} {classes types : ℕ} → planEntries ≤ length plan → SoundGoal g → classes ≡ n .classes → Ready s n → types ≡ n .types
     → Filled (λ e v. EventSets (goalOf g) (eventOf e) v) old p1 25344 32 (32 * (classes + 1))
-    → Filled (λ y v. Known (policyOf s) (goalOf g) (contextAtIndex n y) v) p1 p2 34560 0 (contextCount n)
-    → TablesPut (policyOf s) p2 p3 → BlocksPut (policyOf s) p3 p4 → GuardsPut types p4 p5 → LeadsPut (policyOf s) types p5 plan → Planned s g n plan
-planned {s} {g} {old} {p1} {p2} {p3} {p4} {p5} {plan} {n} {classes} {types} size same R st E C A B D L =
+    → ContextsPut s g n p1 p2 → TablesPut (policyOf s) p2 p3 → BlocksPut (policyOf s) p3 p4 → GuardsPut types p4 p5 → LeadsPut (policyOf s) types p5 plan → Planned s g n plan
+planned {s} {g} {old} {p1} {p2} {p3} {p4} {p5} {plan} {n} {classes} {types} size G same R st E C A B D L =
     record {
       policy = record {
         size = size;
+        counts = plan-counts R;
         tables = record {
           special-at = λ c q h. ap (λ (k : ℕ). bit k q) (to-four c (omega arith) ∙ B .below c (omega arith)) ∙ A .tables .special-at c q h;
           change = λ r1 r2 h. ap (λ (k : ℕ). bit k r2) (to-four (32 + r1) (omega arith) ∙ B .below (32 + r1) (omega arith)) ∙ A .tables .change r1 r2 h;
@@ -288,14 +290,16 @@ planned {s} {g} {old} {p1} {p2} {p3} {p4} {p5} {plan} {n} {classes} {types} size
             let g : firstAt plan (types + 1) ≡ firstAt plan (policyOf s .counts .types + 1) = ap (λ (i : ℕ). firstAt plan (i + 1)) e in
             let key : keyAt plan j ≡ keyAt p5 j = L .below (512 + j) (omega arith) in
             L .leads j (omega arith) (let z = blocks .blocks t w .ranged j lo hi .class .high in omega arith);
-        meets = λ y h. known y h .holds;
+        held = holding-kept kept (C .held);
       };
       goal = record {
         size = size;
+        counts = plan-counts R;
+        sound = G;
         events = λ e l h.
             subst (EventSets (goalOf g) (eventOf e))
             (sym (L .below (25344 + e) (let few = classes-few R in omega arith) ∙ after (25344 + e) (omega arith) ∙ C .below (25344 + e) (let few = classes-few R in omega arith))) (E .here e l (omega arith));
-        contexts = λ y h. known y h .sets;
+        sets = sorting-kept kept (C .sets);
       };
     }
   where
@@ -308,8 +312,8 @@ planned {s} {g} {old} {p1} {p2} {p3} {p4} {p5} {plan} {n} {classes} {types} size
     after : (i : ℕ) → 25344 ≤ i → getD p5 i 0 ≡ getD p2 i 0
     after i h = D .above i h ∙ B .above i h ∙ A .above i (omega arith)
 
-    known : (y : ℕ) → y < contextCount n → Known (policyOf s) (goalOf g) (contextAtIndex n y) (contextsAt plan y)
-    known y h = subst (Known (policyOf s) (goalOf g) (contextAtIndex n y)) (sym (L .above (34560 + y) (omega arith) ∙ after (34560 + y) (omega arith))) (C .here y (omega arith) h)
+    kept : (i : ℕ) → rolesStart ≤ i → getD plan i 0 ≡ getD p2 i 0
+    kept i h = L .above i (omega arith) ∙ after i (omega arith)
 
 -- the last block's end
 pub last-top : {s : List ℕ} {n : Counts} {plan : List ℕ} → Ready s n → Tops (n .types) plan → firstAt plan (n .types + 1) ≤ 8192

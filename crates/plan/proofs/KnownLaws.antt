@@ -1,35 +1,29 @@
--- What a plan knows of contexts, of special events and of roles, from the tables that it is made of.
-use Prim.Native.Nat.{ℕ, _+_, _%_, _≤_, _<_, _^_}
+-- What a plan knows of events and of roles, from the tables that it is made of.
+use Prim.Native.Nat.{ℕ, _+_, _≤_, _<_}
 use mathlib.Core.Path.{_≡_, refl, sym, subst, ap, ap₂, _∙_}
 use mathlib.Core.Bool.{Bool, true, false, not, _&&_, _||_}
 use mathlib.Core.List.{List}
 use mathlib.Core.Logic.{⊎-elim}
-use native.Mathlib.Decide.{decLt}
 use native.Mathlib.Omega.{arith}
-use borrow.Author.Tests.{not-true, not-false, lt-ltb, le-ltb, ne-eqb, eq-eqb}
+use borrow.Author.Tests.{not-true, not-false, ne-eqb, eq-eqb}
 use lib.Bits.{bitOr}
 use lib.Dec.{eqb}
 use lib.ListN.{length, getD, set}
 use lib.Seq.{getD-set-same, getD-set-other}
 use Rattle.base.specs.Bits.{bit}
-use Rattle.base.proofs.BitLaws.{bit-or, bit-pow, bit-mod}
+use Rattle.base.proofs.BitLaws.{bit-or, bit-pow}
 use Rattle.base.proofs.Numbers.{split-eq}
 use Rattle.policy_image.specs.Policy.{Policy}
 use Rattle.policy_image.specs.OfKind.{some}
-use Rattle.policy_image.specs.declared.counts.Counts.{Counts}
 use Rattle.context.specs.declared.Context.{Context}
-use Rattle.context.specs.inner.Places.{contextCount, contextAtIndex}
-use Rattle.context.proofs.PlaceLaws.{at-in-range}
 use Rattle.context.specs.declared.Event.{Event}
 use Rattle.context.specs.Codes.{eventAt, isTransition}
 use Rattle.constraints.specs.Constraints.{constrains}
-use Rattle.goal_image.specs.Goal.{Goal, isContextChain}
-use Rattle.goal_image.specs.Sets.{contextIn}
+use Rattle.goal_image.specs.Goal.{Goal}
 use Rattle.goal_image.specs.inner.Memberships.{ContextSets, EventSets}
-use Rattle.goal_model.specs.Images.{meetsρμ}
-use Rattle.tables.specs.inner.Tables.{ConstraintMasks, RoleTable, UserTable, RoleChanges}
+use Rattle.tables.specs.inner.Tables.{ConstraintMasks, RoleChanges}
 use Rattle.base.specs.inner.Fill.{Filled}
-use Rattle.plan.specs.inner.Plan.{Ready, special, TablesPut, Noted, Known}
+use Rattle.plan.specs.inner.Plan.{special, TablesPut}
 
 pub zero-plus : (c : ℕ) → 0 + c ≡ c
 zero-plus c = omega arith
@@ -53,50 +47,12 @@ pub and-yes : (a : Bool) → (a && true) ≡ a
 and-yes true = refl
 and-yes false = refl
 
--- ---- contexts
-pub noted-held : (sets : ℕ) → Noted sets true (bitOr sets 2147483648)
-noted-held sets = record { at = λ i. bit-or sets 2147483648 i ∙ ap (λ (b : Bool). bit sets i || b) (bit-pow 31 i) }
-
-pub noted-not : (sets : ℕ) → Noted sets false sets
-noted-not sets = record { at = λ i. sym (or-nothing (bit sets i)) }
-
-module _ {g : Goal} {x : Context} {sets v : ℕ} {h : Bool} (S : ContextSets g x sets) (N : Noted sets h v) where
-  low : (i : ℕ) → Dec (i < 15) → bit (v % 2 ^ 15) i ≡ (isContextChain i && contextIn g i x)
-  low i (yes l) =
-      bit-mod v 15 i ∙ ap₂ _&&_ (lt-ltb i 15 l) (N .at i) ∙ ap (λ (b : Bool). bit sets i || (h && b)) (ne-eqb 31 i (omega arith))
-      ∙ ap (λ (b : Bool). bit sets i || b) (and-false h) ∙ or-nothing (bit sets i) ∙ S .at i
-  low i (no n) =
-      let a : 15 ≤ i = omega arith in
-      let b : 7 ≤ i = omega arith in
-      let d : i ≡ 13 → ⊥ = λ q. omega arith in
-      bit-mod v 15 i ∙ ap (λ (b : Bool). b && bit v i) (le-ltb i 15 a) ∙ sym (rw (le-ltb i 7 b, ne-eqb i 13 d))
-
-  pub known-law : {p : Policy} {roles users : List ℕ} → RoleTable p roles → UserTable p users → x .ty < 256 → x .user < 16
-      → h ≡ (bit (getD roles (x .ty) 0) (x .role) && bit (getD users (x .user) 0) (x .role)) → Known p g x v
-  unfolding meetsρμ
-  known-law {p} {roles} {users} R U lt lu q =
-      record {
-        sets = record { at = λ i. low i (decLt i 15) };
-        holds = N .at 31 ∙ ap₂ _||_ (S .at 31) (and-yes h) ∙ q ∙ ap₂ _&&_ (R .at (x .ty) (x .role) lt) (U .at (x .user) (x .role) lu);
-      }
-
-pub known-same : {p : Policy} {g : Goal} {x x′ : Context} {v : ℕ} → x ≡ x′ → Known p g x v → Known p g x′ v
-known-same {p} {g} {v = v} q K = subst (λ (k : Context). Known p g k v) q K
+-- ---- contexts and events
+pub sets-same : {g : Goal} {x x′ : Context} {v : ℕ} → x ≡ x′ → ContextSets g x v → ContextSets g x′ v
+sets-same {g} {v = v} q S = subst (λ (k : Context). ContextSets g k v) q S
 
 pub event-same : {g : Goal} {e e′ : Event} {v : ℕ} → e ≡ e′ → EventSets g e v → EventSets g e′ v
 event-same {g} {v = v} q S = subst (λ (k : Event). EventSets g k v) q S
-
--- a context in range, by its place
-pub in-bytes : {s : List ℕ} {n : Counts} {y : ℕ} {x : Context} → Ready s n → y < contextCount n → x ≡ contextAtIndex n y → (x .ty < 256) × (x .role < 16) × (x .user < 16)
-in-bytes {s} {n} {y} {x} R h q =
-    let r = at-in-range n y (R .countable .roles) (R .countable .users) h in
-    let t : n .types ≤ 255 = subst (λ (k : Counts). k .types ≤ 255) (sym (R .same)) (R .sound .range .types .high) in
-    let o : n .roles ≤ 15 = subst (λ (k : Counts). k .roles ≤ 15) (sym (R .same)) (R .sound .range .roles .high) in
-    let u : n .users ≤ 15 = subst (λ (k : Counts). k .users ≤ 15) (sym (R .same)) (R .sound .range .users .high) in
-    let a = r .ty .high in
-    let b = r .role .high in
-    let d = r .user .high in
-    rw q (omega arith, omega arith, omega arith)
 
 -- ---- special events, and roles
 module _ {p : Policy} {masks : List ℕ} (C : ConstraintMasks p masks) (size : length masks ≡ 32) where

@@ -1,4 +1,6 @@
 pub mod KnownLaws
+pub mod TypeLaws
+pub mod NamedLaws
+pub mod ContextLaws
 pub mod BlockLaws
 pub mod LeadLaws
-pub mod TypeLaws

@@ -1,97 +1,121 @@
--- The σ sets of all contexts of a type.
-use Prim.Native.Nat.{ℕ, suc, _≤_, _<_}
-use mathlib.Core.Path.{_≡_, refl, sym, ap, subst, _∙_}
-use mathlib.Core.Bool.{Bool, true, false, not, _&&_}
-use mathlib.Core.Logic.{⊎-elim}
+-- The places of the contexts of a type.
+use mathlib.Core.Path.{_≡_, sym, subst, ap, _∙_}
+use Prim.Native.Nat.{ℕ, _+_, _-_, _*_, _/_, _%_, _^_, _≤_, _<_}
+use native.Mathlib.Nat.{mod-lt, div-add-mod', div-lt-iff-lt-mul, le-div-iff-mul-le, mul-le-mul, mul-le-mul-left, mul-le-mul-right, mul-one}
 use native.Mathlib.Omega.{arith}
-use borrow.Author.Tests.{not-true, eq-eqb, ne-eqb}
-use lib.Dec.{eqb}
-use Rattle.base.specs.Chain.{OnChain}
-use Rattle.base.proofs.Numbers.{split-le}
-use Rattle.base.proofs.UptoLaws.{clash, or-left, or-false, and-true, and-first, true-or-false, same-truth}
+use Rattle.policy_image.specs.declared.counts.Counts.{Counts}
 use Rattle.context.specs.declared.Context.{Context}
 use Rattle.context.specs.Codes.{contextAt}
-use Rattle.goal_image.specs.declared.records.ContextRecord.{ContextRecord}
-use Rattle.goal_image.specs.Goal.{Goal, goalLinks, isContextChain}
-use Rattle.goal_image.specs.Questions.{OneChainEach}
-use Rattle.goal_image.specs.Sets.{fits, matchesContext, contextIn}
-use Rattle.goal_image.specs.inner.Memberships.{ContextSets}
-use Rattle.goal_image.proofs.SetLaws.{set-iff}
-use Rattle.goal_image.proofs.SortLaws.{context-below}
-use Rattle.plan.specs.declared.types.TypeSets.{TypeSets}
-use Rattle.plan.specs.inner.Types.{NamesLess, ByType, AllByType, SetsOfType}
+use Rattle.context.specs.Ranges.{ContextInRange}
+use Rattle.context.specs.inner.Places.{Countable, contextCount, contextIndex, contextAtIndex}
+use Rattle.context.proofs.PlaceLaws.{at-index, at-in-range, types-part}
+use Rattle.plan.specs.inner.Regions.{pairEntries}
+use Rattle.plan.specs.inner.Types.{startOf, pairCount, roleAt, userAt, OfType}
+use Rattle.plan.specs.inner.Plan.{PlanCounts}
 
--- ---- a record
-pub other-type : {r : ContextRecord} {ty : ℕ} → (r .ty ≡ 0 → ⊥) → (r .ty ≡ ty → ⊥) → NamesLess r ty
-other-type {r} {ty} n d =
-    let z : fits (r .ty) ty ≡ false = or-false (eqb (r .ty) 0) (eqb (r .ty) ty) (ne-eqb (r .ty) 0 n) (ne-eqb (r .ty) ty d) in
-    record { role = λ t. absurd (clash t z); user = λ t. absurd (clash t z) }
+pub pairs-few : {n : Counts} → PlanCounts n → pairCount n ≤ pairEntries
+pairs-few C = mul-le-mul {n₂ = 15} {m₂ = 15} (C .roles) (C .users)
 
-pub no-names : {r : ContextRecord} {ty : ℕ} → r .role ≡ 0 → r .user ≡ 0 → NamesLess r ty
-no-names a b = record { role = λ _. a; user = λ _. b }
+-- sums of products, for `omega`
+within-block : (q r u y : ℕ) → q * r * u ≤ y → y < (q + 1) * r * u → y - q * r * u < r * u
+within-block q r u y l h = omega arith
 
-pub less-same : {r r′ : ContextRecord} {ty : ℕ} → r ≡ r′ → NamesLess r ty → NamesLess r′ ty
-less-same {ty = ty} e N = subst (λ (z : ContextRecord). NamesLess z ty) e N
+pair-place : (q r u d m i y : ℕ) → d * u + m ≡ i → q * r * u + i ≡ y → (q * r + d) * u + m ≡ y
+pair-place q r u d m i y e f = omega arith
 
-any : (a v : ℕ) → a ≡ 0 → fits a v ≡ true
-any a v e = or-left (eqb a 0) (eqb a v) (eq-eqb a 0 e)
+module _ {n : Counts} (C : Countable n) where
+  pub type-lt : (o y : ℕ) → y < startOf n o → contextAtIndex n y .ty < o
+  type-lt o y h =
+      let a : y / n .users < (o - 1) * n .roles = div-lt-iff-lt-mul (C .users) .1 h in
+      let b : y / n .users / n .roles < o - 1 = div-lt-iff-lt-mul (C .roles) .1 a in
+      omega arith
 
--- it matches all contexts of the type or none
-module _ {r : ContextRecord} {ty : ℕ} (N : NamesLess r ty) (x y : Context) (ex : x .ty ≡ ty) (ey : y .ty ≡ ty) where
-  matches-both : matchesContext r x ≡ true → matchesContext r y ≡ true
-  matches-both t =
-      let f : fits (r .ty) ty ≡ true = subst (λ (k : ℕ). fits (r .ty) k ≡ true) ex (and-first (fits (r .ty) (x .ty)) (fits (r .role) (x .role) && fits (r .user) (x .user)) t) in
-      and-true (fits (r .ty) (y .ty)) (fits (r .role) (y .role) && fits (r .user) (y .user)) (subst (λ (k : ℕ). fits (r .ty) k ≡ true) (sym ey) f)
-      (and-true (fits (r .role) (y .role)) (fits (r .user) (y .user)) (any (r .role) (y .role) (N .role f)) (any (r .user) (y .user) (N .user f)))
+  pub type-le : (o y : ℕ) → startOf n o ≤ y → o ≤ contextAtIndex n y .ty
+  type-le o y h =
+      let a : (o - 1) * n .roles ≤ y / n .users = le-div-iff-mul-le (C .users) .1 h in
+      let b : o - 1 ≤ y / n .users / n .roles = le-div-iff-mul-le (C .roles) .1 a in
+      omega arith
 
--- ---- a chain
-pub by-type : {g : Goal} {ty h : ℕ} → OneChainEach g → h < 15 → ((i : ℕ) → OnChain (goalLinks g) h i → NamesLess (g .context i) ty) → ByType g ty h
-by-type {g} {ty} {h} O low N =
-    record {
-      same = λ x e.
-          same-truth (contextIn g h x) (contextIn g h (contextAt ty 0 0)) (over x (contextAt ty 0 0) e refl) (over (contextAt ty 0 0) x refl e);
-    }
-  where
-    over : (x y : Context) → x .ty ≡ ty → y .ty ≡ ty → contextIn g h x ≡ true → contextIn g h y ≡ true
-    over x y ex ey t =
-        let r = set-iff g O h low x .0 t in
-        set-iff g O h low y .1 (r .0, r .1, matches-both (N (r .0) (r .1)) x y ex ey (r .2))
+  -- the contexts between the start of a type and that of the next are of the type
+  pub type-is : (o y : ℕ) → startOf n o ≤ y → y < startOf n (o + 1) → contextAtIndex n y .ty ≡ o
+  type-is o y l h = let a = type-le o y l in let b = type-lt (o + 1) y h in omega arith
 
--- ---- all σ chains
-pub all-skip : {g : Goal} {ty h : ℕ} {b : Bool} → b ≡ isContextChain h → not b ≡ true → AllByType g ty h (suc h)
-all-skip {h = h} {b} q f =
-    record {
-      chains = λ i lo hi t. let e : i ≡ h = omega arith in absurd (clash (ap isContextChain (sym e) ∙ t) (sym q ∙ not-true b f));
-    }
+  pub roles-le : (o : ℕ) → o ≤ n .types + 1 → (o - 1) * n .roles ≤ n .types * n .roles
+  roles-le o h = let a : o - 1 ≤ n .types = omega arith in mul-le-mul-right (n .roles) a
 
-pub all-one : {g : Goal} {ty h : ℕ} → ByType g ty h → AllByType g ty h (suc h)
-all-one {g} {ty} {h} B = record { chains = λ i lo hi t. let e : i ≡ h = omega arith in subst (ByType g ty) (sym e) B }
+  pub start-le : (o : ℕ) → o ≤ n .types + 1 → startOf n o ≤ contextCount n
+  start-le o h = mul-le-mul-right (n .users) (roles-le o h)
 
-pub all-begin : {g : Goal} {ty : ℕ} → AllByType g ty 0 0
-all-begin = record { chains = λ i lo hi t. absurd (omega arith) }
+  pub roles-few : (o : ℕ) → o ≤ n .types + 1 → (o - 1) * n .roles < 2 ^ 26
+  roles-few o h = omega (arith, roles-le o h, types-part n C)
 
-pub all-join : {g : Goal} {ty a b c d : ℕ} → AllByType g ty a b → AllByType g ty b c → c ≡ d → AllByType g ty a d
-all-join {b = b} A B e = record { chains = λ i lo hi t. ⊎-elim (λ (k : b ≤ i). B .chains i k (omega arith) t) (λ (k : i < b). A .chains i lo k t) (split-le b i) }
+  pub start-few : (o : ℕ) → o ≤ n .types + 1 → startOf n o < 2 ^ 26
+  start-few o h = omega (arith, start-le o h, C .few)
 
-pub all-end : {g : Goal} {ty b : ℕ} → 15 ≤ b → AllByType g ty 0 b → AllByType g ty 0 15
-all-end h A = record { chains = λ i lo hi t. A .chains i lo (omega arith) t }
+  pub type-few : (o : ℕ) → o ≤ n .types → o < 2 ^ 26
+  type-few o h =
+      let a : 1 ≤ n .roles = C .roles in
+      let b : o * 1 ≤ o * n .roles = mul-le-mul-left o a in
+      let k : o + 1 - 1 ≡ o = omega arith in
+      let d : o * n .roles < 2 ^ 26 = subst (λ (i : ℕ). i * n .roles < 2 ^ 26) k (roles-few (o + 1) (omega arith)) in
+      omega (arith, mul-one o)
 
--- ---- what is known of the type
-pub sets-known : {g : Goal} {ty : ℕ} {t : TypeSets} {z : Context} → t .ty ≡ ty → (t .all ≡ true → AllByType g ty 0 15) → z ≡ contextAt ty 0 0 → ContextSets g z (t .sets) → SetsOfType g ty t
-sets-known {g} {ty} {t} own A q C =
-    record {
-      own = own;
-      of = λ a x e. record { at = λ h. C .at h ∙ ap (λ (z : Context). isContextChain h && contextIn g h z) q ∙ ⊎-elim (λ s. ap (λ (b : Bool). isContextChain h && b) (sym (A a .chains h (omega arith) (context-below h s) s .same x e))) (λ s. none h s x h) (true-or-false (isContextChain h)) };
-    }
-  where
-    none : (h : ℕ) → isContextChain h ≡ false → (x : Context) (k : ℕ) → (isContextChain h && contextIn g k (contextAt ty 0 0)) ≡ (isContextChain h && contextIn g k x)
-    none h s x k = rw s
+  pub start-next : (o : ℕ) → startOf n o ≤ startOf n (o + 1)
+  start-next o = let a : o - 1 ≤ o + 1 - 1 = omega arith in mul-le-mul-right (n .users) (mul-le-mul-right (n .roles) a)
 
-pub sets-kept : {g : Goal} {ty : ℕ} {t : TypeSets} → SetsOfType g (t .ty) t → t .ty ≡ ty → SetsOfType g ty t
-sets-kept {g} {t = t} S e = subst (λ (k : ℕ). SetsOfType g k t) e S
+  -- role and user of a pair, in range
+  pub role-high : {i : ℕ} → i < pairCount n → roleAt n i ≤ n .roles
+  role-high h = let a = div-lt-iff-lt-mul (C .users) .1 h in omega arith
 
-pub sets-none : {g : Goal} {ty : ℕ} {t : TypeSets} → t .ty ≡ ty → t .all ≡ false → SetsOfType g ty t
-sets-none own f = record { own = own; of = λ a x e. absurd (clash a f) }
+  pub user-high : (i : ℕ) → userAt n i ≤ n .users
+  user-high i = let a = mod-lt i (C .users) in omega arith
 
-pub sets-own : {g : Goal} {ty : ℕ} {t : TypeSets} → SetsOfType g ty t → SetsOfType g (t .ty) t
-sets-own {g} {t = t} S = subst (λ (k : ℕ). SetsOfType g k t) (sym (S .own)) S
+  -- every place is one of its context's type
+  pub own-type : {y : ℕ} → y < contextCount n → OfType n (contextAtIndex n y .ty) y
+  own-type {y} h =
+      let q : ℕ = y / n .users / n .roles in
+      let e : q + 1 - 1 ≡ q = omega arith in
+      let e′ : q + 1 + 1 - 1 ≡ q + 1 = omega arith in
+      let l : q * n .roles * n .users ≤ y = le-div-iff-mul-le (C .users) .0 (le-div-iff-mul-le (C .roles) .0 (let z : q ≤ q = omega arith in z)) in
+      let k : y < (q + 1) * n .roles * n .users = div-lt-iff-lt-mul (C .users) .0 (div-lt-iff-lt-mul (C .roles) .0 (let z : q < q + 1 = omega arith in z)) in
+      record {
+        type = at-in-range n y (C .roles) (C .users) h .ty;
+        low = subst (λ (k : ℕ). k * n .roles * n .users ≤ y) (sym e) l;
+        high = subst (λ (k : ℕ). y < k * n .roles * n .users) (sym e′) k;
+      }
+
+  pub own-place : {y : ℕ} {x : Context} → y < contextCount n → x ≡ contextAtIndex n y → OfType n (x .ty) y
+  own-place {y} h e = subst (λ (z : Context). OfType n (z .ty) y) (sym e) (own-type h)
+
+  pub of-below : {o y : ℕ} → OfType n o y → y < contextCount n
+  of-below {o} H = let a = start-le (o + 1) (let h = H .type .high in omega arith) in let b = H .high in omega arith
+
+  -- f is the first place of the type
+  module _ {o y f : ℕ} (H : OfType n o y) (first : f ≡ startOf n o) where
+    -- the place of the pair
+    pub of-pair : y - f < pairCount n
+    of-pair =
+        let l = H .type .low in
+        let e : o + 1 - 1 ≡ o - 1 + 1 = omega arith in
+        rw first (within-block (o - 1) (n .roles) (n .users) y (H .low) (subst (λ (k : ℕ). y < k * n .roles * n .users) e (H .high)))
+
+    -- the context at the place is the type with the pair
+    pub of-same : contextAt o (roleAt n (y - f)) (userAt n (y - f)) ≡ contextAtIndex n y
+    of-same =
+        let i : ℕ = y - f in
+        let x : Context = contextAt o (roleAt n i) (userAt n i) in
+        let a : (m : ℕ) → m + 1 - 1 ≡ m = λ m. omega arith in
+        let low = H .low in
+        let s : startOf n o + i ≡ y = omega arith in
+        let p : ((o - 1) * n .roles + i / n .users) * n .users + i % n .users ≡ y = pair-place (o - 1) (n .roles) (n .users) (i / n .users) (i % n .users) i y (div-add-mod' i (n .users)) s in
+        let e : contextIndex n x ≡ y = simp a p in
+        let range : ContextInRange n x = record {
+          ty = H .type;
+          role = record { low = omega arith; high = role-high of-pair };
+          user = record { low = omega arith; high = user-high i };
+        } in
+        sym (at-index n x range) ∙ ap (contextAtIndex n) e
+
+-- role and user of a pair are small
+pub pair-high : {n : Counts} → PlanCounts n → (i : ℕ) → i < pairCount n → (roleAt n i ≤ 15) × (userAt n i ≤ 15)
+pair-high C i h = let a = C .roles in let b = C .users in (omega (arith, role-high (C .countable) h), omega (arith, user-high (C .countable) i))

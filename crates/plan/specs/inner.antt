@@ -1,4 +1,6 @@
 -- Definitions that contracts inside the project and proofs speak of. No outward promise rests on them.
-pub mod Plan
 pub mod Types
+pub mod Regions
+pub mod Named
+pub mod Plan
 pub mod Leads

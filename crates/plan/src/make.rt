@@ -1,9 +1,9 @@
 // The plan of a policy and a goal.
+use crate::contexts::put_contexts;
 use crate::fill::put;
 use crate::fill::put_cut;
 use crate::leads::put_leads;
 use crate::regions::CHANGES;
-use crate::regions::CONTEXTS;
 use crate::regions::EVENTS;
 use crate::regions::FIRST;
 use crate::regions::GUARDS;
@@ -11,41 +11,29 @@ use crate::regions::INS;
 use crate::regions::KEYS;
 use crate::regions::OUTS;
 use crate::regions::SPECIAL;
-use crate::types::TypeSets;
-use crate::types::sets_of;
-use crate::types::sets_of_type;
-use base::bits::has_bit;
-use context::Context;
 use context::Event;
 use goal_image::sets::event_sets;
 use index::index::index;
 use policy_image::counts::Counts;
-use tables::tables::CLASSES;
 use tables::tables::TYPES;
-use tables::tables::USERS;
 use tables::tables::constraint_masks;
 use tables::tables::domain_table;
 use tables::tables::flow_masks;
 use tables::tables::gamma_masks;
 use tables::tables::role_changes;
-use tables::tables::role_table;
-use tables::tables::user_table;
-ghost use mathlib.Core.Path.{_≡_};
-ghost use mathlib.Core.Bool.{_&&_};
 ghost use Prim.Native.Nat.{_+_, _*_, _≤_, _<_};
-ghost use lib.ListN.{length, getD};
+ghost use lib.ListN.{length};
 ghost use Rattle.policy_image.specs.Policy.{policyOf};
 ghost use Rattle.policy_check.specs.inner.Sound.{Sound};
 ghost use Rattle.context.specs.Codes.{eventOf};
-ghost use Rattle.context.specs.inner.Places.{contextCount, contextAtIndex};
 ghost use Rattle.goal_image.specs.Goal.{goalOf};
 ghost use Rattle.goal_image.specs.inner.Memberships.{EventSets};
 ghost use Rattle.goal_image.specs.inner.Sound.{SoundGoal};
-ghost use Rattle.goal_model.specs.Images.{meetsρμ};
 ghost use Rattle.index.specs.inner.Meaning.{AllowIndex};
 ghost use Rattle.base.specs.inner.Fill.{Filled};
-ghost use Rattle.base.specs.Bits.{bit};
-ghost use Rattle.plan.specs.inner.Plan.{Ready, Lists, Tops, TablesPut, BlocksPut, GuardsOf, GuardsPut, Noted, Known, Planned};
+ghost use Rattle.plan.specs.inner.Plan.{Ready, Lists, Tops, TablesPut, BlocksPut, GuardsOf, GuardsPut, Planned};
+ghost use Rattle.plan.specs.inner.Regions.{planEntries};
+ghost use Rattle.tables.specs.inner.Tables.{DomainTable};
 
 // The classes' special permissions, and the roles' changes.
 fn put_tables(policy: &[u8], plan: &mut [u32])
@@ -83,11 +71,10 @@ fn put_blocks(
 }
 
 // Makes the index, and puts its blocks.
-fn put_index(policy: &[u8], counts: Counts, plan: &mut [u32])
-    requires { ⌜ Ready (now policy) counts × (25344 ≤ length (now plan)) ⌝ }
+fn put_index(policy: &[u8], counts: Counts, domains: &[u32; TYPES], plan: &mut [u32])
+    requires { ⌜ Ready (now policy) counts × DomainTable (policyOf (now policy)) (now domains) × (25344 ≤ length (now plan)) ⌝ }
     ensures { λ _. ⌜ BlocksPut (policyOf (now (policy .entry))) (now (plan .entry)) (now (plan .exit)) ⌝ }
 {
-    let domains = domain_table(policy);
     let perms = gamma_masks(policy);
     let mut src = [0u16; 4096];
     let mut dst = [0u16; 4096];
@@ -100,7 +87,7 @@ fn put_index(policy: &[u8], counts: Counts, plan: &mut [u32])
     index(
         policy,
         counts,
-        &domains,
+        domains,
         &perms,
         &mut src,
         &mut dst,
@@ -160,60 +147,16 @@ fn put_events(goal: &[u8], classes: u32, plan: &mut [u32])
     }
 }
 
-// Whether the context meets ρ and μ.
-fn is_held(roles: &[u32; TYPES], users: &[u32; USERS], x: Context) -> bool
-    requires { ⌜ (x .ty < 256) × (x .role < 16) × (x .user < 16) ⌝ }
-    ensures { λ r. ⌜ r ≡ (bit (getD (now (roles .entry)) (x .ty) 0) (x .role) && bit (getD (now (users .entry)) (x .user) 0) (x .role)) ⌝ }
-{
-    let ty = x.ty as usize;
-    if !has_bit(roles[ty], x.role) {
-        return false;
-    }
-    let user = x.user as usize;
-    has_bit(users[user], x.role)
-}
-
-// What a search has to know of a context: its sets, and whether it meets ρ and μ.
-fn known(sets: u32, held: bool) -> u32
-    ensures { λ r. ⌜ Noted sets held r ⌝ }
-{
-    if held { sets | (1 << 31) } else { sets }
-}
-
-// The same for each context.
-fn put_contexts(policy: &[u8], goal: &[u8], counts: Counts, plan: &mut [u32])
-    requires { ⌜ Ready (now policy) counts × SoundGoal (now goal) × (34560 + contextCount counts ≤ length (now plan)) ⌝ }
-    ensures { λ _. ⌜ Filled (λ y v. Known (policyOf (now (policy .entry))) (goalOf (now (goal .entry))) (contextAtIndex counts y) v) (now (plan .entry)) (now (plan .exit)) 34560 0 (contextCount counts) ⌝ }
-{
-    let domains = domain_table(policy);
-    let roles = role_table(policy, &domains);
-    let users = user_table(policy);
-    let count = Context::count(counts);
-    let mut own = TypeSets {
-        ty: 0,
-        sets: 0,
-        all: false,
-    };
-    let mut y: u32 = 0;
-    while y < count {
-        let x = Context::at(y, counts);
-        let held = is_held(&roles, &users, x);
-        own = sets_of_type(goal, own, x.ty);
-        let at = CONTEXTS + (y as usize);
-        plan[at] = known(sets_of(goal, own, x), held);
-        y += 1;
-    }
-}
-
 // Makes the plan.
 pub fn make_plan(policy: &[u8], goal: &[u8], counts: Counts, plan: &mut [u32])
-    requires { ⌜ Ready (now policy) counts × SoundGoal (now goal) × (34560 + contextCount counts ≤ length (now plan)) ⌝ }
+    requires { ⌜ Ready (now policy) counts × SoundGoal (now goal) × (planEntries ≤ length (now plan)) ⌝ }
     ensures { λ _. ⌜ Planned (now (policy .entry)) (now (goal .entry)) counts (now (plan .exit)) ⌝ }
 {
+    let domains = domain_table(policy);
     put_events(goal, counts.classes, plan);
-    put_contexts(policy, goal, counts, plan);
+    put_contexts(policy, goal, counts, &domains, plan);
     put_tables(policy, plan);
-    put_index(policy, counts, plan);
+    put_index(policy, counts, &domains, plan);
     put_guards(plan, counts.types);
     put_leads(policy, counts, plan);
 }

@@ -11,7 +11,7 @@ use nodes::arrival::first_step;
 use nodes::arrival::is_asked;
 use nodes::arrival::states_of;
 use nodes::monitor::Mode;
-use nodes::places::first_place;
+use plan::places::first_place;
 use plan::regions::EVENTS;
 use policy_image::counts::Counts;
 use steps::nearest::Asker;
@@ -73,7 +73,7 @@ pub fn search_levels(
         let state = u % states;
         let x = Context::at(place, counts);
         let own = x.ty as usize;
-        let asks = is_asked(policy, goal, counts, plan, place);
+        let asks = is_asked(policy, goal, counts, plan, x.ty, place);
         let is_spent = has_member(spent[own], state);
         let a = Asker {
             state: state,
@@ -90,14 +90,14 @@ pub fn search_levels(
             let mut y = first_place(counts, ty);
             while y < end {
                 // Many contexts of a type may meet neither ρ nor μ: those are no targets.
-                if !is_held(policy, counts, plan, y) {
+                if !is_held(policy, counts, plan, ty, y) {
                     y += 1;
                     continue;
                 }
                 // The conditions of a target are asked last: only where it would be a node that is new.
-                match arrive(goal, counts, plan, legs, mode, state, by, y) {
+                match arrive(goal, counts, plan, legs, mode, state, by, ty, y) {
                     Arrival::Broken(v) => {
-                        if is_target(policy, counts, plan, x, e, offer.entry, guarded, y) {
+                        if is_target(policy, counts, plan, x, e, offer.entry, guarded, ty, y) {
                             break 'search Found::At(u, e, v, depth);
                         }
                     }
@@ -105,7 +105,7 @@ pub fn search_levels(
                     Arrival::Enter(v) => {
                         let at = v as usize;
                         if back[at] == 0 {
-                            if is_target(policy, counts, plan, x, e, offer.entry, guarded, y) {
+                            if is_target(policy, counts, plan, x, e, offer.entry, guarded, ty, y) {
                                 back[at] = u + 1;
                                 queue[tail] = v;
                                 tail += 1;

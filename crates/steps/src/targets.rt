@@ -3,10 +3,12 @@ use base::bits::has_bit;
 use constraints::constraints_hold;
 use context::Context;
 use context::Event;
+use plan::places::first_place;
 use plan::regions::CHANGES;
-use plan::regions::CONTEXTS;
+use plan::regions::HOLDERS;
 use plan::regions::INS;
 use plan::regions::OUTS;
+use plan::regions::ROLES;
 use plan::regions::SPECIAL;
 use policy_image::counts::Counts;
 ghost use mathlib.Core.Path.{_≡_};
@@ -15,11 +17,12 @@ ghost use Prim.Native.Nat.{_<_};
 ghost use Rattle.policy_image.specs.Policy.{policyOf};
 ghost use Rattle.context.specs.Codes.{eventOf};
 ghost use Rattle.context.specs.Ranges.{ContextInRange};
-ghost use Rattle.context.specs.inner.Places.{contextCount, contextAtIndex};
+ghost use Rattle.context.specs.inner.Places.{contextAtIndex};
 ghost use Rattle.access.specs.Authorization.{roleRule, flow};
 ghost use Rattle.constraints.specs.Constraints.{constraintsHold};
 ghost use Rattle.goal_model.specs.Images.{meetsρμ};
 ghost use Rattle.plan.specs.inner.Plan.{Ready, PolicyPlan, special};
+ghost use Rattle.plan.specs.inner.Types.{OfType};
 ghost use Rattle.steps.specs.inner.Steps.{Offering, Facing};
 
 // Whether the event is one whose flow depends on more than types, ρ and μ.
@@ -80,16 +83,17 @@ fn flows_by(
     may_act(policy, counts, plan, event, back, y, x)
 }
 
-// Whether the context at place y meets ρ and μ.
-pub fn is_held(policy: &[u8], counts: Counts, plan: &[u32], y: u32) -> bool
-    requires { ⌜ PolicyPlan (now policy) counts (now plan) × (y < contextCount counts) ⌝ }
+// Whether the context at place y, of the type, meets ρ and μ.
+pub fn is_held(policy: &[u8], counts: Counts, plan: &[u32], ty: u32, y: u32) -> bool
+    requires { ⌜ PolicyPlan (now policy) counts (now plan) × OfType counts ty y ⌝ }
     ensures { λ r. ⌜ r ≡ meetsρμ (policyOf (now (policy .entry))) (contextAtIndex counts y) ⌝ }
 {
-    let at = CONTEXTS + (y as usize);
-    has_bit(plan[at], 31)
+    let own = ROLES + (ty as usize);
+    let pair = HOLDERS + ((y - first_place(counts, ty)) as usize);
+    plan[own] & plan[pair] != 0
 }
 
-// Whether the event flows from x to the context at place y, whose type the entry offers it to.
+// Whether the event flows from x to the context at place y, to whose type the entry offers it.
 pub fn is_target(
     policy: &[u8],
     counts: Counts,
@@ -98,12 +102,13 @@ pub fn is_target(
     event: u32,
     entry: usize,
     guarded: bool,
+    ty: u32,
     y: u32,
 ) -> bool
-    requires { ⌜ Ready (now policy) counts × PolicyPlan (now policy) counts (now plan) × ContextInRange counts x × (y < contextCount counts) × Facing (policyOf (now policy)) (now plan) x event (contextAtIndex counts y .ty) entry guarded ⌝ }
+    requires { ⌜ Ready (now policy) counts × PolicyPlan (now policy) counts (now plan) × ContextInRange counts x × OfType counts ty y × Facing (policyOf (now policy)) (now plan) x event (contextAtIndex counts y .ty) entry guarded ⌝ }
     ensures { λ r. ⌜ r ≡ flow (policyOf (now (policy .entry))) (eventOf event) x (contextAtIndex counts y) ⌝ }
 {
-    if !is_held(policy, counts, plan, y) {
+    if !is_held(policy, counts, plan, ty, y) {
         return false;
     }
     if !guarded {

@@ -44,11 +44,12 @@ fn is_step(
     }
     let x = Context::at(u / states, counts);
     let y = w / states;
+    let ty = Context::at(y, counts).ty;
     let guarded = is_special(policy, counts, plan, e);
-    if !is_target(policy, counts, plan, x, e, entry, guarded, y) {
+    if !is_target(policy, counts, plan, x, e, entry, guarded, ty, y) {
         return false;
     }
-    match arrive(goal, counts, plan, legs, mode, u % states, by, y) {
+    match arrive(goal, counts, plan, legs, mode, u % states, by, ty, y) {
         Arrival::Enter(v) => v == w,
         Arrival::Dropped => false,
         Arrival::Broken(_) => false,

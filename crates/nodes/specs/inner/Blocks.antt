@@ -1,10 +1,9 @@
--- The places of the contexts of a type, and where a search stands among events and types.
+-- Where a search stands among events and types.
 use mathlib.Core.Path.{_≡_}
 use mathlib.Core.Bool.{Bool, true, false}
 use mathlib.Core.List.{List}
-use Prim.Native.Nat.{ℕ, _+_, _-_, _*_, _/_, _%_, _≤_, _<_}
+use Prim.Native.Nat.{ℕ, _+_, _*_, _/_, _%_, _≤_, _<_}
 use lib.ListN.{getD}
-use Rattle.policy_image.specs.declared.counts.Counts.{Counts}
 use Rattle.policy_image.specs.Policy.{Policy}
 use Rattle.context.specs.declared.Context.{Context}
 use Rattle.context.specs.Codes.{eventOf}
@@ -18,10 +17,6 @@ use Rattle.steps.specs.declared.nearest.Asker.{Asker}
 use Rattle.steps.specs.declared.nearest.Offer.{Offer}
 use Rattle.steps.specs.inner.Nearest.{Cursor, closed, Passed}
 use Rattle.steps.specs.inner.Steps.{Offering}
-
--- the place of the first context of the type o
-abbrev pub startOf : Counts → ℕ → ℕ
-startOf n o = (o - 1) * n .roles * n .users
 
 -- whether steps from x are asked: it is not in σe, and meets ρ and μ
 pub record Asks (p : Policy) (g : Goal) (x : Context) (b : Bool) : Type 0 where

@@ -1,5 +1,5 @@
 -- What a plan says of a policy and a goal: all that a search has to know of them. A plan is one list of numbers in regions; this
--- file and the constants of src/regions.rt alone say where each region starts.
+-- file, Regions.antt and the constants of src/regions.rt alone say where each region starts.
 use Prim.Native.Nat.{ℕ, _+_, _*_, _/_, _%_, _≤_, _<_}
 use mathlib.Core.Path.{_≡_}
 use mathlib.Core.Bool.{Bool, true, _&&_, _||_}
@@ -15,16 +15,19 @@ use Rattle.policy_image.specs.Layout.{countsOf}
 use Rattle.policy_image.specs.Policy.{Policy, policyOf}
 use Rattle.policy_image.specs.OfKind.{some}
 use Rattle.policy_check.specs.inner.Sound.{Sound}
-use Rattle.context.specs.declared.Context.{Context}
 use Rattle.context.specs.declared.Event.{Event}
-use Rattle.context.specs.Codes.{eventAt, eventOf, isTransition}
-use Rattle.context.specs.inner.Places.{Countable, contextCount, contextAtIndex}
-use Rattle.relations.specs.Relations.{α, roleChange, writeLike, readLike}
+use Rattle.context.specs.Codes.{contextAt, eventAt, eventOf, isTransition}
+use Rattle.context.specs.inner.Places.{Countable}
+use Rattle.relations.specs.Relations.{α, ρ, μ, roleChange, writeLike, readLike}
 use Rattle.constraints.specs.Constraints.{constrains}
 use Rattle.index.specs.inner.Index.{Ranged}
 use Rattle.goal_image.specs.Goal.{Goal, goalOf}
 use Rattle.goal_image.specs.inner.Memberships.{ContextSets, EventSets}
-use Rattle.goal_model.specs.Images.{meetsρμ}
+use Rattle.goal_image.specs.inner.Sound.{SoundGoal}
+use Rattle.tables.specs.inner.Tables.{typeEntries}
+use Rattle.plan.specs.inner.Types.{pairCount, roleAt, userAt}
+use Rattle.plan.specs.inner.Regions.{rolesStart, planEntries, rolesAt, holdersAt, typeSetsAt, pairSetsAt}
+use Rattle.plan.specs.inner.Named.{AllLinked}
 
 -- s is an accepted policy, n are its counts, and its contexts can be numbered
 pub record Ready (s : List ℕ) (n : Counts) : Type 0 where
@@ -66,9 +69,6 @@ eventsAt plan e = getD plan (25344 + e) 0
 
 abbrev pub leadsAt : List ℕ → ℕ → ℕ
 leadsAt plan j = getD plan (26368 + j) 0
-
-abbrev pub contextsAt : List ℕ → ℕ → ℕ
-contextsAt plan y = getD plan (34560 + y) 0
 
 -- an event whose flow depends on more than types, ρ and μ: there is a constraint on it, or it is process transition
 unfoldable pub special : Policy → Event → Bool
@@ -160,29 +160,55 @@ pub record LeadsPut (p : Policy) (types : ℕ) (old plan : List ℕ) : Type 0 wh
   pub below : (i : ℕ) → i < 26368 → getD plan i 0 ≡ getD old i 0
   pub above : (i : ℕ) → 34560 ≤ i → getD plan i 0 ≡ getD old i 0
 
--- the sets with bit 31 set where h holds
-pub record Noted (sets : ℕ) (h : Bool) (v : ℕ) : Type 0 where
-  pub at : (i : ℕ) → bit v i ≡ (bit sets i || (h && eqb 31 i))
+-- counts whose types, and whose pairs of a role and a user, have room in a plan
+pub record PlanCounts (n : Counts) : Type 0 where
+  pub countable : Countable n
+  pub types : n .types < typeEntries
+  pub roles : n .roles ≤ 15
+  pub users : n .users ≤ 15
 
--- v has the σ sets that x is in, and in bit 31 whether x meets ρ and μ
-pub record Known (p : Policy) (g : Goal) (x : Context) (v : ℕ) : Type 0 where
-  pub sets : ContextSets g x (v % 32768)
-  pub holds : bit v 31 ≡ meetsρμ p x
+-- v has the role of the pair i alone, where its user may hold it, and else nothing
+pub record HolderOf (p : Policy) (n : Counts) (i v : ℕ) : Type 0 where
+  pub at : (r : ℕ) → bit v r ≡ (μ p (userAt n i) r && eqb (roleAt n i) r)
+
+-- by type the roles that may hold it, and by pair the role that its user may hold
+pub record Holding (p : Policy) (n : Counts) (plan : List ℕ) : Type 0 where
+  pub roles : (t r : ℕ) → t < typeEntries → bit (rolesAt plan t) r ≡ ρ p r t
+  pub holders : (i : ℕ) → i < pairCount n → HolderOf p n i (holdersAt plan i)
+
+-- v has the σ sets that records give which name no type, to the contexts of the pair i
+abbrev pub PairSets : Goal → Counts → ℕ → ℕ → Type 0
+PairSets g n i v = ContextSets g (contextAt 0 (roleAt n i) (userAt n i)) v
+
+-- by type and by pair the σ sets of records that name no more, and the lists of those that name a type together with a role or a user
+pub record Sorting (g : Goal) (n : Counts) (plan : List ℕ) : Type 0 where
+  pub types : (t : ℕ) → Within 1 (n .types) t → ContextSets g (contextAt t 0 0) (typeSetsAt plan t)
+  pub pairs : (i : ℕ) → i < pairCount n → PairSets g n i (pairSetsAt plan i)
+  pub lists : AllLinked g plan
+
+-- they are put into the list old, and what is below is as it was
+pub record ContextsPut (s g : List ℕ) (n : Counts) (old plan : List ℕ) : Type 0 where
+  pub held : Holding (policyOf s) n plan
+  pub sets : Sorting (goalOf g) n plan
+  pub below : (i : ℕ) → i < rolesStart → getD plan i 0 ≡ getD old i 0
 
 -- what the plan says of the policy s, whatever the goal
 pub record PolicyPlan (s : List ℕ) (n : Counts) (plan : List ℕ) : Type 0 where
-  pub size : 34560 + contextCount n ≤ length plan
+  pub size : planEntries ≤ length plan
+  pub counts : PlanCounts n
   pub tables : Tabled (policyOf s) plan
   pub index : Blocks (policyOf s) plan
   pub guards : (t : ℕ) → Within 1 (policyOf s .counts .types) t → GuardsOf plan (firstAt plan t) (firstAt plan (t + 1)) (guardsAt plan t)
   pub leads : (t j : ℕ) → Within 1 (policyOf s .counts .types) t → firstAt plan t ≤ j → j < firstAt plan (t + 1) → Leads (policyOf s) plan j
-  pub meets : (y : ℕ) → y < contextCount n → bit (contextsAt plan y) 31 ≡ meetsρμ (policyOf s) (contextAtIndex n y)
+  pub held : Holding (policyOf s) n plan
 
 -- .. and of the goal g, for contexts and events of a policy with the counts n
 pub record GoalPlan (g : List ℕ) (n : Counts) (plan : List ℕ) : Type 0 where
-  pub size : 34560 + contextCount n ≤ length plan
+  pub size : planEntries ≤ length plan
+  pub counts : PlanCounts n
+  pub sound : SoundGoal g
   pub events : (e : ℕ) → 32 ≤ e → e < 32 * (n .classes + 1) → EventSets (goalOf g) (eventOf e) (eventsAt plan e)
-  pub contexts : (y : ℕ) → y < contextCount n → ContextSets (goalOf g) (contextAtIndex n y) (contextsAt plan y % 32768)
+  pub sets : Sorting (goalOf g) n plan
 
 -- the plan of the policy s and the goal g
 pub record Planned (s g : List ℕ) (n : Counts) (plan : List ℕ) : Type 0 where

@@ -1,29 +1,24 @@
--- What holds of the σ sets of a goal for all contexts of a type.
-use Prim.Native.Nat.{ℕ, _≤_, _<_}
-use mathlib.Core.Path.{_≡_}
-use mathlib.Core.Bool.{true}
-use Rattle.context.specs.declared.Context.{Context}
-use Rattle.context.specs.Codes.{contextAt}
-use Rattle.goal_image.specs.declared.records.ContextRecord.{ContextRecord}
-use Rattle.goal_image.specs.Goal.{Goal, isContextChain}
-use Rattle.goal_image.specs.Sets.{fits, contextIn}
-use Rattle.goal_image.specs.inner.Memberships.{ContextSets}
-use Rattle.plan.specs.declared.types.TypeSets.{TypeSets}
+-- The contexts of a type: their places are one block for each type, and within it by the pair of a role and a user.
+use Prim.Native.Nat.{ℕ, _+_, _-_, _*_, _/_, _%_, _≤_, _<_}
+use Rattle.base.specs.Ranges.{Within}
+use Rattle.policy_image.specs.declared.counts.Counts.{Counts}
 
--- where the record fits the type, it names no role and no user
-pub record NamesLess (r : ContextRecord) (ty : ℕ) : Type 0 where
-  pub role : fits (r .ty) ty ≡ true → r .role ≡ 0
-  pub user : fits (r .ty) ty ≡ true → r .user ≡ 0
+-- the place of the first context of the type o
+abbrev pub startOf : Counts → ℕ → ℕ
+startOf n o = (o - 1) * n .roles * n .users
 
--- whether a context of the type is in the set of chain h does not depend on its role and user
-pub record ByType (g : Goal) (ty h : ℕ) : Type 0 where
-  pub same : (x : Context) → x .ty ≡ ty → contextIn g h x ≡ contextIn g h (contextAt ty 0 0)
+-- how many pairs of a role and a user there are, and role and user of the pair i
+abbrev pub pairCount : Counts → ℕ
+pairCount n = n .roles * n .users
 
--- .. for the σ chains from a to below b
-pub record AllByType (g : Goal) (ty a b : ℕ) : Type 0 where
-  pub chains : (h : ℕ) → a ≤ h → h < b → isContextChain h ≡ true → ByType g ty h
+abbrev pub roleAt : Counts → ℕ → ℕ
+roleAt n i = i / n .users + 1
 
--- t tells of the type, and where it tells of all its contexts, its sets are those of each
-pub record SetsOfType (g : Goal) (ty : ℕ) (t : TypeSets) : Type 0 where
-  pub own : t .ty ≡ ty
-  pub of : t .all ≡ true → (x : Context) → x .ty ≡ ty → ContextSets g x (t .sets)
+abbrev pub userAt : Counts → ℕ → ℕ
+userAt n i = i % n .users + 1
+
+-- y is the place of a context of the type o
+pub record OfType (n : Counts) (o y : ℕ) : Type 0 where
+  pub type : Within 1 (n .types) o
+  pub low : startOf n o ≤ y
+  pub high : y < startOf n (o + 1)

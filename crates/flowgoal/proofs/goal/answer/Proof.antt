@@ -1,5 +1,5 @@
 use native.Mathlib.Omega.{arith}
-use Rattle.flowgoal.proofs.AnswerLaws.{passed-task, plan-room}
+use Rattle.flowgoal.proofs.AnswerLaws.{passed-task}
 use borrow.Author.Needs.{needs}
 use Rattle.flowgoal.proofs.goal.answer.Statement.{statement}
 use Rattle.flowgoal.proofs.goal.answer.Tie as tie
@@ -11,7 +11,7 @@ make-plan-requires : tie.Need-make-plan-requires
 make-plan-requires c κs =
     let s = c .before .before .before .before .before .before in
     let A = passed-task (s .pre) in
-    (A .given .ready, A .given .goal, omega (arith, plan-room (s .pre)))
+    (A .given .ready, A .given .goal, omega arith)
 
 slice-aggregate-answer-by : tie.Need-slice-aggregate-answer-by
 slice-aggregate-answer-by c = search needs

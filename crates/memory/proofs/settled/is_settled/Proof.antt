@@ -1,14 +1,10 @@
-use Prim.Native.Nat.{ℕ, _+_, _≤_}
 use mathlib.Core.Logic.{inl, inr}
 use borrow.Author.Tests.{not-true}
-use Rattle.nodes.proofs.TypeLaws.{type-few, start-le}
+use Rattle.plan.proofs.TypeLaws.{type-few}
 use Rattle.memory.proofs.SettledLaws.{settled-at}
 use native.Mathlib.Omega.{arith}
 use Rattle.memory.proofs.settled.is_settled.Statement.{statement}
 use Rattle.memory.proofs.settled.is_settled.Tie as tie
-
-suc-le : {a b : ℕ} → a ≤ b → a + 1 ≤ b + 1
-suc-le h = omega arith
 
 returns : tie.Need-returns
 returns c = λ _. inl (not-true _ (c .if1 .taken))
@@ -23,7 +19,7 @@ first-place-requires-2 : tie.Need-first-place-requires-2
 first-place-requires-2 c κs = let A = c .before .before .before .before .before .before .pre in (A .0 .legs .countable, omega arith, let h = A .4 .high in omega arith)
 
 all-entered-requires : tie.Need-all-entered-requires
-all-entered-requires c κs = let A = c .before .before .before .before .before .before .before .pre in (A .0, A .1, A .2, A .3, let h = A .4 .high in omega (arith, c .first-place2 .ensures, start-le (A .0 .legs .countable) _ (suc-le h)))
+all-entered-requires c κs = let A = c .before .before .before .before .before .before .before .pre in (A .0, A .1, A .2, A .3, A .4, c .before .first-place .ensures, c .first-place2 .ensures)
 
 returns-2 : tie.Need-returns-2
 returns-2 c = λ t. inr (settled-at (c .before .before .first-place .ensures) (c .before .first-place2 .ensures) (c .all-entered .ensures t))

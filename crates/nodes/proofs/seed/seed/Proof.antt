@@ -1,5 +1,6 @@
 use Rattle.nodes.proofs.SeedLaws.{Sowing, nodes-of, nodes-few, roomy, sow-begin, sow-skip, sow-below, sow-room, sow-enter, sow-end, opened, skipped, sow-broken}
 use Rattle.plan.specs.inner.Plan.{Planned}
+use Rattle.plan.proofs.TypeLaws.{own-place}
 use lib.ListN.{length, length-set}
 use Prim.Native.Nat.{_-_}
 use mathlib.Core.Logic.{⊎-elim}
@@ -30,8 +31,11 @@ clear-requires c κs = omega (arith, nodes-of (c .before .before .before .before
 loop-holds : tie.Need-loop-holds Inv-loop μ-loop
 loop-holds c = let room = roomy (c .before .before .before .before .before .before .before .before .before .before .before .pre .0) (c .before .before .before .before .before .before .before .before .before .before .before .pre .2) in (refl, refl, c .before .before .before .before .before .before .before .before .before .before .before .pre .1, sow-begin (c .before .before .before .before .before .before .before .before .before .before .before .args .mode) (c .before .before .before .before .before .before .before .before .before .before .before .pre .0) (c .before .before .before .before .before .count .ensures) (nodes-of (c .before .before .before .before .before .before .before .before .before .before .before .pre .0) (c .before .before .before .before .before .count .ensures) (c .before .before .before .before .states-of .ensures)) (omega (arith, room .1)) (room .0) (c .before .before .clear .ensures))
 
+at-requires : tie.Need-at-requires Inv-loop μ-loop
+at-requires c κs = let i = c .before .loop .inv .3 in (i .task .legs .countable, omega (arith, i .contexts))
+
 start-at-requires : tie.Need-start-at-requires Inv-loop μ-loop
-start-at-requires c κs = let i = c .before .loop .inv .3 in (i .task, c .before .loop .inv .2, omega (arith, i .contexts))
+start-at-requires c κs = let i = c .before .before .loop .inv .3 in (i .task, c .before .before .loop .inv .2, own-place (i .task .legs .countable) (omega (arith, i .contexts)) (c .at .ensures))
 
 enum-told : tie.Need-enum-told Inv-loop μ-loop
 enum-told c = search needs
@@ -43,7 +47,7 @@ same-length-2 : tie.Need-same-length-2 Inv-loop μ-loop
 same-length-2 c = omega arith
 
 returns : tie.Need-returns Inv-loop μ-loop
-returns c = sow-broken (c .before .before .before .before .loop .inv .3) (c .before .before .start-at .result) (c .before .before .start-at .ensures) (c .before .before .before .loop-test .taken) (c .enum-told .given .1)
+returns c = sow-broken (c .before .before .before .before .before .loop .inv .3) (c .before .before .start-at .result) (c .before .before .start-at .ensures) (c .before .before .before .before .loop-test .taken) (c .enum-told .given .1)
 
 enum-told-2 : tie.Need-enum-told-2 Inv-loop μ-loop
 enum-told-2 c = search needs
@@ -61,13 +65,13 @@ mul-back : tie.Need-mul-back Inv-loop μ-loop
 mul-back c = omega arith
 
 slice-write-back : tie.Need-slice-write-back Inv-loop μ-loop
-slice-write-back c = let i = c .before .before .before .before .before .loop .inv .3 in omega (arith, sow-below i (c .before .before .before .before .loop-test .taken) (opened i (c .before .before .before .start-at .result) (c .before .before .before .start-at .ensures) (c .before .v .given .1)))
+slice-write-back c = let i = c .before .before .before .before .before .before .loop .inv .3 in omega (arith, sow-below i (c .before .before .before .before .before .loop-test .taken) (opened i (c .before .before .before .start-at .result) (c .before .before .before .start-at .ensures) (c .before .v .given .1)))
 
 mul-queue : tie.Need-mul-queue Inv-loop μ-loop
 mul-queue c = omega arith
 
 slice-write-queue : tie.Need-slice-write-queue Inv-loop μ-loop
-slice-write-queue c = let i = c .before .before .before .before .before .loop .inv .3 in omega (arith, sow-room i (c .before .before .before .before .loop-test .taken) (opened i (c .before .before .before .start-at .result) (c .before .before .before .start-at .ensures) (c .before .v .given .1)))
+slice-write-queue c = let i = c .before .before .before .before .before .before .loop .inv .3 in omega (arith, sow-room i (c .before .before .before .before .before .loop-test .taken) (opened i (c .before .before .before .start-at .result) (c .before .before .before .start-at .ensures) (c .before .v .given .1)))
 
 add-tail : tie.Need-add-tail Inv-loop μ-loop
 add-tail c = omega arith
@@ -79,8 +83,8 @@ loop-less : tie.Need-loop-less Inv-loop μ-loop
 loop-less c = omega arith
 
 loop-again : tie.Need-loop-again Inv-loop μ-loop
-loop-again c = let i = c .before .before .before .loop .inv in
-    let y = c .before .before .loop-test .taken in
+loop-again c = let i = c .before .before .before .before .loop .inv in
+    let y = c .before .before .before .loop-test .taken in
     let z = c .before .start-at .ensures in
     ⊎-elim
     (λ w. rw (w .2, w .3, w .4) (i .0, i .1, i .2, sow-skip (i .3) y (skipped (i .3) (c .before .start-at .result) z (w .1 .given .1))))
@@ -107,6 +111,7 @@ seed-spec =
     mul-nodes
     clear-requires
     loop-holds
+    at-requires
     start-at-requires
     enum-told
     same-length

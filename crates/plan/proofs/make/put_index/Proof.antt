@@ -4,11 +4,8 @@ use borrow.Author.Needs.{needs}
 use Rattle.plan.proofs.make.put_index.Statement.{statement}
 use Rattle.plan.proofs.make.put_index.Tie as tie
 
-domain-table-requires : tie.Need-domain-table-requires
-domain-table-requires c κs = c .before .before .pre .0 .sound
-
 gamma-masks-requires : tie.Need-gamma-masks-requires
-gamma-masks-requires c κs = c .before .before .before .pre .0 .sound
+gamma-masks-requires c κs = c .before .before .pre .0 .sound
 
 slice-aggregate-index : tie.Need-slice-aggregate-index
 slice-aggregate-index c = search needs
@@ -35,7 +32,7 @@ slice-aggregate-index-8 : tie.Need-slice-aggregate-index-8
 slice-aggregate-index-8 c = search needs
 
 index-requires : tie.Need-index-requires
-index-requires c κs = let R = c .before .before .before .before .before .before .before .before .before .before .before .before .before .before .pre .0 in let few = R .sound .exact .few in ((R .sound, counted R), ((c .before .before .before .before .before .before .before .before .before .before .before .domain-table .ensures, c .before .before .before .before .before .before .before .before .before .before .gamma-masks .ensures), (record { src-size = omega arith; dst-size = omega arith; class-size = omega arith; mask-size = omega arith }, record { first-size = omega (arith, types-few R); keys-size = omega arith; keys-few = omega arith; towards-size = omega arith; from-size = omega arith })))
+index-requires c κs = let R = c .before .before .before .before .before .before .before .before .before .before .before .before .pre .0 in let few = R .sound .exact .few in ((R .sound, counted R), ((c .before .before .before .before .before .before .before .before .before .before .before .before .pre .1, c .before .before .before .before .before .before .before .before .before .gamma-masks .ensures), (record { src-size = omega arith; dst-size = omega arith; class-size = omega arith; mask-size = omega arith }, record { first-size = omega (arith, types-few R); keys-size = omega arith; keys-few = omega arith; towards-size = omega arith; from-size = omega arith })))
 
 slice-aggregate-put-blocks : tie.Need-slice-aggregate-put-blocks
 slice-aggregate-put-blocks c = search needs
@@ -50,7 +47,7 @@ slice-aggregate-put-blocks-4 : tie.Need-slice-aggregate-put-blocks-4
 slice-aggregate-put-blocks-4 c = search needs
 
 put-blocks-requires : tie.Need-put-blocks-requires
-put-blocks-requires c κs = (c .before .before .before .before .before .before .before .before .before .before .before .before .before .before .before .before .before .before .before .before .before .before .before .before .before .before .before .before .pre .0, c .before .before .before .before .before .before .before .before .before .before .before .before .before .index .ensures, record { first-size = omega arith; keys-size = omega arith; towards-size = omega arith; from-size = omega arith }, omega (arith, c .before .before .before .before .before .before .before .before .before .before .before .before .before .before .before .before .before .before .before .before .before .before .before .before .before .before .before .before .pre .1))
+put-blocks-requires c κs = (c .before .before .before .before .before .before .before .before .before .before .before .before .before .before .before .before .before .before .before .before .before .before .before .before .before .before .pre .0, c .before .before .before .before .before .before .before .before .before .before .before .before .before .index .ensures, record { first-size = omega arith; keys-size = omega arith; towards-size = omega arith; from-size = omega arith }, omega (arith, c .before .before .before .before .before .before .before .before .before .before .before .before .before .before .before .before .before .before .before .before .before .before .before .before .before .before .pre .2))
 
 same-length : tie.Need-same-length
 same-length c = search needs
@@ -62,7 +59,6 @@ pub put-index-spec : {M : Type 1} → statement M
 put-index-spec =
     tie.close
     (tie.spec
-    domain-table-requires
     gamma-masks-requires
     slice-aggregate-index
     slice-aggregate-index-2

@@ -1,4 +1,5 @@
-use Rattle.memory.proofs.LoopLaws.{Middle, Inner, node-below, asks-same, marks-same, middle-begin, middle-end, middle-spent, event-few, other-few, type-low, type-high, inner-begin, inner-key, of-event, inner-swept, inner-end, inner-place, inner-fits, inner-facing, inner-skip, inner-unheld, inner-below, inner-entered, inner-seen, inner-dropped, inner-broken, inner-next}
+use Rattle.plan.proofs.TypeLaws.{own-place}
+use Rattle.memory.proofs.LoopLaws.{Middle, Inner, node-below, asks-same, marks-same, middle-begin, middle-end, middle-spent, event-few, other-few, type-low, type-high, inner-begin, inner-key, of-event, inner-swept, inner-end, inner-type, inner-fits, inner-facing, inner-skip, inner-unheld, inner-below, inner-entered, inner-seen, inner-dropped, inner-broken, inner-next}
 use Rattle.memory.proofs.StandLaws.{Around, around, at-place, stand, own-few, state-few, asker-of}
 use Rattle.memory.proofs.MemoryLaws.{memory-begin, memory-keep}
 use Rattle.nodes.proofs.ArrivalLaws.{later}
@@ -8,13 +9,17 @@ use Rattle.nodes.specs.inner.Tasks.{graphOf}
 use Rattle.nodes.specs.inner.State.{Inv}
 use Rattle.plan.specs.inner.Plan.{Planned}
 use lib.ListN.{length, length-set}
-use Prim.Native.Nat.{_-_}
+use Prim.Native.Nat.{ℕ, _+_, _-_, _<_}
 use mathlib.Core.Logic.{⊎-elim}
 use mathlib.Core.Path.{_≡_, refl, _∙_}
 use native.Mathlib.Omega.{arith}
 use borrow.Author.Needs.{needs}
 use Rattle.search.proofs.levels.search_levels.Statement.{statement}
 use Rattle.search.proofs.levels.search_levels.Tie as tie
+
+-- the places of a type are gone through one by one; apart, since `omega` reads all that is known where it is asked
+less : {y end : ℕ} → y < end → end - (y + 1) < end - y
+less h = omega arith
 
 abbrev Inv-loop2 : tie.InvT-loop2
 Inv-loop2 policy goal counts plan legs mode seeded queue₀ back₀ states keeps swept spent tail₀ head level-end depth u place state x own asks is-spent a offer e ty by guarded end y₀ queue back tail y = (length queue ≡ length queue₀) × (length back ≡ length back₀) × Inner policy goal counts plan legs mode states back queue head tail level-end depth u x state swept spent a offer guarded end y
@@ -68,7 +73,7 @@ cast-own c = omega arith
 
 is-asked-requires :
     tie.Need-is-asked-requires Inv-loop2 μ-loop2 Inv-loop μ-loop Inv-search μ-search
-is-asked-requires c κs = let i = c .before .before .before .before .before .search .inv in (i .3, at-place _ (i .2) (node-below (i .6) (c .before .before .before .before .if1 .left)))
+is-asked-requires c κs = let i = c .before .before .before .before .before .search .inv in (i .3, own-place (i .2 .task .legs .countable) (at-place _ (i .2) (node-below (i .6) (c .before .before .before .before .if1 .left))) (c .before .at .ensures))
 
 mul-has-member : tie.Need-mul-has-member Inv-loop2 μ-loop2 Inv-loop μ-loop Inv-search μ-search
 mul-has-member c = let i = c .before .before .before .before .before .before .search .inv in let lu = node-below (i .6) (c .before .before .before .before .before .if1 .left) in let S = stand _ (i .2) lu (c .before .before .at .ensures) in omega (arith, own-few (i .2) S)
@@ -130,13 +135,13 @@ loop2-holds : tie.Need-loop2-holds Inv-loop2 μ-loop2 Inv-loop μ-loop Inv-searc
 loop2-holds c = (refl, refl, inner-begin (c .before .before .before .before .before .before .before .before .loop .inv .2) (c .before .before .before .before .before .before .if3 .taken) (c .before .before .is-special .ensures) (c .before .first-place .ensures) (c .first-place2 .ensures))
 
 is-held-requires : tie.Need-is-held-requires Inv-loop2 μ-loop2 Inv-loop μ-loop Inv-search μ-search
-is-held-requires c κs = let I = c .before .loop2 .inv .2 in (I .planned .policy, inner-place I (c .loop2-test .taken))
+is-held-requires c κs = let I = c .before .loop2 .inv .2 in (I .planned .policy, inner-type I (c .loop2-test .taken))
 
 add-y : tie.Need-add-y Inv-loop2 μ-loop2 Inv-loop μ-loop Inv-search μ-search
 add-y c = record { fits = inner-fits (c .before .before .before .loop2 .inv .2) (c .before .before .loop2-test .taken) }
 
 loop2-less : tie.Need-loop2-less Inv-loop2 μ-loop2 Inv-loop μ-loop Inv-search μ-search
-loop2-less c = omega arith
+loop2-less c = less (c .before .before .loop2-test .taken)
 
 loop2-again : tie.Need-loop2-again Inv-loop2 μ-loop2 Inv-loop μ-loop Inv-search μ-search
 loop2-again c =
@@ -145,14 +150,14 @@ loop2-again c =
     (i .0, i .1, inner-next (i .2) h (i .2 .memory) (inner-unheld (i .2) h (c .before .is-held .ensures) (c .if4 .taken)))
 
 arrive-requires : tie.Need-arrive-requires Inv-loop2 μ-loop2 Inv-loop μ-loop Inv-search μ-search
-arrive-requires c κs = let I = c .before .before .before .loop2 .inv .2 in (I .fixed .task .legs, I .planned .goal, inner-place I (c .before .before .loop2-test .taken))
+arrive-requires c κs = let I = c .before .before .before .loop2 .inv .2 in (I .fixed .task .legs, I .planned .goal, inner-type I (c .before .before .loop2-test .taken))
 
 enum-known-v : tie.Need-enum-known-v Inv-loop2 μ-loop2 Inv-loop μ-loop Inv-search μ-search
 enum-known-v c = search needs
 
 is-target-requires :
     tie.Need-is-target-requires Inv-loop2 μ-loop2 Inv-loop μ-loop Inv-search μ-search
-is-target-requires c κs = let I = c .before .before .before .before .before .before .before .loop2 .inv .2 in let h = c .before .before .before .before .before .before .loop2-test .taken in (I .fixed .task .given .ready, I .planned .policy, I .stands .range, inner-place I h, inner-facing I h)
+is-target-requires c κs = let I = c .before .before .before .before .before .before .before .loop2 .inv .2 in let h = c .before .before .before .before .before .before .loop2-test .taken in (I .fixed .task .given .ready, I .planned .policy, I .stands .range, inner-type I h, inner-facing I h)
 
 enum-told : tie.Need-enum-told Inv-loop2 μ-loop2 Inv-loop μ-loop Inv-search μ-search
 enum-told c = search needs
@@ -171,7 +176,7 @@ slice-read-if6 c = omega (arith, inner-below (c .before .before .before .before 
 
 is-target-requires-2 :
     tie.Need-is-target-requires-2 Inv-loop2 μ-loop2 Inv-loop μ-loop Inv-search μ-search
-is-target-requires-2 c κs = let I = c .before .before .before .before .before .before .before .before .before .loop2 .inv .2 in let h = c .before .before .before .before .before .before .before .before .loop2-test .taken in (I .fixed .task .given .ready, I .planned .policy, I .stands .range, inner-place I h, inner-facing I h)
+is-target-requires-2 c κs = let I = c .before .before .before .before .before .before .before .before .before .loop2 .inv .2 in let h = c .before .before .before .before .before .before .before .before .loop2-test .taken in (I .fixed .task .given .ready, I .planned .policy, I .stands .range, inner-type I h, inner-facing I h)
 
 add-back : tie.Need-add-back Inv-loop2 μ-loop2 Inv-loop μ-loop Inv-search μ-search
 add-back c = let I = c .before .before .before .before .before .before .before .before .before .before .before .loop2 .inv .2 in omega (arith, chain-bound (turn-chain (I .turn)), I .fixed .nodes)
@@ -196,7 +201,7 @@ add-y-2 : tie.Need-add-y-2 Inv-loop2 μ-loop2 Inv-loop μ-loop Inv-search μ-sea
 add-y-2 c = record { fits = inner-fits (c .before .before .before .before .before .loop2 .inv .2) (c .before .before .before .before .loop2-test .taken) }
 
 loop2-less-2 : tie.Need-loop2-less-2 Inv-loop2 μ-loop2 Inv-loop μ-loop Inv-search μ-search
-loop2-less-2 c = omega arith
+loop2-less-2 c = less (c .before .before .before .before .loop2-test .taken)
 
 loop2-again-2 : tie.Need-loop2-again-2 Inv-loop2 μ-loop2 Inv-loop μ-loop Inv-search μ-search
 loop2-again-2 c = let i = c .before .before .before .before .before .loop2 .inv in

@@ -5,6 +5,7 @@ use Rattle.steps.proofs.FlowLaws.{no-flow}
 use Rattle.access.specs.Authorization.{flow}
 use Rattle.context.proofs.PlaceLaws.{at-in-range}
 use Rattle.context.specs.Codes.{eventOf}
+use Rattle.plan.proofs.TypeLaws.{of-below}
 use borrow.Author.Tests.{not-true, not-false}
 use Rattle.steps.proofs.targets.is_target.Statement.{statement}
 use Rattle.steps.proofs.targets.is_target.Tie as tie
@@ -23,7 +24,7 @@ returns-2 c =
     sym (plain-flow (s .args .x) _ (s .pre .4 .meets) (sym (c .before .before .is-held .ensures) ∙ not-false _ (c .before .if1 .left)) (s .pre .4 .offering) (sym (s .pre .4 .conditions) ∙ not-true _ (c .if2 .taken)))
 
 at-requires : tie.Need-at-requires
-at-requires c κs = (c .before .before .before .before .before .pre .0 .countable, c .before .before .before .before .before .pre .3)
+at-requires c κs = let s = c .before .before .before .before .before in (s .pre .0 .countable, of-below (s .pre .0 .countable) (s .pre .3))
 
 flows-by-requires : tie.Need-flows-by-requires
 flows-by-requires c κs =
@@ -32,7 +33,7 @@ flows-by-requires c κs =
       s .pre .0,
       s .pre .1,
       s .pre .2,
-      at-in-range (s .args .counts) (s .args .y) (s .pre .0 .countable .roles) (s .pre .0 .countable .users) (s .pre .3),
+      at-in-range (s .args .counts) (s .args .y) (s .pre .0 .countable .roles) (s .pre .0 .countable .users) (of-below (s .pre .0 .countable) (s .pre .3)),
       s .pre .4 .meets,
       sym (c .before .before .before .is-held .ensures) ∙ not-false _ (c .before .before .if1 .left),
       s .pre .4 .offering,

@@ -1,6 +1,7 @@
 use mathlib.Core.Path.{refl}
 use native.Mathlib.Omega.{arith}
 use borrow.Author.Needs.{needs}
+use Rattle.plan.proofs.TypeLaws.{own-place}
 use Rattle.witness.proofs.StepLaws.{from-below, to-below, from-range, event-high, event-sets, facing, no-event, no-flow, no-drop, no-break, decided}
 use Rattle.witness.proofs.step.is_step.Statement.{statement}
 use Rattle.witness.proofs.step.is_step.Tie as tie
@@ -41,27 +42,33 @@ at-requires c κs =
 div-y : tie.Need-div-y
 div-y c = search needs
 
+at-requires-2 : tie.Need-at-requires-2
+at-requires-2 c κs =
+    let t = c .before .before .before .before in
+    let s = t .before .before .before .before in
+    (s .pre .0 .legs .countable, to-below (s .pre .0) (s .args .mode) (s .pre .2) (t .states-of .ensures))
+
 is-special-requires : tie.Need-is-special-requires
 is-special-requires c κs =
-    let s = c .before .before .before .before .before .before .before .before in
+    let s = c .before .before .before .before .before .before .before .before .before in
     (s .pre .1 .policy, event-high (s .pre .0) (s .pre .3))
 
 is-target-requires : tie.Need-is-target-requires
 is-target-requires c κs =
-    let a = c .before in
+    let a = c .before .before in
     let t = a .before .before .before .before in
     let s = t .before .before .before .before in (
       s .pre .0 .given .ready,
       s .pre .1 .policy,
       from-range (s .pre .0) (s .args .mode) (s .pre .2) (t .states-of .ensures) (a .at .ensures),
-      to-below (s .pre .0) (s .args .mode) (s .pre .2) (t .states-of .ensures),
+      own-place (s .pre .0 .legs .countable) (to-below (s .pre .0) (s .args .mode) (s .pre .2) (t .states-of .ensures)) (c .before .at2 .ensures),
       facing (s .pre .0) (s .args .mode) (s .pre .2) (t .states-of .ensures) (a .at .ensures) (s .pre .3) (c .is-special .ensures),
     )
 
 returns-2 : tie.Need-returns-2
 returns-2 c =
     let f = c .before in
-    let a = f .before .before in
+    let a = f .before .before .before in
     let t = a .before .before .before .before in
     let s = t .before .before .before .before in
     no-flow (s .pre .0) (s .args .mode) (s .pre .2) (t .states-of .ensures) (a .at .ensures) (s .args .e) (event-sets (s .pre .0) (s .pre .1) (s .pre .3)) refl (f .is-target .ensures) (c .if2 .taken)
@@ -71,9 +78,9 @@ rem-arrive c = search needs
 
 arrive-requires : tie.Need-arrive-requires
 arrive-requires c κs =
-    let t = c .before .before .before .before .before .before .before in
+    let t = c .before .before .before .before .before .before .before .before in
     let s = t .before .before .before .before in
-    (s .pre .0 .legs, s .pre .1 .goal, to-below (s .pre .0) (s .args .mode) (s .pre .2) (t .states-of .ensures))
+    (s .pre .0 .legs, s .pre .1 .goal, own-place (s .pre .0 .legs .countable) (to-below (s .pre .0) (s .args .mode) (s .pre .2) (t .states-of .ensures)) (c .before .before .before .at2 .ensures))
 
 enum-known-v : tie.Need-enum-known-v
 enum-known-v c = search needs
@@ -88,7 +95,7 @@ returns-3 : tie.Need-returns-3
 returns-3 c =
     let r = c .before .before .before in
     let f = r .before .before in
-    let a = f .before .before in
+    let a = f .before .before .before in
     let b = a .before .before in
     let t = b .before .before in
     let s = t .before .before .before .before in
@@ -97,7 +104,7 @@ returns-3 c =
 returns-4 : tie.Need-returns-4
 returns-4 c =
     let r = c .before .before in
-    let a = r .before .before .before .before in
+    let a = r .before .before .before .before .before in
     let t = a .before .before .before .before in
     let s = t .before .before .before .before in
     no-drop (s .pre .0) (s .args .mode) (s .pre .2) (t .states-of .ensures) (a .at .ensures) (s .args .e) (event-sets (s .pre .0) (s .pre .1) (s .pre .3)) (r .arrive .result) (r .arrive .ensures) (c .enum-told .given .1)
@@ -105,7 +112,7 @@ returns-4 c =
 returns-5 : tie.Need-returns-5
 returns-5 c =
     let r = c .before .before in
-    let a = r .before .before .before .before in
+    let a = r .before .before .before .before .before in
     let t = a .before .before .before .before in
     let s = t .before .before .before .before in
     no-break (s .pre .0) (s .args .mode) (s .pre .2) (t .states-of .ensures) (a .at .ensures) (s .args .e) (event-sets (s .pre .0) (s .pre .1) (s .pre .3)) (r .arrive .result) (r .arrive .ensures) (c .enum-told2 .given .1)
@@ -123,6 +130,7 @@ is-step-spec =
     div-at
     at-requires
     div-y
+    at-requires-2
     is-special-requires
     is-target-requires
     returns-2

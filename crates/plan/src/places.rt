@@ -3,7 +3,7 @@ use policy_image::counts::Counts;
 ghost use mathlib.Core.Path.{_≡_};
 ghost use Prim.Native.Nat.{_+_, _≤_};
 ghost use Rattle.context.specs.inner.Places.{Countable};
-ghost use Rattle.nodes.specs.inner.Blocks.{startOf};
+ghost use Rattle.plan.specs.inner.Types.{startOf};
 
 // The place of the first context of a type.
 pub fn first_place(counts: Counts, ty: u32) -> u32

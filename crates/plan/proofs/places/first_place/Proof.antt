@@ -1,8 +1,8 @@
-use Rattle.nodes.proofs.TypeLaws.{roles-few, start-few}
+use Rattle.plan.proofs.TypeLaws.{roles-few, start-few}
 use native.Mathlib.Omega.{arith}
 use borrow.Author.Needs.{needs}
-use Rattle.nodes.proofs.places.first_place.Statement.{statement}
-use Rattle.nodes.proofs.places.first_place.Tie as tie
+use Rattle.plan.proofs.places.first_place.Statement.{statement}
+use Rattle.plan.proofs.places.first_place.Tie as tie
 
 sub-result : tie.Need-sub-result
 sub-result c = omega (arith, c .pre .1)

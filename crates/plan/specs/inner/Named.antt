@@ -1,0 +1,72 @@
+-- The records of a goal that name a type together with a role or a user, and the lists that a plan has of them.
+use Prim.Native.Nat.{ℕ, suc, _≤_, _<_}
+use mathlib.Core.Path.{_≡_}
+use mathlib.Core.Bool.{Bool, true, _&&_}
+use mathlib.Core.List.{List}
+use lib.Dec.{eqb}
+use lib.ListN.{getD}
+use Rattle.base.specs.Bits.{bit}
+use Rattle.base.specs.Chain.{OnChain}
+use Rattle.context.specs.declared.Context.{Context}
+use Rattle.goal_image.specs.declared.records.ContextRecord.{ContextRecord}
+use Rattle.goal_image.specs.Goal.{Goal, goalLinks, isContextChain}
+use Rattle.goal_image.specs.Sets.{along, matchesContext}
+use Rattle.tables.specs.inner.Tables.{typeEntries}
+use Rattle.plan.specs.inner.Regions.{namedStart, namedAt, linkAt, marksAt}
+
+-- the record names a type of a plan, and a role or a user with it
+pub record NamesBoth (r : ContextRecord) : Type 0 where
+  pub some-type : 1 ≤ r .ty
+  pub few : r .ty < typeEntries
+  pub more : r .role ≡ 0 → r .user ≡ 0 → ⊥
+
+-- whether record k is on chain h
+unfoldable pub onChain : Goal → ℕ → ℕ → Bool
+onChain g k h = along (goalLinks g) (λ i. eqb i k) (g .size) (g .head h)
+
+-- bit h of m says whether record k is on the σ chain h, and no other bit is set
+pub record MarksOf (g : Goal) (k m : ℕ) : Type 0 where
+  pub at : (h : ℕ) → bit m h ≡ (isContextChain h && onChain g k h)
+
+-- record k is on a σ chain, and names the type t and a role or a user with it
+pub record Named (g : Goal) (t k : ℕ) : Type 0 where
+  pub low : 1 ≤ k
+  pub high : k ≤ g .size
+  pub type : g .context k .ty ≡ t
+  pub both : NamesBoth (g .context k)
+  pub marked : MarksOf g k 0 → ⊥
+
+-- of the numbers from 1 to below a with K, b is the last, or 0 where there is none
+pub record Last (K : ℕ → Type 0) (a b : ℕ) : Type 0 where
+  pub low : b < a
+  pub is : (b ≡ 0 → ⊥) → K b
+  pub none : (j : ℕ) → b < j → j < a → K j → ⊥
+
+-- the lists of the types have the records below a, the last first
+pub record Links (g : Goal) (plan : List ℕ) (a : ℕ) : Type 0 where
+  pub heads : (t : ℕ) → t < typeEntries → Last (Named g t) a (namedAt plan t)
+  pub links : (t k : ℕ) → k < a → Named g t k → Last (Named g t) k (linkAt plan k)
+  pub marks : (t k : ℕ) → k < a → Named g t k → MarksOf g k (marksAt plan k)
+
+abbrev pub AllLinked : Goal → List ℕ → Type 0
+AllLinked g plan = Links g plan (suc (g .size))
+
+-- they are put into the list old, and what is below is as it was
+pub record Linking (g : Goal) (old plan : List ℕ) (a : ℕ) : Type 0 where
+  pub lists : Links g plan a
+  pub below : (i : ℕ) → i < namedStart → getD plan i 0 ≡ getD old i 0
+
+abbrev pub LinksPut : Goal → List ℕ → List ℕ → Type 0
+LinksPut g old plan = Linking g old plan (suc (g .size))
+
+-- a record of chain h that names the type of x and more matches x
+pub record NamedIn (g : Goal) (x : Context) (h : ℕ) : Type 0 where
+  pub record-at : ℕ
+  pub named : Named g (x .ty) record-at
+  pub on : OnChain (goalLinks g) h record-at
+  pub matches : matchesContext (g .context record-at) x ≡ true
+
+-- m has the σ chains of such records
+pub record NamedSets (g : Goal) (x : Context) (m : ℕ) : Type 0 where
+  pub only : (h : ℕ) → bit m h ≡ true → NamedIn g x h × (isContextChain h ≡ true)
+  pub all : (h : ℕ) → isContextChain h ≡ true → NamedIn g x h → bit m h ≡ true
