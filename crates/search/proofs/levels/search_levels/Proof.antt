@@ -302,8 +302,8 @@ returns-2 c =
     let i = c .before .before .before .search .inv .6 in
     let more = c .before .before .if1 .left in
     ⊎-elim
-    (λ w. stopped (enter i (w .0 .taken) more) more (rw (w .2) at (c .if3 .taken)))
-    (λ w. stopped i more (rw (w .2) at (c .if3 .taken)))
+    (λ w. stopped (enter i (w .0 .taken) more) more (let h = rw (w .2) at (c .if3 .taken) in omega (arith, h)))
+    (λ w. stopped i more (let h = rw (w .2) at (c .if3 .taken) in omega (arith, h)))
     (c .before .if2 .came)
 
 same-length-5 : tie.Need-same-length-5 Inv-loop2 μ-loop2 Inv-loop μ-loop Inv-search μ-search
