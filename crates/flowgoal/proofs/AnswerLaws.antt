@@ -1,9 +1,11 @@
 -- What two searches and a path that is shown come to, in the words of the promise.
 use Prim.Native.Nat.{ℕ, suc, _+_, _*_, _^_, _≤_, _<_}
 use mathlib.Core.List.{List, [], _∷_, _++_}
+use mathlib.Core.Logic.{⊎-elim}
 use mathlib.Core.Path.{_≡_, sym, ap, subst, _∙_}
+use native.Mathlib.Nat.{eq-or-lt-of-le}
 use native.Mathlib.Omega.{arith}
-use native.Mathlib.Decide.{decLt}
+use native.Mathlib.Decide.{decLe, decLt}
 use lib.ListN.{length}
 use Rattle.base.specs.Questions.{Question, ask, AllYes}
 use Rattle.base.proofs.QuestionLaws.{passed-first, passed-then}
@@ -19,25 +21,24 @@ use Rattle.goal_image.specs.Questions.{goalQuestions}
 use Rattle.goal_image.specs.inner.Sound.{SoundGoal}
 use Rattle.goal_image.proofs.AnswerLaws.{sound as goal-sound}
 use Rattle.paths.specs.Model.{Model}
-use Rattle.paths.specs.Paths.{OrderAt, EventsAt}
+use Rattle.paths.specs.Paths.{SomeOrder, OrderAt, EventsAt}
 use Rattle.paths.specs.inner.Answer.{Right}
-use Rattle.paths.specs.inner.Monitor.{Monitor}
+use Rattle.paths.specs.inner.Monitor.{Monitor, BadNode}
 use Rattle.paths.specs.inner.Monitors.{trackerN, stagerN}
 use Rattle.paths.proofs.Monitors.{order-iff, events-iff}
-use Rattle.paths.specs.inner.Verdict.{Least, at, answer}
-use Rattle.paths.proofs.Verdict.{answers}
+use Rattle.paths.specs.inner.Verdict.{Least, at, nowhere, answer}
+use Rattle.paths.proofs.Verdict.{order-right, answers}
 use Rattle.goal_model.specs.Images.{model}
 use Rattle.search.specs.declared.levels.Found.{Found}
 use Rattle.search.specs.declared.levels.Found.the-variants.{Nothing, Start, At}
 use Rattle.nodes.specs.declared.monitor.Mode.{Mode}
 use Rattle.nodes.specs.declared.monitor.Mode.the-variants.{Order, Events}
-use Rattle.search.specs.inner.Found.{FoundLeast}
 use Rattle.nodes.specs.inner.Nodes.{watchOf, monitorOf}
 use Rattle.nodes.specs.inner.Seeds.{Roomy}
 use Rattle.nodes.specs.inner.Tasks.{Task}
-use Rattle.search.proofs.FoundLaws.{task-of}
+use Rattle.search.proofs.FoundLaws.{few-nodes, task-of}
 use Rattle.witness.specs.declared.verdict.Verdict.{Verdict}
-use Rattle.witness.specs.inner.Shown.{reachedBy, Something, stepsTo, Short, answerOf, Shown}
+use Rattle.witness.specs.inner.Shown.{reachedBy, Fewer, Wins, FoundFewer, FoundEnd, stepsTo, Short, answerOf, Shown}
 use Rattle.flowgoal.specs.declared.goal.Outcome.the-variants as outcome
 use Rattle.flowgoal.specs.GoalQuestion.{workLength, WorkFits, GoalPromise}
 use Rattle.flowgoal.specs.inner.Parts.{Passed}
@@ -53,16 +54,17 @@ one-least {m = m} {k = k} p q = go (decLt m k) (decLt k m)
     go (no h) (no l) = omega arith
 
 module _ (s g : List ℕ) (n : Counts) (mode : Mode) (back : List ℕ) where
-  pub least-of : (r : Found) → FoundLeast s g n mode back r → Least (model s g) (monitorOf (watchOf mode (model s g))) (reachedBy r)
-  least-of Nothing f = f
-  least-of (Start x) f = f .least
-  least-of (At u e v d) f = f .least
+  pub least-of : (r : Found) → FoundFewer s g n mode Nothing back r → Least (model s g) (monitorOf (watchOf mode (model s g))) (reachedBy r)
+  least-of Nothing f = λ k. f k tt
+  least-of (Start x) f = f .0 .least
+  least-of (At u e v d) f = f .0 .least
 
-  -- what is found is m steps away, where m is the least
-  pub found-some : {m : ℕ} (r : Found) → FoundLeast s g n mode back r → Least (model s g) (monitorOf (watchOf mode (model s g))) (at m) → Something r × (stepsTo r ≡ m)
-  found-some {m} Nothing f l = absurd (f m (l .0))
-  found-some {m} (Start x) f l = (tt, one-least (f .least) l)
-  found-some {m} (At u e v d) f l = (tt, let q : suc d ≡ m = one-least (f .least) l in omega arith)
+  -- what is found is m steps away, where m is the least; and something is found where m is among the numbers that are looked for
+  pub found-some : {m : ℕ} (than r : Found) → Fewer m than → FoundFewer s g n mode than back r → Least (model s g) (monitorOf (watchOf mode (model s g))) (at m)
+      → FoundEnd s g n mode back r × (stepsTo r ≡ m)
+  found-some {m} than Nothing h f l = absurd (f m h (l .0))
+  found-some {m} than (Start x) h f l = (f .0, one-least (f .0 .least) l)
+  found-some {m} than (At u e v d) h f l = (f .0, let q : suc d ≡ m = one-least (f .0 .least) l in omega arith)
 
 -- ---- the questions that were passed
 module _ {s g : List ℕ} {n : Counts} {l : Legs} {work1 work2 : ℕ} (P : Passed s g n l work1 work2) where
@@ -101,19 +103,28 @@ module _ {s g : List ℕ} {n : Counts} {l : Legs} {work1 work2 : ℕ} (P : Passe
       omega (arith, work-fits .second)
 
   module _ (mode : Mode) (back : List ℕ) where
-    pub short-of : (r : Found) → FoundLeast s g n mode back r → Short r
-    short-of Nothing f = tt
-    short-of (Start x) f = tt
-    short-of (At u e v d) f =
-        let h : contextCount n * 2 ^ legsOf g < 2 ^ 26 = subst (λ (k : ℕ). contextCount n * 2 ^ k < 2 ^ 26) (passed-task .legs .count) (passed-task .legs .nodes) in
-        omega (arith, f .found .short)
+    pub short-of : (than r : Found) → FoundFewer s g n mode than back r → Short r
+    short-of than Nothing f = tt
+    short-of than (Start x) f = tt
+    short-of than (At u e v d) f = omega (arith, f .0 .found .short, few-nodes passed-task mode)
+
+    -- of what is found, that its steps are fewer
+    pub wins-of : (than r : Found) → FoundFewer s g n mode than back r → Wins r than
+    wins-of than Nothing f = tt
+    wins-of than (Start x) f = f .1
+    wins-of than (At u e v d) f = f .1
 
   -- the verdict on what the two searches found is right
-  pub judged : (back back′ : List ℕ) (o v : Found) (r : Verdict) → FoundLeast s g n Order back o → FoundLeast s g n Events back′ v → answerOf r ≡ answer (reachedBy o) (reachedBy v)
+  pub judged : (back back′ : List ℕ) (o v : Found) (r : Verdict) → FoundFewer s g n Order Nothing back o → FoundFewer s g n Events o back′ v → answerOf r ≡ answer (reachedBy o) (reachedBy v)
       → Right (model s g) (answerOf r)
-  judged back back′ o v r p q e =
-      subst (Right (model s g)) (sym e)
-      (answers (model s g) some-leg (reachedBy o) (reachedBy v) (least-of s g n Order back o p) (least-of s g n Events back′ v q))
+  judged back back′ o v r p q e = subst (Right (model s g)) (sym e) (go o v p q)
+    where
+      go : (o v : Found) → FoundFewer s g n Order Nothing back o → FoundFewer s g n Events o back′ v → Right (model s g) (answer (reachedBy o) (reachedBy v))
+      go Nothing Nothing p q = answers (model s g) some-leg nowhere nowhere (λ k. p k tt) (λ k. q k tt)
+      go (Start x) Nothing p q = order-right (model s g) some-leg 0 (p .0 .least) (λ k h. absurd (omega arith))
+      go (At u e w d) Nothing p q = order-right (model s g) some-leg (suc d) (p .0 .least) (λ k h. q k (omega arith))
+      go o (Start y) p q = answers (model s g) some-leg (reachedBy o) (at 0) (least-of s g n Order back o p) (q .0 .least)
+      go o (At u e w d) p q = answers (model s g) some-leg (reachedBy o) (at (suc d)) (least-of s g n Order back o p) (q .0 .least)
 
   order-least : {m : ℕ} → OrderAt (model s g) m → Least (model s g) (trackerN (model s g)) (at m)
   order-least {m} p =
@@ -123,11 +134,28 @@ module _ {s g : List ℕ} {n : Counts} {l : Legs} {work1 work2 : ℕ} (P : Passe
   events-least {m} p = (events-iff (model s g) m .0 (p .1), λ k h b. p .0 k h .1 (events-iff (model s g) k .1 b))
 
   -- another search for what the verdict names finds it as many steps away
-  pub order-found : (back : List ℕ) {m : ℕ} (r : Found) → FoundLeast s g n Order back r → OrderAt (model s g) m → Something r × (stepsTo r ≡ m)
-  order-found back r f p = found-some s g n Order back r f (order-least p)
+  pub order-found : (back : List ℕ) {m : ℕ} (r : Found) → FoundFewer s g n Order Nothing back r → OrderAt (model s g) m → FoundEnd s g n Order back r × (stepsTo r ≡ m)
+  order-found back r f p = found-some s g n Order back Nothing r tt f (order-least p)
 
-  pub events-found : (back : List ℕ) {m : ℕ} (r : Found) → FoundLeast s g n Events back r → EventsAt (model s g) m → Something r × (stepsTo r ≡ m)
-  events-found back r f p = found-some s g n Events back r f (events-least p)
+  -- where the answer is events, order is found further away
+  events-fewer : (back : List ℕ) {m : ℕ} (o : Found) → FoundFewer s g n Order Nothing back o → EventsAt (model s g) m → Fewer m o
+  events-fewer back {m} o f p = go o f
+    where
+      none : (k : ℕ) → k ≤ m → ¬ BadNode (model s g) (trackerN (model s g)) k
+      none k h b = ⊎-elim (λ (q : k ≡ m). p .2 (subst (SomeOrder (model s g)) q (order-iff (model s g) some-leg k .1 b))) (λ (l : k < m). p .0 k l .0 (order-iff (model s g) some-leg k .1 b)) (eq-or-lt-of-le h)
+
+      go : (o : Found) → FoundFewer s g n Order Nothing back o → Fewer m o
+      go Nothing f = tt
+      go (Start x) f = none 0 (omega arith) (f .0 .least .0)
+      go (At u e v d) f = by (decLe m d)
+        where
+          by : Dec (m ≤ d) → m ≤ d
+          by (yes h) = h
+          by (no h) = absurd (none (suc d) (omega arith) (f .0 .least .0))
+
+  pub events-found : (back back′ : List ℕ) {m : ℕ} (o r : Found) → FoundFewer s g n Order Nothing back o → FoundFewer s g n Events o back′ r → EventsAt (model s g) m
+      → FoundEnd s g n Events back′ r × (stepsTo r ≡ m)
+  events-found back back′ o r f v p = found-some s g n Events back′ o r (events-fewer back o f p) v (events-least p)
 
   -- ---- the promise, by the answer
   pub promise-order : {m k : ℕ} {before after : List ℕ} → OrderAt (model s g) m → k ≡ m → Shown (model s g) Order k before after

@@ -10,10 +10,11 @@ use plan::regions::ENTRIES;
 use policy_check::check;
 use policy_image::counts::Checked;
 use policy_image::counts::Counts;
-use search::search;
+use search::levels::Found;
 use witness::path::show;
 use witness::verdict::Verdict;
 use witness::verdict::judge;
+use witness::verdict::search_fewer;
 use witness::verdict::search_order;
 ghost use mathlib.Core.Path.{_≡_};
 ghost use Prim.Native.Nat.{_*_, _^_, _≤_, _<_};
@@ -82,7 +83,17 @@ fn answer_by(
     ensures { λ r. ⌜ GoalPromise (now (policy .entry)) (now (goal .entry)) (length (now (work1 .entry))) (length (now (work2 .entry))) (now (path .entry)) (now (path .exit)) r ⌝ }
 {
     let order = search_order(policy, goal, counts, plan, legs, work1, work2);
-    let events = search(policy, goal, counts, plan, legs, Mode::Events, work1, work2);
+    let events = search_fewer(
+        policy,
+        goal,
+        counts,
+        plan,
+        legs,
+        Mode::Events, // only what takes fewer steps than order
+        order,
+        work1,
+        work2,
+    );
     let verdict = judge(order, events);
     match verdict {
         Verdict::Holds => Outcome::Holds,
@@ -90,8 +101,17 @@ fn answer_by(
             if path.len() < 2 * (m as usize) + 1 {
                 return Outcome::NoRoom(m);
             }
-            // the links that this search left were overwritten by the one for events
-            let again = search(policy, goal, counts, plan, legs, Mode::Order, work1, work2);
+            let again = search_fewer(
+                policy,
+                goal,
+                counts,
+                plan,
+                legs,
+                Mode::Order, // whose links were overwritten by the search for events
+                Found::Nothing,
+                work1,
+                work2,
+            );
             show(
                 policy,
                 goal,

@@ -9,8 +9,8 @@ use Rattle.policy_image.specs.declared.counts.Counts.{Counts}
 use Rattle.context.specs.inner.Places.{contextCount}
 use Rattle.paths.specs.Model.{Model}
 use Rattle.paths.specs.inner.Monitor.{Monitor, Start, Edge, BadNode, Reach as Reached, begin as begins, more}
-use Rattle.paths.specs.inner.Verdict.{Least, at, nowhere}
-use Rattle.nodes.specs.inner.Graph.{Reach, Reach.begin, Reach.step, Breaks, FoundAt, NoneFound}
+use Rattle.paths.specs.inner.Verdict.{Least, at}
+use Rattle.nodes.specs.inner.Graph.{Reach, Reach.begin, Reach.step, Breaks, FoundAt, Within, NoneFound}
 use Rattle.nodes.specs.inner.Nodes.{Watch, monitorOf, codeAt, placeOf, stateOf, codeOf, states, EdgeAt, graph, BadStart, Bounded}
 
 -- ---- the number of a node
@@ -135,8 +135,8 @@ module _ (M : Model) (n : Counts) (W : Watch) where
       pub least-at : {back : List ℕ} {u e v d : ℕ} → FoundAt (graph M n W) back u e v d → Least M A (at (suc d))
       least-at {d = d} f = (breaks-there (f .reach) (f .breaks), none-below d (f .least))
 
-      pub least-nowhere : NoneFound (graph M n W) → Least M A nowhere
-      least-nowhere f zero b = none (b .x) (start-back (b .reach) (b .arrives) (b .verdict))
-      least-nowhere f (suc k) b =
+      pub none-within : {h : ℕ} → NoneFound (graph M n W) h → (k : ℕ) → Within h (contextCount n * K) k → ¬ BadNode M A k
+      none-within f zero w b = none (b .x) (start-back (b .reach) (b .arrives) (b .verdict))
+      none-within f (suc k) w b =
           let r = bad-back (b .reach) (b .arrives) (b .verdict) in
-          f .never k (r .u) (r .e) (r .v) (r .reach) (r .breaks)
+          f .never k (r .u) (r .e) (r .v) w (r .reach) (r .breaks)

@@ -261,13 +261,17 @@ end-turn {g} {back} {queue} {head} {tail} {stop} {depth} {u} t l =
     i = t .inv
 
 -- the queue is empty
-pub nothing : {g : Graph} {back queue : List ℕ} {head tail stop depth : ℕ} → Inv g back queue head tail stop depth → tail ≤ head → NoneFound g
+pub nothing : {g : Graph} {back queue : List ℕ} {head tail stop depth b : ℕ} → Inv g back queue head tail stop depth → tail ≤ head → NoneFound g b
 nothing {g} {back} {queue} {head} {tail} i h =
-    record { never = λ d u e v r b. onward i (all r) (b .event) (b .target) (b .edge) .open-end (b .ends) }
+    record { never = λ d u e v w r a. onward i (all r) (a .event) (a .target) (a .edge) .open-end (a .ends) }
   where
     all : {d u : ℕ} → Reach g d u → InQueue queue head u
     all (begin {v} lv s) = in-more (omega (arith, i .stop-tail)) (i .level zero v (omega arith) (begin lv s))
     all (step {v} r le lv ed ne) = in-more h (i .listed v lv (onward i (all r) le lv ed .seen))
+
+-- the level's steps would arrive beyond the bound. All levels before it are done, and there are more nodes than levels
+pub stopped : {g : Graph} {back queue : List ℕ} {head tail stop depth b : ℕ} → Inv g back queue head tail stop depth → head < tail → b ≤ depth → NoneFound g b
+stopped {g} {b = b} i more h = record { never = λ d u e v w r a. ⊎-elim (λ (l : suc d ≤ b). onward i (i .past d u (omega arith) r) (a .event) (a .target) (a .edge) .open-end (a .ends)) (λ (l : g .k ≤ b). omega (arith, i .deep more, i .stop-tail, i .full)) w }
 
 -- an edge to an end
 pub found : {g : Graph} {back queue : List ℕ} {head tail stop depth u ev w v : ℕ} → Turn g back queue head tail stop depth u ev w → Breaks g u ev v → FoundAt g back u ev v depth

@@ -53,17 +53,21 @@ module _ (M : Model) where
     no-events : (k : ℕ) → ¬ BadNode M (stagerN M) k → ¬ SomeEvents M k
     no-events k f b = f (events-iff M k .0 b)
 
+    -- order needs of events only that none has fewer steps
+    pub order-right : (m : ℕ) → Least M (trackerN M) (at m) → ((k : ℕ) → k < m → ¬ BadNode M (stagerN M) k) → Right M (order m)
+    order-right m p q = (λ i l. (no-order i (p .1 i l), no-events i (q i l)), order-iff M some-leg m .1 (p .0))
+
     pub answers : (o v : Found) → Least M (trackerN M) o → Least M (stagerN M) v → Right M (answer o v)
     answers (at m) (at k) p q = go (decLe m k)
       where
         go : (d : Dec (m ≤ k)) → Right M (answerBy d (order m) (events k))
-        go (yes h) = (λ i l. (no-order i (p .1 i l), no-events i (q .1 i (omega arith))), order-iff M some-leg m .1 (p .0))
+        go (yes h) = order-right m p (λ i l. q .1 i (omega arith))
         go (no h) = (
           λ i l. (no-order i (p .1 i (omega arith)), no-events i (q .1 i l)),
           events-iff M k .1 (q .0),
           no-order k (p .1 k (omega arith)),
         )
-    answers (at m) nowhere p q = (λ i l. (no-order i (p .1 i l), no-events i (q i)), order-iff M some-leg m .1 (p .0))
+    answers (at m) nowhere p q = order-right m p (λ i l. q i)
     answers nowhere (at k) p q = (λ i l. (no-order i (p i), no-events i (q .1 i l)), events-iff M k .1 (q .0), no-order k (p k))
     answers nowhere nowhere p q = λ i. (no-order i (p i), no-events i (q i))
 

@@ -26,19 +26,23 @@ use Rattle.nodes.specs.inner.Nodes.{watchOf, codeAt, BadStart}
 use Rattle.nodes.specs.inner.Tasks.{Task, graphOf}
 use Rattle.nodes.specs.inner.Seeds.{SownStart}
 use Rattle.search.specs.inner.Found.{Searched, FoundStart, FoundLeast}
-use Rattle.nodes.proofs.NodeLaws.{least-start, least-at, least-nowhere}
+use Rattle.nodes.proofs.NodeLaws.{least-start, least-at, none-within}
 use Rattle.nodes.proofs.ModelLaws.{bounded}
 
 module _ {s g : List ℕ} {n : Counts} {l : Legs} (A : Task s g n l) (m : Mode) where
-  pub found-least : (back : List ℕ) (r : Found) → ((x : ℕ) → BadStart (model s g) n (watchOf m (model s g)) x → ⊥) → Searched (graphOf s g n m) back r
-      → FoundLeast s g n m back r
-  found-least back Nothing none f = least-nowhere (model s g) n (watchOf m (model s g)) (bounded (A .given .ready) (A .given .goal) m) none f
-  found-least back (Start x) none f = absurd f
-  found-least back (At u e v d) none f =
-      record { found = f; least = least-at (model s g) n (watchOf m (model s g)) (bounded (A .given .ready) (A .given .goal) m) none f }
+  pub found-least : (b : ℕ) (back : List ℕ) (r : Found) → ((x : ℕ) → BadStart (model s g) n (watchOf m (model s g)) x → ⊥) → Searched (graphOf s g n m) b back r
+      → FoundLeast s g n m b back r
+  found-least b back Nothing none f = none-within (model s g) n (watchOf m (model s g)) (bounded (A .given .ready) (A .given .goal) m) none f
+  found-least b back (Start x) none f = absurd f
+  found-least b back (At u e v d) none (f, h) =
+      (record { found = f; least = least-at (model s g) n (watchOf m (model s g)) (bounded (A .given .ready) (A .given .goal) m) none f }, h)
 
   pub range-at : {y : ℕ} → y < contextCount n → ContextInRange n (contextAtIndex n y)
   range-at {y} h = at-in-range n y (A .legs .countable .roles) (A .legs .countable .users) h
+
+  -- every node is within `UNBOUNDED`
+  pub few-nodes : graphOf s g n m .k < 2 ^ 26
+  few-nodes = subst (λ (k : ℕ). contextCount n * 2 ^ k < 2 ^ 26) (A .legs .count) (A .legs .nodes)
 
   -- its type has a code
   pub few-types : n .types < 65536

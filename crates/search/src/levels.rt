@@ -34,7 +34,10 @@ pub enum Found {
     At(u32, u32, u32, u32),
 }
 
-// The search from the nodes that are seeded. A node's entry of back is 0 while it is not visited, and then one more than the
+// A bound that is no bound: there are fewer nodes than that, and a shortest path to an end has no more steps than there are nodes.
+pub const UNBOUNDED: u32 = 67108864;
+
+// The search from the nodes that are seeded, for an end of at most as many steps as the bound. A node's entry of back is 0 while it is not visited, and then one more than the
 // number of the node before it, or a mark for a start. By type, swept has what an event kept of a state when all contexts of the type
 // were entered, and spent the states from which all steps without conditions were taken: a later sweep would only meet nodes that
 // are entered.
@@ -45,12 +48,13 @@ pub fn search_levels(
     plan: &[u32],
     legs: Legs,
     mode: Mode,
+    bound: u32,
     seeded: usize,
     queue: &mut [u32],
     back: &mut [u32],
 ) -> Found
     requires { ⌜ Task (now policy) (now goal) counts legs × Planned (now policy) (now goal) counts (now plan) × Inv (graphOf (now policy) (now goal) counts mode) (now back) (now queue) 0 seeded seeded 0 ⌝ }
-    ensures { λ r. ⌜ Searched (graphOf (now (policy .entry)) (now (goal .entry)) counts mode) (now (back .exit)) r ⌝ }
+    ensures { λ r. ⌜ Searched (graphOf (now (policy .entry)) (now (goal .entry)) counts mode) bound (now (back .exit)) r ⌝ }
 {
     let states = states_of(legs);
     let keeps = keeps_of(mode);
@@ -67,6 +71,10 @@ pub fn search_levels(
         if head == level_end {
             depth += 1;
             level_end = tail;
+        }
+        // a step from here arrives after depth + 1 steps
+        if bound <= depth {
+            break 'search Found::Nothing;
         }
         let u = queue[head];
         let place = u / states;

@@ -14,7 +14,7 @@ ghost use Rattle.search.specs.inner.Found.{FoundLeast};
 ghost use Rattle.nodes.specs.inner.Seeds.{Roomy};
 ghost use Rattle.nodes.specs.inner.Tasks.{Task};
 
-// The least number of steps to a bad end, for a mode. The plan is made once of the policy and the goal, and serves every search of
+// The least number of steps to a bad end, for a mode, where it is at most the bound. The plan is made once of the policy and the goal, and serves every search of
 // them. The slices hold an entry for each node; back then leads from the node that is found to a start.
 pub fn search(
     policy: &[u8],
@@ -23,11 +23,12 @@ pub fn search(
     plan: &[u32],
     legs: Legs,
     mode: Mode,
+    bound: u32,
     queue: &mut [u32],
     back: &mut [u32],
 ) -> Found
     requires { ⌜ Task (now policy) (now goal) counts legs × Planned (now policy) (now goal) counts (now plan) × Roomy counts legs (now queue) (now back) ⌝ }
-    ensures { λ r. ⌜ FoundLeast (now (policy .entry)) (now (goal .entry)) counts mode (now (back .exit)) r ⌝ }
+    ensures { λ r. ⌜ FoundLeast (now (policy .entry)) (now (goal .entry)) counts mode bound (now (back .exit)) r ⌝ }
 {
     let seeded = seed(policy, goal, counts, plan, legs, mode, queue, back);
     match seeded {
@@ -39,6 +40,7 @@ pub fn search(
             plan,
             legs,
             mode,
+            bound,
             tail,
             queue,
             back,

@@ -11,11 +11,10 @@ ghost use Prim.Native.Nat.{_+_, _*_, _≤_};
 ghost use lib.ListN.{length};
 ghost use Rattle.goal_model.specs.Images.{model};
 ghost use Rattle.plan.specs.inner.Plan.{Planned};
-ghost use Rattle.search.specs.inner.Found.{FoundLeast};
 ghost use Rattle.nodes.specs.inner.Graph.{FoundAt};
 ghost use Rattle.nodes.specs.inner.Nodes.{codeOf};
 ghost use Rattle.nodes.specs.inner.Tasks.{Task, graphOf};
-ghost use Rattle.witness.specs.inner.Shown.{Shown, Something, stepsTo, NodeIn};
+ghost use Rattle.witness.specs.inner.Shown.{Shown, FoundEnd, stepsTo, NodeIn};
 
 // The code of a node's context.
 fn code_of(counts: Counts, states: u32, v: u32) -> u32
@@ -74,7 +73,7 @@ pub fn show(
     back: &[u32],
     path: &mut [u32],
 )
-    requires { ⌜ Task (now policy) (now goal) counts legs × Planned (now policy) (now goal) counts (now plan) × FoundLeast (now policy) (now goal) counts mode (now back) found × Something found × (graphOf (now policy) (now goal) counts mode .k ≤ length (now back)) × (2 * stepsTo found + 1 ≤ length (now path)) ⌝ }
+    requires { ⌜ Task (now policy) (now goal) counts legs × Planned (now policy) (now goal) counts (now plan) × FoundEnd (now policy) (now goal) counts mode (now back) found × (graphOf (now policy) (now goal) counts mode .k ≤ length (now back)) × (2 * stepsTo found + 1 ≤ length (now path)) ⌝ }
     ensures { λ _. ⌜ Shown (model (now (policy .entry)) (now (goal .entry))) mode (stepsTo found) (now (path .entry)) (now (path .exit)) ⌝ }
 {
     match found {

@@ -1,5 +1,6 @@
 -- A graph, what is reached in it and by how many steps, and what a search says of it.
 use mathlib.Core.Path.{_≡_}
+use mathlib.Core.Logic.{_⊎_}
 use mathlib.Core.List.{List}
 use Prim.Native.Nat.{ℕ, zero, suc, _+_, _≤_, _<_}
 use lib.ListN.{getD}
@@ -36,6 +37,10 @@ pub record FoundAt (g : Graph) (back : List ℕ) (u e v d : ℕ) : Type 0 where
   pub breaks : Breaks g u e v
   pub least : (d′ u′ e′ v′ : ℕ) → Reach g d′ u′ → Breaks g u′ e′ v′ → d ≤ d′
 
--- no edge from a node that is reached arrives at an end
-pub record NoneFound (g : Graph) : Type 0 where
-  pub never : (d u e v : ℕ) → Reach g d u → Breaks g u e v → ⊥
+-- so many steps are within the bound b: at most b; or any number, where the bound is at least the number k of nodes
+abbrev pub Within : ℕ → ℕ → ℕ → Type 0
+Within b k steps = (steps ≤ b) ⊎ (k ≤ b)
+
+-- no edge from a node that is reached arrives at an end after a number of steps within the bound
+pub record NoneFound (g : Graph) (b : ℕ) : Type 0 where
+  pub never : (d u e v : ℕ) → Within b (g .k) (suc d) → Reach g d u → Breaks g u e v → ⊥

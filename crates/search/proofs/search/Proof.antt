@@ -37,7 +37,7 @@ same-length-4 : tie.Need-same-length-4
 same-length-4 c = search needs
 
 returns-2 : tie.Need-returns-2
-returns-2 c = let z = rw (c .before .before .before .before .before .before .before .before .seeded2 .given .1) at (c .before .before .before .before .before .before .before .before .before .before .before .before .before .before .seed .ensures) in found-least (c .before .before .before .before .before .before .before .before .before .before .before .before .before .before .before .before .before .before .before .before .before .before .pre .0) (c .before .before .before .before .before .before .before .before .before .before .before .before .before .before .before .before .before .before .before .before .before .before .args .mode) _ (c .before .before .before .before .search-levels .result) (z .none) (c .before .before .before .before .search-levels .ensures)
+returns-2 c = let z = rw (c .before .before .before .before .before .before .before .before .seeded2 .given .1) at (c .before .before .before .before .before .before .before .before .before .before .before .before .before .before .seed .ensures) in found-least (c .before .before .before .before .before .before .before .before .before .before .before .before .before .before .before .before .before .before .before .before .before .before .pre .0) (c .before .before .before .before .before .before .before .before .before .before .before .before .before .before .before .before .before .before .before .before .before .before .args .mode) _ _ (c .before .before .before .before .search-levels .result) (z .none) (c .before .before .before .before .search-levels .ensures)
 
 pub search-spec : {M : Type 1} → statement M
 search-spec =

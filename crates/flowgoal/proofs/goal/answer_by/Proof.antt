@@ -10,16 +10,17 @@ use Rattle.paths.specs.Paths.{OrderAt, EventsAt}
 use Rattle.paths.specs.inner.Answer.{Right}
 use Rattle.goal_model.specs.Images.{model}
 use Rattle.nodes.specs.declared.monitor.Mode.the-variants.{Order, Events}
+use Rattle.search.specs.declared.levels.Found.the-variants.{Nothing}
 use Rattle.witness.specs.declared.verdict.Verdict.{Verdict}
 use Rattle.witness.specs.declared.verdict.Verdict.the-variants as verdict
-use Rattle.witness.specs.inner.Shown.{answerOf, Something, stepsTo}
-use Rattle.flowgoal.proofs.AnswerLaws.{passed-task, passed-room, passed-back, short-of, judged, order-found, events-found, promise-order, promise-events}
+use Rattle.witness.specs.inner.Shown.{answerOf, stepsTo}
+use Rattle.flowgoal.proofs.AnswerLaws.{passed-task, passed-room, passed-back, short-of, wins-of, judged, order-found, events-found, promise-order, promise-events}
 use Rattle.flowgoal.proofs.goal.answer_by.Statement.{statement}
 use Rattle.flowgoal.proofs.goal.answer_by.Tie as tie
 
 -- what is known where the verdict is there
 module _ (J : tie.After-judge) where
-  abbrev second : tie.After-search
+  abbrev second : tie.After-search-fewer
   second = J .before .before .before .before .before
 
   abbrev first : tie.After-search-order
@@ -35,13 +36,13 @@ module _ (J : tie.After-judge) where
   g = now (start .args .goal)
 
   right : Right (model s g) (answerOf (J .judge .result))
-  right = judged (start .pre .0) _ _ (first .search-order .result) (second .search .result) (J .judge .result) (first .search-order .ensures) (second .search .ensures) (J .judge .ensures)
+  right = judged (start .pre .0) _ _ (first .search-order .result) (second .search-fewer .result) (J .judge .result) (first .search-order .ensures) (second .search-fewer .ensures) (J .judge .ensures)
 
   right-as : (r : Verdict) → J .judge .result ≡ r → Right (model s g) (answerOf r)
   right-as r q = subst (λ (v : Verdict). Right (model s g) (answerOf v)) q right
 
 -- the search for order that is shown finds the verdict's m
-module _ (X : tie.After-search2) where
+module _ (X : tie.After-search-fewer2) where
   abbrev roomy : tie.Else1
   roomy = X .before .before .before
 
@@ -51,8 +52,8 @@ module _ (X : tie.After-search2) where
   order-at : OrderAt (model (s judgement) (g judgement)) (roomy .before .before .verdict .given .0 .0)
   order-at = right-as judgement (verdict.Order _) (roomy .before .before .verdict .given .1)
 
-  order-is : Something (X .search2 .result) × (stepsTo (X .search2 .result) ≡ roomy .before .before .verdict .given .0 .0)
-  order-is = order-found (start judgement .pre .0) _ (X .search2 .result) (X .search2 .ensures) order-at
+  order-is : stepsTo (X .search-fewer2 .result) ≡ roomy .before .before .verdict .given .0 .0
+  order-is = order-found (start judgement .pre .0) _ (X .search-fewer2 .result) (X .search-fewer2 .ensures) order-at .1
 
 -- .. and so does the search for events
 module _ (X : tie.Else2) where
@@ -62,14 +63,14 @@ module _ (X : tie.Else2) where
   events-at : EventsAt (model (s judgement2) (g judgement2)) (X .before .before .verdict2 .given .0 .0)
   events-at = right-as judgement2 (verdict.Events _) (X .before .before .verdict2 .given .1)
 
-  events-is : Something (second judgement2 .search .result) × (stepsTo (second judgement2 .search .result) ≡ X .before .before .verdict2 .given .0 .0)
-  events-is = events-found (start judgement2 .pre .0) _ (second judgement2 .search .result) (second judgement2 .search .ensures) events-at
+  events-is : stepsTo (second judgement2 .search-fewer .result) ≡ X .before .before .verdict2 .given .0 .0
+  events-is = events-found (start judgement2 .pre .0) _ _ (first judgement2 .search-order .result) (second judgement2 .search-fewer .result) (first judgement2 .search-order .ensures) (second judgement2 .search-fewer .ensures) events-at .1
 
 search-order-requires : tie.Need-search-order-requires
 search-order-requires c κs = let z = c .before .before .before .before .before .before .before .before in (passed-task (z .pre .0), z .pre .1, passed-room (z .pre .0) refl refl)
 
-search-requires : tie.Need-search-requires
-search-requires c κs =
+search-fewer-requires : tie.Need-search-fewer-requires
+search-fewer-requires c κs =
     let f = c .before .before .before .before .before .before in
     let z = f .before .before .before .before .before .before .before .before .before in
     (passed-task (z .pre .0), z .pre .1, passed-room (z .pre .0) (omega arith) (omega arith))
@@ -79,7 +80,7 @@ judge-requires c κs =
     let e = c .before .before .before .before in
     let f = e .before .before .before .before .before .before .before in
     let z = f .before .before .before .before .before .before .before .before .before in
-    (short-of (z .pre .0) Order _ (f .search-order .result) (f .search-order .ensures), short-of (z .pre .0) Events _ (e .search .result) (e .search .ensures))
+    (short-of (z .pre .0) Order _ Nothing (f .search-order .result) (f .search-order .ensures), short-of (z .pre .0) Events _ _ (e .search-fewer .result) (e .search-fewer .ensures), wins-of (z .pre .0) Events _ (f .search-order .result) (e .search-fewer .result) (e .search-fewer .ensures))
 
 enum-told : tie.Need-enum-told
 enum-told c = search needs
@@ -107,8 +108,8 @@ returns c =
     let J = c .before .before .before .before in
     (start J .pre .0 .questions, inl (right-as J (verdict.Order _) (c .before .before .verdict .given .1)), c .if1 .taken, refl)
 
-search-requires-2 : tie.Need-search-requires-2
-search-requires-2 c κs =
+search-fewer-requires-2 : tie.Need-search-fewer-requires-2
+search-fewer-requires-2 c κs =
     let J = c .before .before .before .before .before .before in
     (passed-task (start J .pre .0), start J .pre .1, passed-room (start J .pre .0) (omega arith) (omega arith))
 
@@ -119,7 +120,7 @@ show-requires c κs =
     let z3 = c .before .before .before .work23 .given in
     let z2 = judgement x .before .before .work22 .given in
     let z1 = second (judgement x) .before .before .before .before .work2 .given in
-    (passed-task p, start (judgement x) .pre .1, x .search2 .ensures, order-is x .0, passed-back p (omega (arith, z1, z2, z3)), omega (arith, order-is x .1, roomy x .if1 .left))
+    (passed-task p, start (judgement x) .pre .1, order-found p _ (x .search-fewer2 .result) (x .search-fewer2 .ensures) (order-at x) .0, passed-back p (omega (arith, z1, z2, z3)), omega (arith, order-is x, roomy x .if1 .left))
 
 enum-known-verdict-2 : tie.Need-enum-known-verdict-2
 enum-known-verdict-2 c = search needs
@@ -148,7 +149,11 @@ show-requires-2 : tie.Need-show-requires-2
 show-requires-2 c κs =
     let x = c .before .before in
     let p = start (judgement2 x) .pre .0 in
-    (passed-task p, start (judgement2 x) .pre .1, second (judgement2 x) .search .ensures, events-is x .0, passed-back p (omega arith), omega (arith, events-is x .1, x .if2 .left))
+    let f = first (judgement2 x) in
+    let v = second (judgement2 x) in
+    let z2 = judgement2 x .before .before .work22 .given in
+    let z1 = v .before .before .before .before .work2 .given in
+    (passed-task p, start (judgement2 x) .pre .1, events-found p _ _ (f .search-order .result) (v .search-fewer .result) (f .search-order .ensures) (v .search-fewer .ensures) (events-at x) .0, passed-back p (omega (arith, z1, z2)), omega (arith, events-is x, x .if2 .left))
 
 same-length-5 : tie.Need-same-length-5
 same-length-5 c = search needs
@@ -178,7 +183,7 @@ same-length-9 c = search needs
 returns-4 : tie.Need-returns-4
 returns-4 c =
     let x = c .before .before .before .before .before .before .before .before .before in
-    promise-order (start (judgement x) .pre .0) (order-at x) (order-is x .1) (c .before .before .show .ensures)
+    promise-order (start (judgement x) .pre .0) (order-at x) (order-is x) (c .before .before .show .ensures)
 
 same-length-10 : tie.Need-same-length-10
 same-length-10 c = search needs
@@ -192,14 +197,14 @@ same-length-12 c = search needs
 returns-5 : tie.Need-returns-5
 returns-5 c =
     let x = c .before .before .before .before .before in
-    promise-events (start (judgement2 x) .pre .0) (events-at x) (events-is x .1) (c .before .before .show2 .ensures)
+    promise-events (start (judgement2 x) .pre .0) (events-at x) (events-is x) (c .before .before .show2 .ensures)
 
 pub answer-by-spec : {M : Type 1} → statement M
 answer-by-spec =
     tie.close
     (tie.spec
     search-order-requires
-    search-requires
+    search-fewer-requires
     judge-requires
     enum-told
     enum-known-verdict
@@ -209,7 +214,7 @@ answer-by-spec =
     same-length
     same-length-2
     returns
-    search-requires-2
+    search-fewer-requires-2
     show-requires
     enum-known-verdict-2
     cast-if2

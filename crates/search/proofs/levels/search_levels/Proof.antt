@@ -3,7 +3,7 @@ use Rattle.memory.proofs.LoopLaws.{Middle, Inner, node-below, asks-same, marks-
 use Rattle.memory.proofs.StandLaws.{Around, around, at-place, stand, own-few, state-few, asker-of}
 use Rattle.memory.proofs.MemoryLaws.{memory-begin, memory-keep}
 use Rattle.nodes.proofs.ArrivalLaws.{later}
-use Rattle.nodes.proofs.SearchLaws.{enter, room, nothing, turn-chain, chain-bound}
+use Rattle.nodes.proofs.SearchLaws.{enter, room, nothing, stopped, turn-chain, chain-bound}
 use Rattle.memory.specs.inner.Memory.{keepsOf, Memory}
 use Rattle.nodes.specs.inner.Tasks.{graphOf}
 use Rattle.nodes.specs.inner.State.{Inv}
@@ -17,27 +17,27 @@ use borrow.Author.Needs.{needs}
 use Rattle.search.proofs.levels.search_levels.Statement.{statement}
 use Rattle.search.proofs.levels.search_levels.Tie as tie
 
--- the places of a type are gone through one by one; apart, since `omega` reads all that is known where it is asked
-less : {y end : ℕ} → y < end → end - (y + 1) < end - y
-less h = omega arith
+-- what is left of the contexts falls
+falls : {y end : ℕ} → y < end → end - (y + 1) < end - y
+falls h = omega arith
 
 abbrev Inv-loop2 : tie.InvT-loop2
-Inv-loop2 policy goal counts plan legs mode seeded queue₀ back₀ states keeps swept spent tail₀ head level-end depth u place state x own asks is-spent a offer e ty by guarded end y₀ queue back tail y = (length queue ≡ length queue₀) × (length back ≡ length back₀) × Inner policy goal counts plan legs mode states back queue head tail level-end depth u x state swept spent a offer guarded end y
+Inv-loop2 policy goal counts plan legs mode bound seeded queue₀ back₀ states keeps swept spent tail₀ head level-end depth u place state x own asks is-spent a offer e ty by guarded end y₀ queue back tail y = (length queue ≡ length queue₀) × (length back ≡ length back₀) × Inner policy goal counts plan legs mode states back queue head tail level-end depth u x state swept spent a offer guarded end y
 
 abbrev μ-loop2 : tie.MeasureT-loop2
-μ-loop2 policy goal counts plan legs mode seeded queue₀ back₀ states keeps swept spent tail₀ head level-end depth u place state x own asks is-spent a offer e ty by guarded end y₀ queue back tail y = end - y
+μ-loop2 policy goal counts plan legs mode bound seeded queue₀ back₀ states keeps swept spent tail₀ head level-end depth u place state x own asks is-spent a offer e ty by guarded end y₀ queue back tail y = end - y
 
 abbrev Inv-loop : tie.InvT-loop
-Inv-loop policy goal counts plan legs mode seeded queue₀ back₀ states keeps swept₀ spent tail₀ head level-end depth u place state x own asks is-spent a offer₀ queue back swept tail offer = (length queue ≡ length queue₀) × (length back ≡ length back₀) × Middle policy goal counts plan legs mode states back queue head tail level-end depth u x state swept spent a offer
+Inv-loop policy goal counts plan legs mode bound seeded queue₀ back₀ states keeps swept₀ spent tail₀ head level-end depth u place state x own asks is-spent a offer₀ queue back swept tail offer = (length queue ≡ length queue₀) × (length back ≡ length back₀) × Middle policy goal counts plan legs mode states back queue head tail level-end depth u x state swept spent a offer
 
 abbrev μ-loop : tie.MeasureT-loop
-μ-loop policy goal counts plan legs mode seeded queue₀ back₀ states keeps swept₀ spent tail₀ head level-end depth u place state x own asks is-spent a offer₀ queue back swept tail offer = 4194304 - offer .at
+μ-loop policy goal counts plan legs mode bound seeded queue₀ back₀ states keeps swept₀ spent tail₀ head level-end depth u place state x own asks is-spent a offer₀ queue back swept tail offer = 4194304 - offer .at
 
 abbrev Inv-search : tie.InvT-search
-Inv-search policy goal counts plan legs mode seeded queue₀ back₀ states keeps swept₀ spent₀ tail₀ head₀ level-end₀ depth₀ queue back swept spent tail head level-end depth = (length queue ≡ length queue₀) × (length back ≡ length back₀) × Around policy goal counts legs states × Planned policy goal counts plan × Memory policy goal counts mode plan back swept spent × (keeps ≡ keepsOf mode) × Inv (graphOf policy goal counts mode) back queue head tail level-end depth
+Inv-search policy goal counts plan legs mode bound seeded queue₀ back₀ states keeps swept₀ spent₀ tail₀ head₀ level-end₀ depth₀ queue back swept spent tail head level-end depth = (length queue ≡ length queue₀) × (length back ≡ length back₀) × Around policy goal counts legs states × Planned policy goal counts plan × Memory policy goal counts mode plan back swept spent × (keeps ≡ keepsOf mode) × Inv (graphOf policy goal counts mode) back queue head tail level-end depth
 
 abbrev μ-search : tie.MeasureT-search
-μ-search policy goal counts plan legs mode seeded queue₀ back₀ states keeps swept₀ spent₀ tail₀ head₀ level-end₀ depth₀ queue back swept spent tail head level-end depth = graphOf policy goal counts mode .k - head
+μ-search policy goal counts plan legs mode bound seeded queue₀ back₀ states keeps swept₀ spent₀ tail₀ head₀ level-end₀ depth₀ queue back swept spent tail head level-end depth = graphOf policy goal counts mode .k - head
 
 states-of-requires :
     tie.Need-states-of-requires Inv-loop2 μ-loop2 Inv-loop μ-loop Inv-search μ-search
@@ -66,73 +66,73 @@ rem-state : tie.Need-rem-state Inv-loop2 μ-loop2 Inv-loop μ-loop Inv-search μ
 rem-state c = omega arith
 
 at-requires : tie.Need-at-requires Inv-loop2 μ-loop2 Inv-loop μ-loop Inv-search μ-search
-at-requires c κs = let i = c .before .before .before .search .inv in (i .2 .task .legs .countable, at-place _ (i .2) (node-below (i .6) (c .before .before .if1 .left)))
+at-requires c κs = let i = c .before .before .before .before .search .inv in (i .2 .task .legs .countable, at-place _ (i .2) (node-below (i .6) (c .before .before .before .if1 .left)))
 
 cast-own : tie.Need-cast-own Inv-loop2 μ-loop2 Inv-loop μ-loop Inv-search μ-search
 cast-own c = omega arith
 
 is-asked-requires :
     tie.Need-is-asked-requires Inv-loop2 μ-loop2 Inv-loop μ-loop Inv-search μ-search
-is-asked-requires c κs = let i = c .before .before .before .before .before .search .inv in (i .3, own-place (i .2 .task .legs .countable) (at-place _ (i .2) (node-below (i .6) (c .before .before .before .before .if1 .left))) (c .before .at .ensures))
+is-asked-requires c κs = let i = c .before .before .before .before .before .before .search .inv in (i .3, own-place (i .2 .task .legs .countable) (at-place _ (i .2) (node-below (i .6) (c .before .before .before .before .before .if1 .left))) (c .before .at .ensures))
 
 mul-has-member : tie.Need-mul-has-member Inv-loop2 μ-loop2 Inv-loop μ-loop Inv-search μ-search
-mul-has-member c = let i = c .before .before .before .before .before .before .search .inv in let lu = node-below (i .6) (c .before .before .before .before .before .if1 .left) in let S = stand _ (i .2) lu (c .before .before .at .ensures) in omega (arith, own-few (i .2) S)
+mul-has-member c = let i = c .before .before .before .before .before .before .before .search .inv in let lu = node-below (i .6) (c .before .before .before .before .before .before .if1 .left) in let S = stand _ (i .2) lu (c .before .before .at .ensures) in omega (arith, own-few (i .2) S)
 
 array-read-has-member :
     tie.Need-array-read-has-member Inv-loop2 μ-loop2 Inv-loop μ-loop Inv-search μ-search
-array-read-has-member c = let i = c .before .before .before .before .before .before .search .inv in let lu = node-below (i .6) (c .before .before .before .before .before .if1 .left) in let S = stand _ (i .2) lu (c .before .before .at .ensures) in omega (arith, own-few (i .2) S, i .4 .spent-size)
+array-read-has-member c = let i = c .before .before .before .before .before .before .before .search .inv in let lu = node-below (i .6) (c .before .before .before .before .before .before .if1 .left) in let S = stand _ (i .2) lu (c .before .before .at .ensures) in omega (arith, own-few (i .2) S, i .4 .spent-size)
 
 has-member-requires :
     tie.Need-has-member-requires Inv-loop2 μ-loop2 Inv-loop μ-loop Inv-search μ-search
-has-member-requires c κs = let i = c .before .before .before .before .before .before .search .inv in let lu = node-below (i .6) (c .before .before .before .before .before .if1 .left) in let S = stand _ (i .2) lu (c .before .before .at .ensures) in state-few (i .2) S (c .before .before .before .before .before .before .before .before .before .before .before .before .before .before .args .mode) (i .3)
+has-member-requires c κs = let i = c .before .before .before .before .before .before .before .search .inv in let lu = node-below (i .6) (c .before .before .before .before .before .before .if1 .left) in let S = stand _ (i .2) lu (c .before .before .at .ensures) in state-few (i .2) S (c .before .before .before .before .before .before .before .before .before .before .before .before .before .before .before .args .mode) (i .3)
 
 first-step-requires :
     tie.Need-first-step-requires Inv-loop2 μ-loop2 Inv-loop μ-loop Inv-search μ-search
-first-step-requires c κs = let i = c .before .before .before .before .before .before .before .before .search .inv in let lu = node-below (i .6) (c .before .before .before .before .before .before .before .if1 .left) in let S = stand _ (i .2) lu (c .before .before .before .before .at .ensures) in (state-few (i .2) S (c .before .before .before .before .before .before .before .before .before .before .before .before .before .before .before .before .args .mode) (i .3), i .2 .task .given, i .3, S .range, asks-same (c .before .before .before .before .at .ensures) (c .before .before .is-asked .ensures))
+first-step-requires c κs = let i = c .before .before .before .before .before .before .before .before .before .search .inv in let lu = node-below (i .6) (c .before .before .before .before .before .before .before .before .if1 .left) in let S = stand _ (i .2) lu (c .before .before .before .before .at .ensures) in (state-few (i .2) S (c .before .before .before .before .before .before .before .before .before .before .before .before .before .before .before .before .before .args .mode) (i .3), i .2 .task .given, i .3, S .range, asks-same (c .before .before .before .before .at .ensures) (c .before .before .is-asked .ensures))
 
 loop-holds : tie.Need-loop-holds Inv-loop2 μ-loop2 Inv-loop μ-loop Inv-search μ-search
-loop-holds c = let i = c .before .before .before .before .before .before .before .before .before .search .inv in
-    let more = c .before .before .before .before .before .before .before .before .if1 .left in
+loop-holds c = let i = c .before .before .before .before .before .before .before .before .before .before .search .inv in
+    let more = c .before .before .before .before .before .before .before .before .before .if1 .left in
     let S = stand _ (i .2) (node-below (i .6) more) (c .before .before .before .before .before .at .ensures) in
-    let Q = asker-of (i .2) S (c .before .before .before .before .before .before .before .before .before .before .before .before .before .before .before .before .before .args .mode) (i .3) (i .5) (c .before .before .has-member .ensures) in (
+    let Q = asker-of (i .2) S (c .before .before .before .before .before .before .before .before .before .before .before .before .before .before .before .before .before .before .args .mode) (i .3) (i .5) (c .before .before .has-member .ensures) in (
       refl,
       refl,
       ⊎-elim
           (λ w. rw (w .1, w .2) (middle-begin (i .2) (i .3) (i .4) (enter (i .6) (w .0 .taken) more) more refl S Q (c .first-step .ensures)))
           (λ w. rw (w .1, w .2) (middle-begin (i .2) (i .3) (i .4) (i .6) (omega (arith, w .0 .left, i .6 .head-stop)) refl S Q (c .first-step .ensures)))
-          (c .before .before .before .before .before .before .before .if2 .came),
+          (c .before .before .before .before .before .before .before .before .if2 .came),
     )
 
 cast-by : tie.Need-cast-by Inv-loop2 μ-loop2 Inv-loop μ-loop Inv-search μ-search
-cast-by c = let I = c .before .before .before .before .loop .inv .2 in let O = I .ahead (c .before .before .if3 .taken) in omega (arith, event-few (I .fixed) O)
+cast-by c = let I = c .before .before .before .before .loop .inv .2 in let O = I .ahead (c .before .before .if4 .taken) in omega (arith, event-few (I .fixed) O)
 
 add-by : tie.Need-add-by Inv-loop2 μ-loop2 Inv-loop μ-loop Inv-search μ-search
-add-by c = let I = c .before .before .before .before .loop .inv .2 in let O = I .ahead (c .before .before .if3 .taken) in omega (arith, event-few (I .fixed) O)
+add-by c = let I = c .before .before .before .before .loop .inv .2 in let O = I .ahead (c .before .before .if4 .taken) in omega (arith, event-few (I .fixed) O)
 
 mul-by : tie.Need-mul-by Inv-loop2 μ-loop2 Inv-loop μ-loop Inv-search μ-search
-mul-by c = let I = c .before .before .before .before .loop .inv .2 in let O = I .ahead (c .before .before .if3 .taken) in omega (arith, event-few (I .fixed) O)
+mul-by c = let I = c .before .before .before .before .loop .inv .2 in let O = I .ahead (c .before .before .if4 .taken) in omega (arith, event-few (I .fixed) O)
 
 shared-slice-read-by :
     tie.Need-shared-slice-read-by Inv-loop2 μ-loop2 Inv-loop μ-loop Inv-search μ-search
-shared-slice-read-by c = let I = c .before .before .before .before .before .loop .inv .2 in let O = I .ahead (c .before .before .before .if3 .taken) in omega (arith, event-few (I .fixed) O, I .planned .policy .size)
+shared-slice-read-by c = let I = c .before .before .before .before .before .loop .inv .2 in let O = I .ahead (c .before .before .before .if4 .taken) in omega (arith, event-few (I .fixed) O, I .planned .policy .size)
 
 is-special-requires :
     tie.Need-is-special-requires Inv-loop2 μ-loop2 Inv-loop μ-loop Inv-search μ-search
-is-special-requires c κs = let I = c .before .before .before .before .before .loop .inv .2 in let O = I .ahead (c .before .before .before .if3 .taken) in (I .planned .policy, event-few (I .fixed) O)
+is-special-requires c κs = let I = c .before .before .before .before .before .loop .inv .2 in let O = I .ahead (c .before .before .before .if4 .taken) in (I .planned .policy, event-few (I .fixed) O)
 
 add-first-place : tie.Need-add-first-place Inv-loop2 μ-loop2 Inv-loop μ-loop Inv-search μ-search
-add-first-place c = let I = c .before .before .before .before .before .before .loop .inv .2 in let O = I .ahead (c .before .before .before .before .if3 .taken) in omega (arith, other-few (I .fixed) O)
+add-first-place c = let I = c .before .before .before .before .before .before .loop .inv .2 in let O = I .ahead (c .before .before .before .before .if4 .taken) in omega (arith, other-few (I .fixed) O)
 
 first-place-requires :
     tie.Need-first-place-requires Inv-loop2 μ-loop2 Inv-loop μ-loop Inv-search μ-search
-first-place-requires c κs = let I = c .before .before .before .before .before .before .loop .inv .2 in let O = I .ahead (c .before .before .before .before .if3 .taken) in (I .fixed .task .legs .countable, omega arith, let z = type-high (I .fixed) O in omega arith)
+first-place-requires c κs = let I = c .before .before .before .before .before .before .loop .inv .2 in let O = I .ahead (c .before .before .before .before .if4 .taken) in (I .fixed .task .legs .countable, omega arith, let z = type-high (I .fixed) O in omega arith)
 
 first-place-requires-2 :
     tie.Need-first-place-requires-2 Inv-loop2 μ-loop2 Inv-loop μ-loop Inv-search μ-search
-first-place-requires-2 c κs = let I = c .before .before .before .before .before .before .before .loop .inv .2 in let O = I .ahead (c .before .before .before .before .before .if3 .taken) in (I .fixed .task .legs .countable, type-low (I .fixed) O, let z = type-high (I .fixed) O in omega arith)
+first-place-requires-2 c κs = let I = c .before .before .before .before .before .before .before .loop .inv .2 in let O = I .ahead (c .before .before .before .before .before .if4 .taken) in (I .fixed .task .legs .countable, type-low (I .fixed) O, let z = type-high (I .fixed) O in omega arith)
 
 loop2-holds : tie.Need-loop2-holds Inv-loop2 μ-loop2 Inv-loop μ-loop Inv-search μ-search
-loop2-holds c = (refl, refl, inner-begin (c .before .before .before .before .before .before .before .before .loop .inv .2) (c .before .before .before .before .before .before .if3 .taken) (c .before .before .is-special .ensures) (c .before .first-place .ensures) (c .first-place2 .ensures))
+loop2-holds c = (refl, refl, inner-begin (c .before .before .before .before .before .before .before .before .loop .inv .2) (c .before .before .before .before .before .before .if4 .taken) (c .before .before .is-special .ensures) (c .before .first-place .ensures) (c .first-place2 .ensures))
 
 is-held-requires : tie.Need-is-held-requires Inv-loop2 μ-loop2 Inv-loop μ-loop Inv-search μ-search
 is-held-requires c κs = let I = c .before .loop2 .inv .2 in (I .planned .policy, inner-type I (c .loop2-test .taken))
@@ -141,13 +141,13 @@ add-y : tie.Need-add-y Inv-loop2 μ-loop2 Inv-loop μ-loop Inv-search μ-search
 add-y c = record { fits = inner-fits (c .before .before .before .loop2 .inv .2) (c .before .before .loop2-test .taken) }
 
 loop2-less : tie.Need-loop2-less Inv-loop2 μ-loop2 Inv-loop μ-loop Inv-search μ-search
-loop2-less c = less (c .before .before .loop2-test .taken)
+loop2-less c = falls (c .before .before .loop2-test .taken)
 
 loop2-again : tie.Need-loop2-again Inv-loop2 μ-loop2 Inv-loop μ-loop Inv-search μ-search
 loop2-again c =
     let i = c .before .before .before .loop2 .inv in
     let h = c .before .before .loop2-test .taken in
-    (i .0, i .1, inner-next (i .2) h (i .2 .memory) (inner-unheld (i .2) h (c .before .is-held .ensures) (c .if4 .taken)))
+    (i .0, i .1, inner-next (i .2) h (i .2 .memory) (inner-unheld (i .2) h (c .before .is-held .ensures) (c .if5 .taken)))
 
 arrive-requires : tie.Need-arrive-requires Inv-loop2 μ-loop2 Inv-loop μ-loop Inv-search μ-search
 arrive-requires c κs = let I = c .before .before .before .loop2 .inv .2 in (I .fixed .task .legs, I .planned .goal, inner-type I (c .before .before .loop2-test .taken))
@@ -168,11 +168,11 @@ enum-known-v-2 c = search needs
 cast-at : tie.Need-cast-at Inv-loop2 μ-loop2 Inv-loop μ-loop Inv-search μ-search
 cast-at c = omega arith
 
-mul-if6 : tie.Need-mul-if6 Inv-loop2 μ-loop2 Inv-loop μ-loop Inv-search μ-search
-mul-if6 c = omega arith
+mul-if7 : tie.Need-mul-if7 Inv-loop2 μ-loop2 Inv-loop μ-loop Inv-search μ-search
+mul-if7 c = omega arith
 
-slice-read-if6 : tie.Need-slice-read-if6 Inv-loop2 μ-loop2 Inv-loop μ-loop Inv-search μ-search
-slice-read-if6 c = omega (arith, inner-below (c .before .before .before .before .before .before .before .before .loop2 .inv .2) (c .before .before .before .before .before .before .before .loop2-test .taken) (c .before .before .before .before .arrive .ensures) (c .before .before .v2 .given .1), c .before .before .before .before .before .before .before .before .loop2 .inv .2 .turn .inv .back-room)
+slice-read-if7 : tie.Need-slice-read-if7 Inv-loop2 μ-loop2 Inv-loop μ-loop Inv-search μ-search
+slice-read-if7 c = omega (arith, inner-below (c .before .before .before .before .before .before .before .before .loop2 .inv .2) (c .before .before .before .before .before .before .before .loop2-test .taken) (c .before .before .before .before .arrive .ensures) (c .before .before .v2 .given .1), c .before .before .before .before .before .before .before .before .loop2 .inv .2 .turn .inv .back-room)
 
 is-target-requires-2 :
     tie.Need-is-target-requires-2 Inv-loop2 μ-loop2 Inv-loop μ-loop Inv-search μ-search
@@ -192,7 +192,7 @@ mul-queue c = omega arith
 
 slice-write-queue :
     tie.Need-slice-write-queue Inv-loop2 μ-loop2 Inv-loop μ-loop Inv-search μ-search
-slice-write-queue c = let I = c .before .before .before .before .before .before .before .before .before .before .before .loop2 .inv .2 in omega (arith, room (I .turn .inv) (inner-below (c .before .before .before .before .before .before .before .before .before .before .before .loop2 .inv .2) (c .before .before .before .before .before .before .before .before .before .before .loop2-test .taken) (c .before .before .before .before .before .before .before .arrive .ensures) (c .before .before .before .before .before .v2 .given .1)) (c .before .before .if6 .taken), I .turn .inv .queue-room)
+slice-write-queue c = let I = c .before .before .before .before .before .before .before .before .before .before .before .loop2 .inv .2 in omega (arith, room (I .turn .inv) (inner-below (c .before .before .before .before .before .before .before .before .before .before .before .loop2 .inv .2) (c .before .before .before .before .before .before .before .before .before .before .loop2-test .taken) (c .before .before .before .before .before .before .before .arrive .ensures) (c .before .before .before .before .before .v2 .given .1)) (c .before .before .if7 .taken), I .turn .inv .queue-room)
 
 add-tail : tie.Need-add-tail Inv-loop2 μ-loop2 Inv-loop μ-loop Inv-search μ-search
 add-tail c = let I = c .before .before .before .before .before .before .before .before .before .before .before .loop2 .inv .2 in omega (arith, I .turn .inv .full, I .fixed .nodes)
@@ -201,7 +201,7 @@ add-y-2 : tie.Need-add-y-2 Inv-loop2 μ-loop2 Inv-loop μ-loop Inv-search μ-sea
 add-y-2 c = record { fits = inner-fits (c .before .before .before .before .before .loop2 .inv .2) (c .before .before .before .before .loop2-test .taken) }
 
 loop2-less-2 : tie.Need-loop2-less-2 Inv-loop2 μ-loop2 Inv-loop μ-loop Inv-search μ-search
-loop2-less-2 c = less (c .before .before .before .before .loop2-test .taken)
+loop2-less-2 c = falls (c .before .before .before .before .loop2-test .taken)
 
 loop2-again-2 : tie.Need-loop2-again-2 Inv-loop2 μ-loop2 Inv-loop μ-loop Inv-search μ-search
 loop2-again-2 c = let i = c .before .before .before .before .before .loop2 .inv in
@@ -265,7 +265,7 @@ array-read-spent : tie.Need-array-read-spent Inv-loop2 μ-loop2 Inv-loop μ-loop
 array-read-spent c = let I = c .before .before .loop .inv .2 in omega (arith, own-few (I .fixed) (I .stands), I .memory .spent-size)
 
 mark-requires-2 : tie.Need-mark-requires-2 Inv-loop2 μ-loop2 Inv-loop μ-loop Inv-search μ-search
-mark-requires-2 c κs = let I = c .before .before .loop .inv .2 in state-few (I .fixed) (I .stands) (c .before .before .before .before .before .before .before .before .before .before .before .before .before .before .before .before .before .before .before .before .args .mode) (I .planned)
+mark-requires-2 c κs = let I = c .before .before .loop .inv .2 in state-few (I .fixed) (I .stands) (c .before .before .before .before .before .before .before .before .before .before .before .before .before .before .before .before .before .before .before .before .before .args .mode) (I .planned)
 
 mul-spent-2 : tie.Need-mul-spent-2 Inv-loop2 μ-loop2 Inv-loop μ-loop Inv-search μ-search
 mul-spent-2 c = let I = c .before .before .before .loop .inv .2 in omega (arith, own-few (I .fixed) (I .stands))
@@ -281,7 +281,7 @@ search-less : tie.Need-search-less Inv-loop2 μ-loop2 Inv-loop μ-loop Inv-searc
 search-less c = omega arith
 
 search-again : tie.Need-search-again Inv-loop2 μ-loop2 Inv-loop μ-loop Inv-search μ-search
-search-again c = let i = c .before .before .before .loop .inv in let j = c .before .before .before .before .before .before .before .before .before .before .before .before .before .search .inv in (i .0 ∙ j .0, i .1 ∙ j .1, j .2, j .3, middle-spent (i .2) (c .before .if3 .left) (asks-same (c .before .before .before .before .before .before .before .before .before .at .ensures) (c .before .before .before .before .before .before .before .is-asked .ensures)) (c .mark2 .ensures), j .5, middle-end (i .2) (c .before .if3 .left))
+search-again c = let i = c .before .before .before .loop .inv in let j = c .before .before .before .before .before .before .before .before .before .before .before .before .before .before .search .inv in (i .0 ∙ j .0, i .1 ∙ j .1, j .2, j .3, middle-spent (i .2) (c .before .if4 .left) (asks-same (c .before .before .before .before .before .before .before .before .before .at .ensures) (c .before .before .before .before .before .before .before .is-asked .ensures)) (c .mark2 .ensures), j .5, middle-end (i .2) (c .before .if4 .left))
 
 same-length : tie.Need-same-length Inv-loop2 μ-loop2 Inv-loop μ-loop Inv-search μ-search
 same-length c = omega arith
@@ -293,13 +293,28 @@ returns : tie.Need-returns Inv-loop2 μ-loop2 Inv-loop μ-loop Inv-search μ-sea
 returns c = nothing (c .before .search .inv .6) (c .if1 .taken)
 
 same-length-3 : tie.Need-same-length-3 Inv-loop2 μ-loop2 Inv-loop μ-loop Inv-search μ-search
-same-length-3 c = omega (arith, c .before .before .before .before .before .before .before .before .before .loop2 .inv .0, c .before .before .before .before .before .before .before .before .before .before .before .before .before .before .before .before .before .before .loop .inv .0, c .before .before .before .before .before .before .before .before .before .before .before .before .before .before .before .before .before .before .before .before .before .before .before .before .before .before .before .before .search .inv .0)
+same-length-3 c = omega arith
 
 same-length-4 : tie.Need-same-length-4 Inv-loop2 μ-loop2 Inv-loop μ-loop Inv-search μ-search
-same-length-4 c = omega (arith, c .before .before .before .before .before .before .before .before .before .loop2 .inv .1, c .before .before .before .before .before .before .before .before .before .before .before .before .before .before .before .before .before .before .loop .inv .1, c .before .before .before .before .before .before .before .before .before .before .before .before .before .before .before .before .before .before .before .before .before .before .before .before .before .before .before .before .search .inv .1)
+same-length-4 c = omega arith
 
 returns-2 : tie.Need-returns-2 Inv-loop2 μ-loop2 Inv-loop μ-loop Inv-search μ-search
-returns-2 c = inner-broken (c .before .before .before .before .before .before .before .before .before .loop2 .inv .2) (c .before .before .before .before .before .before .before .before .loop2-test .taken) (c .before .before .before .before .before .arrive .ensures) (c .before .is-target .ensures) (c .if5 .taken) (c .before .before .before .v .given .1)
+returns-2 c =
+    let i = c .before .before .before .search .inv .6 in
+    let more = c .before .before .if1 .left in
+    ⊎-elim
+    (λ w. stopped (enter i (w .0 .taken) more) more (let h = rw (w .2) at (c .if3 .taken) in omega (arith, h)))
+    (λ w. stopped i more (let h = rw (w .2) at (c .if3 .taken) in omega (arith, h)))
+    (c .before .if2 .came)
+
+same-length-5 : tie.Need-same-length-5 Inv-loop2 μ-loop2 Inv-loop μ-loop Inv-search μ-search
+same-length-5 c = omega (arith, c .before .before .before .before .before .before .before .before .before .loop2 .inv .0, c .before .before .before .before .before .before .before .before .before .before .before .before .before .before .before .before .before .before .loop .inv .0, c .before .before .before .before .before .before .before .before .before .before .before .before .before .before .before .before .before .before .before .before .before .before .before .before .before .before .before .before .before .search .inv .0)
+
+same-length-6 : tie.Need-same-length-6 Inv-loop2 μ-loop2 Inv-loop μ-loop Inv-search μ-search
+same-length-6 c = omega (arith, c .before .before .before .before .before .before .before .before .before .loop2 .inv .1, c .before .before .before .before .before .before .before .before .before .before .before .before .before .before .before .before .before .before .loop .inv .1, c .before .before .before .before .before .before .before .before .before .before .before .before .before .before .before .before .before .before .before .before .before .before .before .before .before .before .before .before .before .search .inv .1)
+
+returns-3 : tie.Need-returns-3 Inv-loop2 μ-loop2 Inv-loop μ-loop Inv-search μ-search
+returns-3 c = (inner-broken (c .before .before .before .before .before .before .before .before .before .loop2 .inv .2) (c .before .before .before .before .before .before .before .before .loop2-test .taken) (c .before .before .before .before .before .arrive .ensures) (c .before .is-target .ensures) (c .if6 .taken) (c .before .before .before .v .given .1), c .before .before .before .before .before .before .before .before .before .before .before .before .before .before .before .before .before .before .before .before .before .before .before .before .before .before .if3 .left)
 
 pub search-levels-spec : {M : Type 1} → statement M
 search-levels-spec =
@@ -346,8 +361,8 @@ search-levels-spec =
     enum-told
     enum-known-v-2
     cast-at
-    mul-if6
-    slice-read-if6
+    mul-if7
+    slice-read-if7
     is-target-requires-2
     add-back
     mul-back
@@ -383,4 +398,7 @@ search-levels-spec =
     returns
     same-length-3
     same-length-4
-    returns-2)
+    returns-2
+    same-length-5
+    same-length-6
+    returns-3)

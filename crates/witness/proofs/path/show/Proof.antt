@@ -1,9 +1,7 @@
-use mathlib.Core.Path.{subst}
 use native.Mathlib.Omega.{arith}
 use borrow.Author.Needs.{needs}
 use denote.Ref.{now}
 use lib.ListN.{length-set}
-use Rattle.witness.specs.inner.Shown.{Something}
 use Rattle.witness.proofs.PathLaws.{shown-start}
 use Rattle.witness.proofs.path.show.Statement.{statement}
 use Rattle.witness.proofs.path.show.Tie as tie
@@ -15,7 +13,7 @@ enum-known-found : tie.Need-enum-known-found
 enum-known-found c = search needs
 
 slice-write-path : tie.Need-slice-write-path
-slice-write-path c = let s = c .before .before .before .before .before .before .before .before in omega (arith, s .pre .5)
+slice-write-path c = let s = c .before .before .before .before .before .before .before .before in omega (arith, s .pre .4)
 
 enum-known-found-2 : tie.Need-enum-known-found-2
 enum-known-found-2 c = search needs
@@ -24,12 +22,12 @@ write-path-requires : tie.Need-write-path-requires
 write-path-requires c κs =
     let s = c .before .before .before .before .before .before .before .before .before in
     let q = c .before .before .found2 .given .1 in
-    (s .pre .0, s .pre .1, (rw q at (s .pre .2)) .found, s .pre .4, rw q at (s .pre .5))
+    (s .pre .0, s .pre .1, (rw q at (s .pre .2)) .found, s .pre .3, rw q at (s .pre .4))
 
 returns : tie.Need-returns
 returns c =
     let s = c .before .before .before .before .before .before .before in
-    absurd (subst Something (c .enum-told .given .1) (s .pre .3))
+    absurd (rw (c .enum-told .given .1) at (s .pre .2))
 
 same-length : tie.Need-same-length
 same-length c = simp length-set (omega arith)
@@ -38,7 +36,7 @@ returns-2 : tie.Need-returns-2
 returns-2 c =
     let s = c .before .before .before .before .before .before .before .before in
     let q = c .before .found .given .1 in
-    rw q (shown-start (now (s .args .policy)) (now (s .args .goal)) (s .args .mode) (now (s .args .path)) (omega (arith, s .pre .0 .legs .some-leg, s .pre .0 .legs .count)) (omega (arith, s .pre .5))
+    rw q (shown-start (now (s .args .policy)) (now (s .args .goal)) (s .args .mode) (now (s .args .path)) (omega (arith, s .pre .0 .legs .some-leg, s .pre .0 .legs .count)) (omega (arith, s .pre .4))
     ((rw q at (s .pre .2)) .bad))
 
 same-length-2 : tie.Need-same-length-2

@@ -6,10 +6,10 @@ use Rattle.witness.proofs.verdict.search_order.Tie as tie
 returns : tie.Need-returns
 returns c =
     let s = c .before .before .before .before .before .before .before in
-    one-leg (s .pre .0) (c .if1 .taken)
+    λ k h. one-leg (s .pre .0) (c .if1 .taken) k
 
-search-requires : tie.Need-search-requires
-search-requires c κs = search needs
+search-fewer-requires : tie.Need-search-fewer-requires
+search-fewer-requires c κs = search needs
 
 same-length : tie.Need-same-length
 same-length c = search needs
@@ -21,4 +21,4 @@ returns-2 : tie.Need-returns-2
 returns-2 c = search needs
 
 pub search-order-spec : {M : Type 1} → statement M
-search-order-spec = tie.close (tie.spec returns search-requires same-length same-length-2 returns-2)
+search-order-spec = tie.close (tie.spec returns search-fewer-requires same-length same-length-2 returns-2)
