@@ -42,7 +42,6 @@ use Rattle.nodes.specs.inner.Blocks.{Asks, Ahead, FirstStep}
 use Rattle.memory.specs.inner.Memory.{Marks, OfEvent, Settled, Memory}
 use Rattle.nodes.specs.inner.Tasks.{Task, graphOf, Stands, Asked, Faced}
 use Rattle.nodes.proofs.SearchLaws.{enter, take-up, turn-chain, chain-bound, end-turn}
-use Rattle.nodes.proofs.ArrivalLaws.{later}
 use Rattle.plan.proofs.TypeLaws.{type-is, start-le, start-next}
 use Rattle.nodes.proofs.LevelLaws.{step-on, step-past, few-types, range-at, chain-open, edge-free, edge-flow, not-target, swept-to, dropped, enter-below, entered, seen, broken}
 use Rattle.memory.proofs.StandLaws.{Around}
@@ -199,7 +198,7 @@ module _ {s g : List ℕ} {n : Counts} {plan : List ℕ} {l : Legs} {m : Mode} {
           stands = I .stands;
           asker = I .asker;
           high = O .high;
-          ahead = λ k. record { free = I .ahead .free; meets = I .ahead .meets; offering = O .offers k; unclosed = O .unclosed k; cursor = later (O .cursor) (O .low) };
+          ahead = λ k. record { free = I .ahead .free; meets = I .ahead .meets; offering = O .offers k; unclosed = O .unclosed k; resumes = O .resumes k };
           turn = step-on A m (I .stands) (o .at + 1) (r .at) here (O .low)
               (few-types A m (r .at) (O .high) (λ k. O .offers k .other .high))
               (λ j w lw d b ed.

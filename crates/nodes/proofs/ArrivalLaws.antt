@@ -26,7 +26,6 @@ use Rattle.paths.proofs.StageLaws.{one-shl}
 use Rattle.goal_model.specs.Images.{meetsρμ, model}
 use Rattle.steps.specs.declared.nearest.Asker.{Asker}
 use Rattle.steps.specs.declared.nearest.Offer.{Offer}
-use Rattle.steps.specs.inner.Nearest.{Cursor}
 use Rattle.steps.specs.inner.Steps.{NextOffer}
 use Rattle.base.proofs.UptoLaws.{clash}
 use Rattle.steps.proofs.FlowLaws.{flow-held}
@@ -38,10 +37,6 @@ use Rattle.nodes.specs.inner.Watching.{LegsOf, By, Stepped, Judged}
 use Rattle.nodes.specs.inner.Arrivals.{GivenGoal, States, Entered, Ended, Broke, Arrived, Lands, Arriving}
 use Rattle.nodes.specs.inner.Blocks.{Asks, FirstStep}
 use Rattle.nodes.proofs.ModelLaws.{to-true, of-true}
-
--- a cursor is one for later steps too
-pub later : {plan : List ℕ} {lo stop a from to : ℕ} → Cursor plan lo stop a from → from ≤ to → Cursor plan lo stop a to
-later C l = record { low = C .low; high = C .high; passed = λ j a b. omega (arith, C .passed j a b) }
 
 -- ---- numbers of nodes
 pub states-law : (l : Legs) → l .count ≤ 6 → States l ((1 * 2 ^ (l .count)) % 2 ^ 32)
@@ -178,7 +173,7 @@ module _ {p : Policy} {g : Goal} {plan swept : List ℕ} {a : Asker} {x : Contex
           meets = A .meets (not-false b t);
           offering = N .offers l;
           unclosed = N .unclosed l;
-          cursor = later (N .cursor) (omega arith);
+          resumes = N .resumes l;
         };
         -- nothing was asked before the first step
         none = λ i z w l _ k. ⊎-elim (λ h. h) (λ E. absurd (let h = E .before in omega arith)) (N .none i z w (omega arith) l k);

@@ -138,16 +138,7 @@ pub fn search_levels(
             );
             let other = ty as usize;
             swept[other] = swept[other] | mark(key_of(a, by), done);
-            offer = next_offer(
-                policy,
-                counts,
-                plan,
-                &swept,
-                a,
-                x,
-                offer.group,
-                offer.at + 1,
-            );
+            offer = next_offer(policy, counts, plan, &swept, a, x, offer);
         }
         spent[own] = spent[own] | mark(state, asks);
         head += 1;

@@ -15,7 +15,12 @@ use Rattle.base.proofs.UptoLaws.{and-true, and-first, or-true, true-or-false}
 use Rattle.base.proofs.Numbers.{split-le, split-eq}
 use Rattle.plan.specs.inner.Plan.{specialAt, keyAt, eventsAt, leadsAt}
 use Rattle.steps.specs.declared.nearest.Asker.{Asker}
-use Rattle.steps.specs.inner.Nearest.{firstStep, keyOf, closed, StepBy, EntryStep, OpenStep, AskedMask, Passed, Skipped, Block, Cursor, OfferedAt, Nearest}
+use Rattle.steps.specs.declared.nearest.Offer.{Offer}
+use Rattle.steps.specs.inner.Nearest.{firstStep, keyOf, closed, StepBy, EntryStep, OpenStep, AskedMask, Passed, Skipped, Block, Cursor, OfferedAt, Resumes, SameEvent, Nearest}
+
+-- a cursor is one for later steps too
+later : {plan : List ℕ} {lo stop a from to : ℕ} → Cursor plan lo stop a from → from ≤ to → Cursor plan lo stop a to
+later C l = record { low = C .low; high = C .high; passed = λ j a b. omega (arith, C .passed j a b) }
 
 pub skip-begin : (plan : List ℕ) (stop a class : ℕ) → a ≤ stop → Skipped plan stop a class a
 skip-begin plan stop a class h = record { low = omega arith; high = h; passed = λ j l k. absurd (omega arith) }
@@ -244,7 +249,14 @@ module _ {plan swept : List ℕ} {a : Asker} {lo stop from start at entry j : �
   found : ((i q : ℕ) → lo ≤ i → i < stop → q < 32 → bit (leadsAt plan i) q ≡ true → from ≤ firstStep (keyAt plan i) + 4096 * q
       → (at ≤ firstStep (keyAt plan i) + 4096 * q) ⊎ Passed plan swept a (32 * (keyAt plan i / 4096) + q) (keyAt plan i % 4096))
       → Nearest plan swept a lo stop from (record { group = start; entry = entry; at = at })
-  found all = record { high = L .high; low = L .low; offers = L .offers; unclosed = L .unclosed; least = all; cursor = L .cursor }
+  found all =
+      record {
+        high = L .high;
+        low = L .low;
+        resumes = λ l. record { within = l; offered = L .offers l; cursor = later (L .cursor) (L .low) };
+        unclosed = L .unclosed;
+        least = all;
+      }
 
   pub look-end : stop ≤ j → Nearest plan swept a lo stop from (record { group = start; entry = entry; at = at })
   look-end h = found (λ i q l k. L .least i q l (omega arith))
@@ -264,3 +276,169 @@ module _ {plan swept : List ℕ} {a : Asker} {lo stop from start at entry j : �
           ⊎-elim (λ (e : j ≡ i). subst (λ (z : ℕ). keyAt plan j ≤ keyAt plan z) e (omega arith))
           (λ (m : j < i). let w = L .block .rising j i from-lo m k in omega arith) (eq-or-lt-of-le b) in
           omega arith
+
+-- ---- the steps by the event of an offer, after it
+-- the entries after the one that offers `at` and below j that offer its event are closed
+pub record Passing (plan swept : List ℕ) (a : Asker) (lo stop entry at j : ℕ) : Type 0 where
+  pub few : a .state < 64
+  pub block : Block plan lo stop
+  pub offered : OfferedAt plan lo stop entry at
+  pub begun : entry < j
+  pub within : j ≤ stop
+  pub passed : (i : ℕ) → entry < i → i < j → keyAt plan i / 4096 ≡ at / 131072 → bit (leadsAt plan i) (at / 4096 % 32) ≡ true
+      → closed a (eventsAt plan (at / 4096)) (getD swept (keyAt plan i % 4096) 0) ≡ true
+
+pub pass-begin : {plan : List ℕ} {lo stop entry at : ℕ} (swept : List ℕ) (a : Asker) → a .state < 64 → Block plan lo stop → OfferedAt plan lo stop entry at
+    → Passing plan swept a lo stop entry at (entry + 1)
+pass-begin swept a few B R =
+    record { few = few; block = B; offered = R; begun = omega arith; within = omega (arith, R .high); passed = λ i l k. absurd (omega arith) }
+
+module _ {plan swept : List ℕ} {a : Asker} {lo stop entry at j : ℕ} (I : Passing plan swept a lo stop entry at j) where
+  from-low : lo ≤ j
+  from-low = omega (arith, I .begun, I .offered .low)
+
+  pub pass-other : j < stop → keyAt plan j % 4096 < 256
+  pass-other h = I .block .others j from-low h
+
+  -- the entry itself is of another event, or closed
+  pub pass-on : j < stop
+      → (keyAt plan j / 4096 ≡ at / 131072 → bit (leadsAt plan j) (at / 4096 % 32) ≡ true → closed a (eventsAt plan (at / 4096)) (getD swept (keyAt plan j % 4096) 0) ≡ true)
+      → Passing plan swept a lo stop entry at (j + 1)
+  pass-on h own =
+      record {
+        few = I .few;
+        block = I .block;
+        offered = I .offered;
+        begun = omega (arith, I .begun);
+        within = omega arith;
+        passed = λ i l k.
+            ⊎-elim
+            (λ (e : i ≡ j).
+            subst (λ (z : ℕ). keyAt plan z / 4096 ≡ at / 131072 → bit (leadsAt plan z) (at / 4096 % 32) ≡ true → closed a (eventsAt plan (at / 4096)) (getD swept (keyAt plan z % 4096) 0) ≡ true)
+            (sym e) own)
+            (λ (d : i ≡ j → ⊥). I .passed i l (omega (arith, d)))
+            (split-eq i j);
+      }
+
+  pub pass-stop : j < stop → keyAt plan j / 4096 ≡ at / 131072 → bit (leadsAt plan j) (at / 4096 % 32) ≡ true
+      → closed a (eventsAt plan (at / 4096)) (getD swept (keyAt plan j % 4096) 0) ≡ false → SameEvent plan swept a stop entry at j
+  pass-stop h c b f =
+      record { low = I .begun; high = I .within; class = λ _. c; bears = λ _. b; unclosed = λ _. f; passed = I .passed }
+
+  none-after : ((i : ℕ) → j ≤ i → i < stop → keyAt plan i / 4096 ≡ at / 131072 → ⊥) → SameEvent plan swept a stop entry at stop
+  none-after n =
+      record {
+        low = omega (arith, I .begun, I .within);
+        high = omega arith;
+        class = λ l. absurd (omega arith);
+        bears = λ l. absurd (omega arith);
+        unclosed = λ l. absurd (omega arith);
+        passed = λ i l k c. ⊎-elim (λ (b : j ≤ i). absurd (n i b k c)) (λ (b : i < j). I .passed i l b c) (split-le j i);
+      }
+
+  pub pass-end : stop ≤ j → SameEvent plan swept a stop entry at stop
+  pass-end h = none-after (λ i l k _. omega arith)
+
+  -- the entries from here on are of later classes
+  pub pass-class : j < stop → (keyAt plan j / 4096 ≡ at / 131072 → ⊥) → SameEvent plan swept a stop entry at stop
+  pass-class h n =
+      none-after (λ i l k c.
+      let b = I .offered .by in
+      let s = b .small in
+      let e = b .is in
+      let first = I .block .rising (entry) j (I .offered .low) (I .begun) h in
+      ⊎-elim (λ (q : j ≡ i). n (subst (λ (z : ℕ). keyAt plan z / 4096 ≡ at / 131072) (sym q) c))
+      (λ (m : j < i). let w = I .block .rising j i from-low m k in n (omega arith)) (eq-or-lt-of-le l))
+
+lower-key : (k k′ : ℕ) → k / 4096 ≡ k′ / 4096 → k % 4096 < k′ % 4096 → k < k′
+lower-key k k′ c o = omega arith
+
+-- of two steps by one event that of the lower key is the earlier
+key-order : (k k′ p q at : ℕ) → p < 32 → q < 32 → at ≡ firstStep k + 4096 * p → at < firstStep k′ + 4096 * q → firstStep k′ + 4096 * q < 4096 * (at / 4096 + 1) → k < k′
+key-order k k′ p q at lp lq e f t =
+    let class : k / 4096 ≡ at / 131072 = omega arith in
+    let class′ : k′ / 4096 ≡ at / 131072 = omega arith in
+    let other : k % 4096 ≡ at % 4096 = omega arith in
+    let other′ : at % 4096 < k′ % 4096 = omega arith in
+    lower-key k k′ (class ∙ sym class′) (omega arith)
+
+module _ {plan swept : List ℕ} {a : Asker} {lo stop : ℕ} {o : Offer} {r : ℕ} (B : Block plan lo stop) (R : Resumes plan lo stop o) (S : SameEvent plan swept a stop (o .entry) (o .at) r) where
+  -- a step after that of o by its event is one of an entry from r on, or it is closed
+  still : (j q : ℕ) → lo ≤ j → j < stop → q < 32 → bit (leadsAt plan j) q ≡ true → o .at < firstStep (keyAt plan j) + 4096 * q
+      → firstStep (keyAt plan j) + 4096 * q < 4096 * (o .at / 4096 + 1) → (r ≤ j) ⊎ Passed plan swept a (32 * (keyAt plan j / 4096) + q) (keyAt plan j % 4096)
+  still j q l k lq x f t =
+      let class : keyAt plan j / 4096 ≡ o .at / 131072 = omega arith in
+      let perm : q ≡ o .at / 4096 % 32 = omega arith in
+      let event : o .at / 4096 ≡ 32 * (keyAt plan j / 4096) + q = omega arith in
+      ⊎-elim (λ (b : r ≤ j). inl b)
+      (λ (b : j < r).
+      inr (inl (subst (λ (z : ℕ). closed a (eventsAt plan z) (getD swept (keyAt plan j % 4096) 0) ≡ true) event
+      (S .passed j (after j l k (key-order (keyAt plan (o .entry)) (keyAt plan j) (R .offered .by .perm) q (o .at) (R .offered .by .small) lq (R .offered .by .is) f t)) b class (subst (λ (z : ℕ). bit (leadsAt plan j) z ≡ true) perm x)))))
+      (split-le r j)
+    where
+      after : (j : ℕ) → lo ≤ j → j < stop → keyAt plan (o .entry) < keyAt plan j → o .entry < j
+      after j l k h =
+          ⊎-elim (λ (b : j ≤ o .entry). absurd (⊎-elim (λ (e : j ≡ o .entry). let z : keyAt plan j ≡ keyAt plan (o .entry) = ap (keyAt plan) e in omega arith)
+          (λ (m : j < o .entry). let w = B .rising j (o .entry) l m (R .offered .high) in omega arith) (eq-or-lt-of-le b)))
+          (λ b. b) (split-le j (o .entry))
+
+  -- the step of the entry r
+  pub same-nearest : r < stop → Nearest plan swept a lo stop (o .at + 1) (record { group = o .group; entry = r; at = 4096 * (o .at / 4096) + keyAt plan r % 4096 })
+  same-nearest h =
+      record {
+        high = omega (arith, R .within);
+        low = up;
+        resumes = λ l.
+            record {
+              within = l;
+              offered = record { low = from-first; high = h; by = record { perm = o .at / 4096 % 32; small = omega arith; bears = S .bears h; is = omega (arith, S .class h) } };
+              cursor = later (R .cursor) (omega (arith, up));
+            };
+        unclosed = λ _.
+            subst (λ (z : ℕ). closed a (eventsAt plan z) (getD swept ((4096 * (o .at / 4096) + keyAt plan r % 4096) % 4096) 0) ≡ false)
+            (let e : o .at / 4096 ≡ (4096 * (o .at / 4096) + keyAt plan r % 4096) / 4096 = omega arith in e)
+            (subst (λ (z : ℕ). closed a (eventsAt plan (o .at / 4096)) (getD swept z 0) ≡ false)
+            (let e : keyAt plan r % 4096 ≡ (4096 * (o .at / 4096) + keyAt plan r % 4096) % 4096 = omega arith in e) (S .unclosed h));
+        least = λ j q l k lq x f.
+            ⊎-elim (λ (t : 4096 * (o .at / 4096 + 1) ≤ firstStep (keyAt plan j) + 4096 * q). inl (omega arith))
+            (λ (t : firstStep (keyAt plan j) + 4096 * q < 4096 * (o .at / 4096 + 1)).
+            ⊎-elim (λ (b : r ≤ j). inl (farther j q b k f t)) (λ c. inr c) (still j q l k lq x (omega arith) t))
+            (split-le (4096 * (o .at / 4096 + 1)) (firstStep (keyAt plan j) + 4096 * q));
+      }
+    where
+      from-first : lo ≤ r
+      from-first = omega (arith, S .low, R .offered .low)
+
+      up : o .at + 1 ≤ 4096 * (o .at / 4096) + keyAt plan r % 4096
+      up =
+          let b = R .offered .by in
+          let s = b .small in
+          let e = b .is in
+          let w = B .rising (o .entry) r (R .offered .low) (S .low) h in
+          let c = S .class h in
+          omega arith
+
+      farther : (j q : ℕ) → r ≤ j → j < stop → o .at + 1 ≤ firstStep (keyAt plan j) + 4096 * q → firstStep (keyAt plan j) + 4096 * q < 4096 * (o .at / 4096 + 1)
+          → 4096 * (o .at / 4096) + keyAt plan r % 4096 ≤ firstStep (keyAt plan j) + 4096 * q
+      farther j q b k f t =
+          let c = S .class h in
+          ⊎-elim (λ (e : r ≡ j). let z : keyAt plan r ≡ keyAt plan j = ap (keyAt plan) e in omega arith)
+          (λ (m : r < j). let w = B .rising r j from-first m k in omega arith) (eq-or-lt-of-le b)
+
+  pub next-cursor : Cursor plan lo stop (o .group) (4096 * (o .at / 4096 + 1))
+  next-cursor = later (R .cursor) (omega arith)
+
+  -- no entry has one: the nearest by a later event
+  pub later-nearest : {n : Offer} → stop ≤ r → Nearest plan swept a lo stop (4096 * (o .at / 4096 + 1)) n → Nearest plan swept a lo stop (o .at + 1) n
+  later-nearest {n} h N =
+      record {
+        high = N .high;
+        low = omega (arith, N .low);
+        resumes = N .resumes;
+        unclosed = N .unclosed;
+        least = λ j q l k lq x f.
+            ⊎-elim (λ (t : 4096 * (o .at / 4096 + 1) ≤ firstStep (keyAt plan j) + 4096 * q). N .least j q l k lq x t)
+            (λ (t : firstStep (keyAt plan j) + 4096 * q < 4096 * (o .at / 4096 + 1)).
+            ⊎-elim (λ (b : r ≤ j). absurd (omega arith)) (λ c. inr c) (still j q l k lq x (omega arith) t))
+            (split-le (4096 * (o .at / 4096 + 1)) (firstStep (keyAt plan j) + 4096 * q));
+      }

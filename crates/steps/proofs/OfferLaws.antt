@@ -241,17 +241,17 @@ module _ {s : List ℕ} {n : Counts} {plan : List ℕ} (R : Ready s n) (P : Poli
               (split-le from (4096 * (32 * (i / 32) + F .perm) + y .ty));
           unclosed = N .unclosed;
           offers = λ g.
-              let O = N .offers g in
+              let O = N .resumes g .offered in
               let q = O .by .small in
               let e = O .by .is in
               offering-at (r .entry) (O .by .perm) (O .low) (O .high) (O .by .small) (O .by .bears) (r .at / 4096) (r .at % 4096) (omega arith) (omega arith) (omega arith);
-          cursor = N .cursor;
+          resumes = N .resumes;
         }
 
     -- no entry has a special permission, and the others are done
-    pub none-special : {swept : List ℕ} {a : Asker} {group entry : ℕ} → a .spent ≡ true → guardsAt plan (x .ty) ≡ 0 → group ≡ firstAt plan (x .ty)
+    pub none-special : {swept : List ℕ} {a : Asker} {group entry : ℕ} → a .spent ≡ true → guardsAt plan (x .ty) ≡ 0
         → NextOffer p plan swept a x 0 (record { group = group; entry = entry; at = 4194304 })
-    none-special {swept} {a} spent z₀ q =
+    none-special {swept} {a} spent z₀ =
         record {
           low = omega arith;
           high = omega arith;
@@ -281,7 +281,7 @@ module _ {s : List ℕ} {n : Counts} {plan : List ℕ} (R : Ready s n) (P : Poli
               ));
           offers = λ h. absurd (omega arith);
           unclosed = λ h. absurd (omega arith);
-          cursor = record { low = omega arith; high = omega (arith, block-order h₀); passed = λ j l k. absurd (omega arith) };
+          resumes = λ h. absurd (omega arith);
         }
 
 -- ---- whether a step that an entry offers flows

@@ -8,9 +8,9 @@ use plan::regions::KEYS;
 use plan::regions::LEADS;
 use plan::regions::SPECIAL;
 ghost use mathlib.Core.Path.{_≡_};
-ghost use Prim.Native.Nat.{_≤_, _<_};
+ghost use Prim.Native.Nat.{_+_, _≤_, _<_};
 ghost use lib.ListN.{length};
-ghost use Rattle.steps.specs.inner.Nearest.{keyOf, closed, LowestStep, EntryStep, OpenStep, AskedMask, Skipped, Block, Cursor, Nearest};
+ghost use Rattle.steps.specs.inner.Nearest.{keyOf, closed, LowestStep, EntryStep, OpenStep, AskedMask, Skipped, Block, Cursor, OfferedAt, Resumes, SameEvent, Nearest};
 
 // No step: a number above every step's.
 pub const NONE: u32 = 4194304;
@@ -165,4 +165,62 @@ pub fn nearest(
         entry: entry,
         at: at,
     }
+}
+
+// The first entry after the one that offers the step `at` that offers the same event to a type that it is not closed for: the stop where
+// there is none. Where only special events are asked, this one is.
+fn same_event(
+    plan: &[u32],
+    swept: &[u64; 256],
+    a: Asker,
+    lo: usize,
+    stop: usize,
+    entry: usize,
+    at: u32,
+) -> usize
+    requires { ⌜ (a .state < 64) × Block (now plan) lo stop × OfferedAt (now plan) lo stop entry at × (at < 4194304) ⌝ }
+    ensures { λ r. ⌜ SameEvent (now (plan .entry)) (now (swept .entry)) a stop entry at r ⌝ }
+{
+    let e = at / 4096;
+    let by = plan[EVENTS + (e as usize)];
+    let mut j = entry + 1;
+    while j < stop {
+        let key = plan[KEYS + j];
+        if key / 4096 != at / 131072 {
+            return stop;
+        }
+        if has_bit(plan[LEADS + j], e % 32) {
+            let other = (key % 4096) as usize;
+            if !is_closed(a, by, swept[other]) {
+                return j;
+            }
+        }
+        j += 1;
+    }
+    stop
+}
+
+// The nearest step of a block after that of an offer that is not closed. Keys rise, so those by the same event are offered by later
+// entries, one after the other: only for the next event all entries of the class are looked at again.
+pub fn nearest_after(
+    plan: &[u32],
+    swept: &[u64; 256],
+    a: Asker,
+    lo: usize,
+    stop: usize,
+    offer: Offer,
+) -> Offer
+    requires { ⌜ (a .state < 64) × Block (now plan) lo stop × Resumes (now plan) lo stop offer ⌝ }
+    ensures { λ r. ⌜ Nearest (now (plan .entry)) (now (swept .entry)) a lo stop (offer .at + 1) r ⌝ }
+{
+    let e = offer.at / 4096;
+    let entry = same_event(plan, swept, a, lo, stop, offer.entry, offer.at);
+    if entry < stop {
+        return Offer {
+            group: offer.group,
+            entry: entry,
+            at: 4096 * e + plan[KEYS + entry] % 4096,
+        };
+    }
+    nearest(plan, swept, a, lo, stop, offer.group, 4096 * (e + 1))
 }

@@ -3,18 +3,18 @@ use crate::nearest::Asker;
 use crate::nearest::NONE;
 use crate::nearest::Offer;
 use crate::nearest::nearest;
+use crate::nearest::nearest_after;
 use context::Context;
 use plan::regions::FIRST;
 use plan::regions::GUARDS;
 use policy_image::counts::Counts;
-ghost use Prim.Native.Nat.{_<_};
+ghost use Prim.Native.Nat.{_+_, _<_};
 ghost use Rattle.policy_image.specs.Policy.{policyOf};
 ghost use Rattle.context.specs.Ranges.{ContextInRange};
 ghost use Rattle.plan.specs.inner.Plan.{Ready, PolicyPlan};
-ghost use Rattle.steps.specs.inner.Steps.{Resumes, NextOffer};
+ghost use Rattle.steps.specs.inner.Steps.{ResumesFrom, NextOffer};
 
-// The first step from x on or after a step that is not closed. The group is that of an offer before it, or the start of the block of
-// x's type.
+// The first step from x after that of an offer that is not closed.
 pub fn next_offer(
     policy: &[u8],
     counts: Counts,
@@ -22,16 +22,15 @@ pub fn next_offer(
     swept: &[u64; 256],
     a: Asker,
     x: Context,
-    group: usize,
-    from: u32,
+    offer: Offer,
 ) -> Offer
-    requires { ⌜ (a .state < 64) × Ready (now policy) counts × PolicyPlan (now policy) counts (now plan) × ContextInRange counts x × Resumes (now plan) x group from ⌝ }
-    ensures { λ r. ⌜ NextOffer (policyOf (now (policy .entry))) (now (plan .entry)) (now (swept .entry)) a x from r ⌝ }
+    requires { ⌜ (a .state < 64) × Ready (now policy) counts × PolicyPlan (now policy) counts (now plan) × ContextInRange counts x × ResumesFrom (now plan) x offer ⌝ }
+    ensures { λ r. ⌜ NextOffer (policyOf (now (policy .entry))) (now (plan .entry)) (now (swept .entry)) a x (offer .at + 1) r ⌝ }
 {
     let ty = x.ty as usize;
     let lo = plan[FIRST + ty] as usize;
     let stop = plan[FIRST + (ty + 1)] as usize;
-    nearest(plan, swept, a, lo, stop, group, from)
+    nearest_after(plan, swept, a, lo, stop, offer)
 }
 
 // The first step from x that is not closed: none where only special steps are asked and no entry has one.
@@ -57,5 +56,6 @@ pub fn first_offer(
             };
         }
     }
-    next_offer(policy, counts, plan, swept, a, x, lo, 0)
+    let stop = plan[FIRST + (ty + 1)] as usize;
+    nearest(plan, swept, a, lo, stop, lo, 0)
 }

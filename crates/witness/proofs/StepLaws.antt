@@ -29,11 +29,10 @@ use Rattle.goal_image.specs.Layout.{legsOf}
 use Rattle.goal_image.specs.Goal.{goalOf}
 use Rattle.goal_image.specs.inner.Memberships.{EventSets}
 use Rattle.goal_model.specs.Images.{meetsρμ, model}
-use Rattle.plan.specs.inner.Plan.{firstAt, eventsAt, special, Planned}
+use Rattle.plan.specs.inner.Plan.{eventsAt, special, Planned}
 use Rattle.steps.specs.declared.nearest.Asker.{Asker}
 use Rattle.steps.specs.declared.nearest.Offer.{Offer}
-use Rattle.steps.specs.inner.Nearest.{Cursor}
-use Rattle.steps.specs.inner.Steps.{Offering, Facing, NextOffer}
+use Rattle.steps.specs.inner.Steps.{Offering, ResumesFrom, Facing, NextOffer}
 use Rattle.steps.proofs.FlowLaws.{flow-held}
 use Rattle.nodes.specs.declared.arrival.Arrival.{Arrival}
 use Rattle.nodes.specs.declared.arrival.Arrival.the-variants.{Enter, Dropped, Broken}
@@ -45,7 +44,6 @@ use Rattle.memory.specs.inner.Memory.{keepsOf}
 use Rattle.witness.specs.inner.Links.{LeastBelow, Linked, OfferedBetween}
 use Rattle.nodes.proofs.ModelLaws.{bounded}
 use Rattle.base.proofs.UptoLaws.{clash}
-use Rattle.nodes.proofs.ArrivalLaws.{later}
 use Rattle.memory.proofs.MemoryLaws.{AskerOf, memory-begin, edge-like, passed as remembered}
 use Rattle.nodes.proofs.LevelLaws.{place-lt, edge-flow, edge-free, edge-freeE, range-at, only-at, edge-at}
 use Rattle.memory.proofs.StandLaws.{Around, around, at-place, stand}
@@ -55,7 +53,7 @@ pub record Looking (s g : List ℕ) (n : Counts) (plan : List ℕ) (m : Mode) (u
   pub high : o .at ≤ 4194304
   pub none : (j : ℕ) → 4096 * j + typeOf g n w < o .at → graphOf s g n m .Edge u j w → ⊥
   pub offers : o .at < 4194304 → Offering (policyOf s) plan (x .ty) (o .at / 4096) (o .at % 4096) (o .entry)
-  pub cursor : Cursor plan (firstAt plan (x .ty)) (firstAt plan (x .ty + 1)) (o .group) (o .at + 1)
+  pub resumes : o .at < 4194304 → ResumesFrom plan x o
 
 -- ---- an event that an entry offers
 module _ {s g : List ℕ} {n : Counts} {l : Legs} (A : Task s g n l) where
@@ -187,7 +185,7 @@ module _ {s g : List ℕ} {n : Counts} {l : Legs} (A : Task s g n l) (m : Mode) 
   module _ {x : Context} (q : x ≡ contextAtIndex n (u / states)) {plan : List ℕ} (P : Planned s g n plan) {a : Asker} (Q : AskerOf m (replicate 256 0) x (u % states) a) where
     pub look-begin : {r : Offer} → NextOffer (policyOf s) plan (replicate 256 0) a x 0 r → Looking s g n plan m u w x r
     look-begin N =
-        record { high = N .high; none = λ j h. passed q P Q N (λ e k. absurd (omega arith)) j (omega arith) h; offers = N .offers; cursor = later (N .cursor) (omega arith) }
+        record { high = N .high; none = λ j h. passed q P Q N (λ e k. absurd (omega arith)) j (omega arith) h; offers = N .offers; resumes = N .resumes }
 
     module _ {o : Offer} (K : Looking s g n plan m u w x o) where
       pub offered : {y : Context} → y ≡ contextAtIndex n (w / states) → o .at < 4194304 → o .at % 4096 ≡ y .ty → OfferedBetween s g n plan u (o .at / 4096) (o .entry) w
@@ -202,7 +200,7 @@ module _ {s g : List ℕ} {n : Counts} {l : Legs} (A : Task s g n l) (m : Mode) 
       pub look-more : {r : Offer} → NextOffer (policyOf s) plan (replicate 256 0) a x (o .at + 1) r → ((j : ℕ) → o .at ≡ 4096 * j + typeOf g n w → graphOf s g n m .Edge u j w → ⊥)
           → Looking s g n plan m u w x r
       look-more {r} N here =
-          record { high = N .high; none = λ j h ed. go j h ed (decLt (4096 * j + typeOf g n w) (o .at)); offers = N .offers; cursor = later (N .cursor) (omega (arith, N .low)) }
+          record { high = N .high; none = λ j h ed. go j h ed (decLt (4096 * j + typeOf g n w) (o .at)); offers = N .offers; resumes = N .resumes }
         where
           past : (e : ℕ) → 4096 * e + typeOf g n w < o .at + 1 → graphOf s g n m .Edge u e w → ⊥
           past e h ed =

@@ -88,16 +88,7 @@ pub fn least_event(
                 return e;
             }
         }
-        offer = next_offer(
-            policy,
-            counts,
-            plan,
-            &swept,
-            a,
-            x,
-            offer.group,
-            offer.at + 1,
-        );
+        offer = next_offer(policy, counts, plan, &swept, a, x, offer);
     }
     1024
 }

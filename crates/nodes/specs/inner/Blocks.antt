@@ -12,11 +12,11 @@ use Rattle.access.specs.Authorization.{flow}
 use Rattle.goal_image.specs.Goal.{Goal, σeChain}
 use Rattle.goal_image.specs.Sets.{contextIn}
 use Rattle.goal_model.specs.Images.{meetsρμ}
-use Rattle.plan.specs.inner.Plan.{firstAt, eventsAt}
+use Rattle.plan.specs.inner.Plan.{eventsAt}
 use Rattle.steps.specs.declared.nearest.Asker.{Asker}
 use Rattle.steps.specs.declared.nearest.Offer.{Offer}
-use Rattle.steps.specs.inner.Nearest.{Cursor, closed, Passed}
-use Rattle.steps.specs.inner.Steps.{Offering}
+use Rattle.steps.specs.inner.Nearest.{closed, Passed}
+use Rattle.steps.specs.inner.Steps.{Offering, ResumesFrom}
 
 -- whether steps from x are asked: it is not in σe, and meets ρ and μ
 pub record Asks (p : Policy) (g : Goal) (x : Context) (b : Bool) : Type 0 where
@@ -30,7 +30,7 @@ pub record Ahead (p : Policy) (g : Goal) (plan swept : List ℕ) (a : Asker) (x 
   pub meets : meetsρμ p x ≡ true
   pub offering : Offering p plan (x .ty) (r .at / 4096) (r .at % 4096) (r .entry)
   pub unclosed : closed a (eventsAt plan (r .at / 4096)) (getD swept (r .at % 4096) 0) ≡ false
-  pub cursor : Cursor plan (firstAt plan (x .ty)) (firstAt plan (x .ty + 1)) (r .group) (r .at)
+  pub resumes : ResumesFrom plan x r
 
 -- r is a step ahead of x, or none, and a path that goes by a step before it need not be asked
 pub record FirstStep (p : Policy) (g : Goal) (plan swept : List ℕ) (a : Asker) (x : Context) (r : Offer) : Type 0 where

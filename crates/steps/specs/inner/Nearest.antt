@@ -88,12 +88,28 @@ pub record OfferedAt (plan : List ℕ) (lo stop entry r : ℕ) : Type 0 where
   pub high : entry < stop
   pub by : StepBy (firstStep (keyAt plan entry)) (leadsAt plan entry) r
 
+-- an entry of the block offers the step of o, and the entries before its group are of classes before the step's
+pub record Resumes (plan : List ℕ) (lo stop : ℕ) (o : Offer) : Type 0 where
+  pub within : o .at < 4194304
+  pub offered : OfferedAt plan lo stop (o .entry) (o .at)
+  pub cursor : Cursor plan lo stop (o .group) (o .at)
+
+-- of the entries after the one that offers the step `at`, r is the first that offers the same event to a type that it is not closed for; stop
+-- where there is none
+pub record SameEvent (plan swept : List ℕ) (a : Asker) (stop entry at r : ℕ) : Type 0 where
+  pub low : entry < r
+  pub high : r ≤ stop
+  pub class : r < stop → keyAt plan r / 4096 ≡ at / 131072
+  pub bears : r < stop → bit (leadsAt plan r) (at / 4096 % 32) ≡ true
+  pub unclosed : r < stop → closed a (eventsAt plan (at / 4096)) (getD swept (keyAt plan r % 4096) 0) ≡ false
+  pub passed : (j : ℕ) → entry < j → j < r → keyAt plan j / 4096 ≡ at / 131072 → bit (leadsAt plan j) (at / 4096 % 32) ≡ true
+      → closed a (eventsAt plan (at / 4096)) (getD swept (keyAt plan j % 4096) 0) ≡ true
+
 -- the nearest step of a block from a step on that is not closed
 pub record Nearest (plan swept : List ℕ) (a : Asker) (lo stop from : ℕ) (r : Offer) : Type 0 where
   pub high : r .at ≤ 4194304
   pub low : from ≤ r .at
-  pub offers : r .at < 4194304 → OfferedAt plan lo stop (r .entry) (r .at)
+  pub resumes : r .at < 4194304 → Resumes plan lo stop r
   pub unclosed : r .at < 4194304 → closed a (eventsAt plan (r .at / 4096)) (getD swept (r .at % 4096) 0) ≡ false
   pub least : (j q : ℕ) → lo ≤ j → j < stop → q < 32 → bit (leadsAt plan j) q ≡ true → from ≤ firstStep (keyAt plan j) + 4096 * q
       → (r .at ≤ firstStep (keyAt plan j) + 4096 * q) ⊎ Passed plan swept a (32 * (keyAt plan j / 4096) + q) (keyAt plan j % 4096)
-  pub cursor : Cursor plan lo stop (r .group) from

@@ -18,7 +18,7 @@ use Rattle.goal_model.specs.Images.{meetsρμ}
 use Rattle.plan.specs.inner.Plan.{firstAt, outsAt, insAt, eventsAt, special}
 use Rattle.steps.specs.declared.nearest.Asker.{Asker}
 use Rattle.steps.specs.declared.nearest.Offer.{Offer}
-use Rattle.steps.specs.inner.Nearest.{closed, Passed, Cursor}
+use Rattle.steps.specs.inner.Nearest.{closed, Passed, Resumes}
 
 -- the entry offers the event from the type t to the type o: what α lets t write and o read
 pub record Offering (p : Policy) (plan : List ℕ) (t e o entry : ℕ) : Type 0 where
@@ -29,9 +29,9 @@ pub record Offering (p : Policy) (plan : List ℕ) (t e o entry : ℕ) : Type 0 
   pub ins : bit (insAt plan entry) (e % 32) ≡ (α p o t (eventOf e) && readLike p (eventOf e))
   pub some : bit (bitOr (outsAt plan entry) (insAt plan entry)) (e % 32) ≡ true
 
--- the entries of x's type before the group are of classes before the step's
-abbrev pub Resumes : List ℕ → Context → ℕ → ℕ → Type 0
-Resumes plan x group from = (from ≤ 4194304) × Cursor plan (firstAt plan (x .ty)) (firstAt plan (x .ty + 1)) group from
+-- an entry of x's type offers the step of o, and the entries before its group are of classes before the step's
+abbrev pub ResumesFrom : List ℕ → Context → Offer → Type 0
+ResumesFrom plan x o = Resumes plan (firstAt plan (x .ty)) (firstAt plan (x .ty + 1)) o
 
 -- an event that flows from x to y too, and that a search cannot tell from the event i, was asked before
 pub record Earlier (p : Policy) (plan : List ℕ) (from i : ℕ) (x y : Context) : Type 0 where
@@ -49,7 +49,7 @@ pub record NextOffer (p : Policy) (plan swept : List ℕ) (a : Asker) (x : Conte
       → Passed plan swept a i (y .ty) ⊎ Earlier p plan from i x y
   pub offers : r .at < 4194304 → Offering p plan (x .ty) (r .at / 4096) (r .at % 4096) (r .entry)
   pub unclosed : r .at < 4194304 → closed a (eventsAt plan (r .at / 4096)) (getD swept (r .at % 4096) 0) ≡ false
-  pub cursor : Cursor plan (firstAt plan (x .ty)) (firstAt plan (x .ty + 1)) (r .group) from
+  pub resumes : r .at < 4194304 → ResumesFrom plan x r
 
 -- x, which meets ρ and μ, faces contexts of the type o by the event: the entry offers it, and c says whether it is special
 pub record Facing (p : Policy) (plan : List ℕ) (x : Context) (e o entry : ℕ) (c : Bool) : Type 0 where

@@ -2,7 +2,6 @@ use Rattle.plan.proofs.TypeLaws.{own-place}
 use Rattle.memory.proofs.LoopLaws.{Middle, Inner, node-below, asks-same, marks-same, middle-begin, middle-end, middle-spent, event-few, other-few, type-low, type-high, inner-begin, inner-key, of-event, inner-swept, inner-end, inner-type, inner-fits, inner-facing, inner-skip, inner-unheld, inner-below, inner-entered, inner-seen, inner-dropped, inner-broken, inner-next}
 use Rattle.memory.proofs.StandLaws.{Around, around, at-place, stand, own-few, state-few, asker-of}
 use Rattle.memory.proofs.MemoryLaws.{memory-begin, memory-keep}
-use Rattle.nodes.proofs.ArrivalLaws.{later}
 use Rattle.nodes.proofs.SearchLaws.{enter, room, nothing, stopped, turn-chain, chain-bound}
 use Rattle.memory.specs.inner.Memory.{keepsOf, Memory}
 use Rattle.nodes.specs.inner.Tasks.{graphOf}
@@ -245,18 +244,15 @@ array-write-swept :
     tie.Need-array-write-swept Inv-loop2 μ-loop2 Inv-loop μ-loop Inv-search μ-search
 array-write-swept c = let I = c .before .before .before .before .before .loop2 .inv .2 in omega (arith, other-few (I .fixed) (I .ahead), I .memory .swept-size)
 
-add-next-offer : tie.Need-add-next-offer Inv-loop2 μ-loop2 Inv-loop μ-loop Inv-search μ-search
-add-next-offer c = omega (arith, c .before .before .before .before .before .before .before .loop2 .inv .2 .below)
-
 next-offer-requires :
     tie.Need-next-offer-requires Inv-loop2 μ-loop2 Inv-loop μ-loop Inv-search μ-search
-next-offer-requires c κs = let I = c .before .before .before .before .before .before .before .loop2 .inv .2 in (I .asker .few, I .fixed .task .given .ready, I .planned .policy, I .stands .range, (omega (arith, I .below), later (I .ahead .cursor) (omega arith)))
+next-offer-requires c κs = let I = c .before .before .before .before .before .before .loop2 .inv .2 in (I .asker .few, I .fixed .task .given .ready, I .planned .policy, I .stands .range, I .ahead .resumes)
 
 loop-less : tie.Need-loop-less Inv-loop2 μ-loop2 Inv-loop μ-loop Inv-search μ-search
-loop-less c = omega (arith, c .before .before .before .before .before .before .before .before .loop2 .inv .2 .below, c .next-offer .ensures .low)
+loop-less c = omega (arith, c .before .before .before .before .before .before .before .loop2 .inv .2 .below, c .next-offer .ensures .low)
 
 loop-again : tie.Need-loop-again Inv-loop2 μ-loop2 Inv-loop μ-loop Inv-search μ-search
-loop-again c = let i = c .before .before .before .before .before .before .before .before .loop2 .inv in let j = c .before .before .before .before .before .before .before .before .before .before .before .before .before .before .before .before .before .loop .inv in let d = c .before .before .before .before .before .before .before .loop2-test .left in (i .0 ∙ j .0, i .1 ∙ j .1, inner-end (i .2) d (inner-swept (i .2) d (c .before .before .before .before .before .is-settled .ensures) (marks-same (c .before .before .before .before .key-of .ensures) (c .before .before .before .mark .ensures))) (c .next-offer .ensures))
+loop-again c = let i = c .before .before .before .before .before .before .before .loop2 .inv in let j = c .before .before .before .before .before .before .before .before .before .before .before .before .before .before .before .before .loop .inv in let d = c .before .before .before .before .before .before .loop2-test .left in (i .0 ∙ j .0, i .1 ∙ j .1, inner-end (i .2) d (inner-swept (i .2) d (c .before .before .before .before .is-settled .ensures) (marks-same (c .before .before .before .key-of .ensures) (c .before .before .mark .ensures))) (c .next-offer .ensures))
 
 mul-spent : tie.Need-mul-spent Inv-loop2 μ-loop2 Inv-loop μ-loop Inv-search μ-search
 mul-spent c = let I = c .before .before .loop .inv .2 in omega (arith, own-few (I .fixed) (I .stands))
@@ -381,7 +377,6 @@ search-levels-spec =
     mark-requires
     mul-swept-2
     array-write-swept
-    add-next-offer
     next-offer-requires
     loop-less
     loop-again

@@ -1,5 +1,4 @@
-use Rattle.steps.proofs.OfferLaws.{type-few, block-top, block-order, cursor-start, none-special}
-use mathlib.Core.Path.{refl}
+use Rattle.steps.proofs.OfferLaws.{type-few, block-top, block-order, block-law, cursor-start, next-law, none-special}
 use native.Mathlib.Omega.{arith}
 use borrow.Author.Needs.{needs}
 use Rattle.steps.proofs.offers.first_offer.Statement.{statement}
@@ -30,13 +29,28 @@ shared-slice-read-if2 : tie.Need-shared-slice-read-if2
 shared-slice-read-if2 c = omega (arith, type-few (c .before .before .before .before .before .before .pre .1) (c .before .before .before .before .before .before .pre .2) (c .before .before .before .before .before .before .pre .3), c .before .before .before .before .before .before .pre .2 .size)
 
 returns : tie.Need-returns
-returns c = none-special (c .before .before .before .before .before .before .before .pre .1) (c .before .before .before .before .before .before .before .pre .2) (c .before .before .before .before .before .before .before .pre .3) (c .before .before .if1 .taken) (c .if2 .taken) refl
+returns c = none-special (c .before .before .before .before .before .before .before .pre .1) (c .before .before .before .before .before .before .before .pre .2) (c .before .before .before .before .before .before .before .pre .3) (c .before .before .if1 .taken) (c .if2 .taken)
 
-next-offer-requires : tie.Need-next-offer-requires
-next-offer-requires c κs = (c .before .before .before .before .before .pre .0, c .before .before .before .before .before .pre .1, c .before .before .before .before .before .pre .2, c .before .before .before .before .before .pre .3, (omega arith, cursor-start (c .before .before .before .before .before .pre .1) (c .before .before .before .before .before .pre .2) (c .before .before .before .before .before .pre .3)))
+add-stop : tie.Need-add-stop
+add-stop c = search needs
+
+add-stop-2 : tie.Need-add-stop-2
+add-stop-2 c = search needs
+
+mul-stop : tie.Need-mul-stop
+mul-stop c = search needs
+
+shared-slice-read-stop : tie.Need-shared-slice-read-stop
+shared-slice-read-stop c = omega (arith, type-few (c .before .before .before .before .before .before .pre .1) (c .before .before .before .before .before .before .pre .2) (c .before .before .before .before .before .before .pre .3), c .before .before .before .before .before .before .pre .2 .size)
+
+cast-stop : tie.Need-cast-stop
+cast-stop c = omega (arith, block-top (c .before .before .before .before .before .before .pre .1) (c .before .before .before .before .before .before .pre .2) (c .before .before .before .before .before .before .pre .3))
+
+nearest-requires : tie.Need-nearest-requires
+nearest-requires c κs = (c .before .before .before .before .before .before .pre .0, block-law (c .before .before .before .before .before .before .pre .1) (c .before .before .before .before .before .before .pre .2) (c .before .before .before .before .before .before .pre .3), cursor-start (c .before .before .before .before .before .before .pre .1) (c .before .before .before .before .before .before .pre .2) (c .before .before .before .before .before .before .pre .3), omega arith)
 
 returns-2 : tie.Need-returns-2
-returns-2 c = search needs
+returns-2 c = next-law (c .before .before .before .before .before .before .before .pre .1) (c .before .before .before .before .before .before .before .pre .2) (c .before .before .before .before .before .before .before .pre .3) (c .nearest .ensures)
 
 pub first-offer-spec : {M : Type 1} → statement M
 first-offer-spec =
@@ -51,5 +65,10 @@ first-offer-spec =
     mul-if2
     shared-slice-read-if2
     returns
-    next-offer-requires
+    add-stop
+    add-stop-2
+    mul-stop
+    shared-slice-read-stop
+    cast-stop
+    nearest-requires
     returns-2)

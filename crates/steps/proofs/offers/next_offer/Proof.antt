@@ -34,11 +34,11 @@ shared-slice-read-stop c = omega (arith, type-few (c .before .before .before .be
 cast-stop : tie.Need-cast-stop
 cast-stop c = omega (arith, block-top (c .before .before .before .before .before .pre .1) (c .before .before .before .before .before .pre .2) (c .before .before .before .before .before .pre .3))
 
-nearest-requires : tie.Need-nearest-requires
-nearest-requires c κs = (c .before .before .before .before .before .pre .0, block-law (c .before .before .before .before .before .pre .1) (c .before .before .before .before .before .pre .2) (c .before .before .before .before .before .pre .3), c .before .before .before .before .before .pre .4 .1, c .before .before .before .before .before .pre .4 .0)
+nearest-after-requires : tie.Need-nearest-after-requires
+nearest-after-requires c κs = (c .before .before .before .before .before .pre .0, block-law (c .before .before .before .before .before .pre .1) (c .before .before .before .before .before .pre .2) (c .before .before .before .before .before .pre .3), c .before .before .before .before .before .pre .4)
 
 returns : tie.Need-returns
-returns c = next-law (c .before .before .before .before .before .before .pre .1) (c .before .before .before .before .before .before .pre .2) (c .before .before .before .before .before .before .pre .3) (c .nearest .ensures)
+returns c = next-law (c .before .before .before .before .before .before .pre .1) (c .before .before .before .before .before .before .pre .2) (c .before .before .before .before .before .before .pre .3) (c .nearest-after .ensures)
 
 pub next-offer-spec : {M : Type 1} → statement M
 next-offer-spec =
@@ -54,5 +54,5 @@ next-offer-spec =
     mul-stop
     shared-slice-read-stop
     cast-stop
-    nearest-requires
+    nearest-after-requires
     returns)

@@ -96,22 +96,19 @@ returns c =
     look-found (s .pre .0) (s .args .mode) (s .pre .2) (from L .before .states-of .ensures) (from L .at .ensures) (s .pre .1) (asks L) (L .loop .inv) (d .if1 .taken)
     (yes-of (b .is-step .result) (b .is-step .ensures) (c .if3 .taken))
 
-add-next-offer : tie.Need-add-next-offer Inv-loop μ-loop
-add-next-offer c = omega arith
-
 next-offer-requires : tie.Need-next-offer-requires Inv-loop μ-loop
 next-offer-requires c κs =
-    let d = c .before .before .before .before .before .before in
+    let d = c .before .before .before .before .before in
     let L = d .before .before in
     let s = start L in
-    (asks L .few, s .pre .0 .given .ready, s .pre .1 .policy, from-range (s .pre .0) (s .args .mode) (s .pre .2) (from L .before .states-of .ensures) (from L .at .ensures), (omega (arith, d .if1 .taken), L .loop .inv .cursor))
+    (asks L .few, s .pre .0 .given .ready, s .pre .1 .policy, from-range (s .pre .0) (s .args .mode) (s .pre .2) (from L .before .states-of .ensures) (from L .at .ensures), L .loop .inv .resumes (d .if1 .taken))
 
 loop-less : tie.Need-loop-less Inv-loop μ-loop
 loop-less c = omega (arith, c .next-offer .ensures .low)
 
 loop-again : tie.Need-loop-again Inv-loop μ-loop
 loop-again c =
-    let j = c .before .before .before in
+    let j = c .before .before in
     let L = j .before .before .before .before .before .before in
     let s = start L in
     look-more (s .pre .0) (s .args .mode) (s .pre .2) (from L .before .states-of .ensures) (from L .at .ensures) (s .pre .1) (asks L) (L .loop .inv) (c .next-offer .ensures)
@@ -142,7 +139,6 @@ least-event-spec =
     loop-holds
     is-step-requires
     returns
-    add-next-offer
     next-offer-requires
     loop-less
     loop-again
