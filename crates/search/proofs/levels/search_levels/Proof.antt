@@ -165,10 +165,10 @@ enum-known-v-2 : tie.Need-enum-known-v-2 Inv-loop2 μ-loop2 Inv-loop μ-loop Inv
 enum-known-v-2 c = search needs
 
 cast-at : tie.Need-cast-at Inv-loop2 μ-loop2 Inv-loop μ-loop Inv-search μ-search
-cast-at c = omega arith
+cast-at c = omega (arith, c .known-told2 .given)
 
 mul-if7 : tie.Need-mul-if7 Inv-loop2 μ-loop2 Inv-loop μ-loop Inv-search μ-search
-mul-if7 c = omega arith
+mul-if7 c = omega (arith, c .known-told2 .given)
 
 slice-read-if7 : tie.Need-slice-read-if7 Inv-loop2 μ-loop2 Inv-loop μ-loop Inv-search μ-search
 slice-read-if7 c = omega (arith, inner-below (c .before .before .before .before .before .before .before .before .loop2 .inv .2) (c .before .before .before .before .before .before .before .loop2-test .taken) (c .before .before .before .before .arrive .ensures) (c .before .before .v2 .given .1), c .before .before .before .before .before .before .before .before .loop2 .inv .2 .turn .inv .back-room)
