@@ -51,7 +51,7 @@ extern "C" {
 #endif
 
 /* The stack that a call needs at the most, in bytes. */
-#define FLOWGOAL_STACK (1024 * 1024)
+#define FLOWGOAL_STACK (640 * 1024)
 
 /* The largest images, in bytes: 4,095 and 255 records. What is longer is refused with 1 or 7. */
 #define FLOWGOAL_LARGEST_POLICY (24 + 12 * 4095)

@@ -68,7 +68,19 @@ fn all_entered(
 {
     let mut y = start;
     while y < end {
-        if !is_entered(policy, goal, counts, plan, legs, mode, state, by, back, ty, y) {
+        if !is_entered(
+            policy,
+            goal,
+            counts,
+            plan,
+            legs,
+            mode,
+            state,
+            by,
+            back,
+            ty,
+            y,
+        ) {
             return false;
         }
         y += 1;

@@ -72,14 +72,7 @@ pub fn arrive(
 }
 
 // Whether steps from the context at place y, of the type, are asked at all: it is not in σe, and meets ρ and μ.
-pub fn is_asked(
-    policy: &[u8],
-    goal: &[u8],
-    counts: Counts,
-    plan: &[u32],
-    ty: u32,
-    y: u32,
-) -> bool
+pub fn is_asked(policy: &[u8], goal: &[u8], counts: Counts, plan: &[u32], ty: u32, y: u32) -> bool
     requires { ⌜ Planned (now policy) (now goal) counts (now plan) × OfType counts ty y ⌝ }
     ensures { λ r. ⌜ Asks (policyOf (now (policy .entry))) (goalOf (now (goal .entry))) (contextAtIndex counts y) r ⌝ }
 {

@@ -105,7 +105,7 @@ pub fn search_levels(
                 // The conditions of a target are asked last: only where it would be a node that is new.
                 match arrive(goal, counts, plan, legs, mode, state, by, ty, y) {
                     Arrival::Broken(v) => {
-                        if is_target(policy, counts, plan, x, e, offer.entry, guarded, ty, y) {
+                        if is_target(policy, counts, plan, x, e, offer.entry, guarded, y) {
                             break 'search Found::At(u, e, v, depth);
                         }
                     }
@@ -113,7 +113,7 @@ pub fn search_levels(
                     Arrival::Enter(v) => {
                         let at = v as usize;
                         if back[at] == 0 {
-                            if is_target(policy, counts, plan, x, e, offer.entry, guarded, ty, y) {
+                            if is_target(policy, counts, plan, x, e, offer.entry, guarded, y) {
                                 back[at] = u + 1;
                                 queue[tail] = v;
                                 tail += 1;

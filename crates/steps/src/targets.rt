@@ -17,7 +17,7 @@ ghost use Prim.Native.Nat.{_<_};
 ghost use Rattle.policy_image.specs.Policy.{policyOf};
 ghost use Rattle.context.specs.Codes.{eventOf};
 ghost use Rattle.context.specs.Ranges.{ContextInRange};
-ghost use Rattle.context.specs.inner.Places.{contextAtIndex};
+ghost use Rattle.context.specs.inner.Places.{contextCount, contextAtIndex};
 ghost use Rattle.access.specs.Authorization.{roleRule, flow};
 ghost use Rattle.constraints.specs.Constraints.{constraintsHold};
 ghost use Rattle.goal_model.specs.Images.{meetsρμ};
@@ -93,7 +93,7 @@ pub fn is_held(policy: &[u8], counts: Counts, plan: &[u32], ty: u32, y: u32) -> 
     plan[own] & plan[pair] != 0
 }
 
-// Whether the event flows from x to the context at place y, to whose type the entry offers it.
+// Whether the event flows from x to the context at place y, which meets ρ and μ, and to whose type the entry offers it.
 pub fn is_target(
     policy: &[u8],
     counts: Counts,
@@ -102,15 +102,11 @@ pub fn is_target(
     event: u32,
     entry: usize,
     guarded: bool,
-    ty: u32,
     y: u32,
 ) -> bool
-    requires { ⌜ Ready (now policy) counts × PolicyPlan (now policy) counts (now plan) × ContextInRange counts x × OfType counts ty y × Facing (policyOf (now policy)) (now plan) x event (contextAtIndex counts y .ty) entry guarded ⌝ }
+    requires { ⌜ Ready (now policy) counts × PolicyPlan (now policy) counts (now plan) × ContextInRange counts x × (y < contextCount counts) × Facing (policyOf (now policy)) (now plan) x event (contextAtIndex counts y .ty) entry guarded × (meetsρμ (policyOf (now policy)) (contextAtIndex counts y) ≡ true) ⌝ }
     ensures { λ r. ⌜ r ≡ flow (policyOf (now (policy .entry))) (eventOf event) x (contextAtIndex counts y) ⌝ }
 {
-    if !is_held(policy, counts, plan, ty, y) {
-        return false;
-    }
     if !guarded {
         return true;
     }

@@ -34,6 +34,7 @@ use Rattle.steps.specs.declared.nearest.Asker.{Asker}
 use Rattle.steps.specs.declared.nearest.Offer.{Offer}
 use Rattle.steps.specs.inner.Steps.{Offering, ResumesFrom, Facing, NextOffer}
 use Rattle.steps.proofs.FlowLaws.{flow-held}
+use Rattle.steps.proofs.FlowLaws as flow-laws
 use Rattle.nodes.specs.declared.arrival.Arrival.{Arrival}
 use Rattle.nodes.specs.declared.arrival.Arrival.the-variants.{Enter, Dropped, Broken}
 use Rattle.nodes.specs.declared.monitor.Mode.{Mode}
@@ -140,6 +141,9 @@ module _ {s g : List ℕ} {n : Counts} {l : Legs} (A : Task s g n l) (m : Mode) 
     no-flow {b} q′ p t ed =
         clash (edge-flow A m stands (L .to) ed)
         (ap (λ (i : ℕ). flow (policyOf s) (eventOf e) x (contextAtIndex n i)) place-w ∙ ap (flow (policyOf s) (eventOf e) x) (sym q′) ∙ sym p ∙ not-true b t)
+
+    pub no-held : {b : Bool} → b ≡ meetsρμ (policyOf s) (contextAtIndex n (w / states)) → not b ≡ true → graphOf s g n m .Edge u e w → ⊥
+    no-held {b} p t = no-flow refl (sym (flow-laws.no-flow (policyOf s) (eventOf e) x (contextAtIndex n (w / states)) (sym p ∙ not-true b t))) refl
 
     module _ (r : Arrival) (Z : Arriving g n l m (u % states) by (w / states) r) where
       lands : Lands (model s g) n (watchOf m (model s g)) (w / states) (watchOf m (model s g) .step (u % states) e (codeAt n (w / states))) r

@@ -14,6 +14,7 @@ use steps::nearest::Asker;
 use steps::nearest::NONE;
 use steps::offers::first_offer;
 use steps::offers::next_offer;
+use steps::targets::is_held;
 use steps::targets::is_special;
 use steps::targets::is_target;
 ghost use Rattle.base.specs.inner.Decides.{Decides};
@@ -45,8 +46,11 @@ fn is_step(
     let x = Context::at(u / states, counts);
     let y = w / states;
     let ty = Context::at(y, counts).ty;
+    if !is_held(policy, counts, plan, ty, y) {
+        return false;
+    }
     let guarded = is_special(policy, counts, plan, e);
-    if !is_target(policy, counts, plan, x, e, entry, guarded, ty, y) {
+    if !is_target(policy, counts, plan, x, e, entry, guarded, y) {
         return false;
     }
     match arrive(goal, counts, plan, legs, mode, u % states, by, ty, y) {

@@ -1,5 +1,5 @@
 use Rattle.plan.proofs.TypeLaws.{own-place}
-use Rattle.memory.proofs.LoopLaws.{Middle, Inner, node-below, asks-same, marks-same, middle-begin, middle-end, middle-spent, event-few, other-few, type-low, type-high, inner-begin, inner-key, of-event, inner-swept, inner-end, inner-type, inner-fits, inner-facing, inner-skip, inner-unheld, inner-below, inner-entered, inner-seen, inner-dropped, inner-broken, inner-next}
+use Rattle.memory.proofs.LoopLaws.{Middle, Inner, node-below, asks-same, marks-same, middle-begin, middle-end, middle-spent, event-few, other-few, type-low, type-high, inner-begin, inner-key, of-event, inner-swept, inner-end, inner-place, inner-type, inner-fits, inner-facing, inner-skip, inner-unheld, inner-below, inner-entered, inner-seen, inner-dropped, inner-broken, inner-next}
 use Rattle.memory.proofs.StandLaws.{Around, around, at-place, stand, own-few, state-few, asker-of}
 use Rattle.memory.proofs.MemoryLaws.{memory-begin, memory-keep}
 use Rattle.nodes.proofs.SearchLaws.{enter, room, nothing, stopped, turn-chain, chain-bound}
@@ -10,9 +10,10 @@ use Rattle.plan.specs.inner.Plan.{Planned}
 use lib.ListN.{length, length-set}
 use Prim.Native.Nat.{ℕ, _+_, _-_, _<_}
 use mathlib.Core.Logic.{⊎-elim}
-use mathlib.Core.Path.{_≡_, refl, _∙_}
+use mathlib.Core.Path.{_≡_, refl, sym, _∙_}
 use native.Mathlib.Omega.{arith}
 use borrow.Author.Needs.{needs}
+use borrow.Author.Tests.{not-false}
 use Rattle.search.proofs.levels.search_levels.Statement.{statement}
 use Rattle.search.proofs.levels.search_levels.Tie as tie
 
@@ -156,7 +157,7 @@ enum-known-v c = search needs
 
 is-target-requires :
     tie.Need-is-target-requires Inv-loop2 μ-loop2 Inv-loop μ-loop Inv-search μ-search
-is-target-requires c κs = let I = c .before .before .before .before .before .before .before .loop2 .inv .2 in let h = c .before .before .before .before .before .before .loop2-test .taken in (I .fixed .task .given .ready, I .planned .policy, I .stands .range, inner-type I h, inner-facing I h)
+is-target-requires c κs = let I = c .before .before .before .before .before .before .before .loop2 .inv .2 in let h = c .before .before .before .before .before .before .loop2-test .taken in (I .fixed .task .given .ready, I .planned .policy, I .stands .range, inner-place I h, inner-facing I h, sym (c .before .before .before .before .before .is-held .ensures) ∙ not-false _ (c .before .before .before .before .if4 .left))
 
 enum-told : tie.Need-enum-told Inv-loop2 μ-loop2 Inv-loop μ-loop Inv-search μ-search
 enum-told c = search needs
@@ -175,7 +176,7 @@ slice-read-if7 c = omega (arith, inner-below (c .before .before .before .before 
 
 is-target-requires-2 :
     tie.Need-is-target-requires-2 Inv-loop2 μ-loop2 Inv-loop μ-loop Inv-search μ-search
-is-target-requires-2 c κs = let I = c .before .before .before .before .before .before .before .before .before .loop2 .inv .2 in let h = c .before .before .before .before .before .before .before .before .loop2-test .taken in (I .fixed .task .given .ready, I .planned .policy, I .stands .range, inner-type I h, inner-facing I h)
+is-target-requires-2 c κs = let I = c .before .before .before .before .before .before .before .before .before .loop2 .inv .2 in let h = c .before .before .before .before .before .before .before .before .loop2-test .taken in (I .fixed .task .given .ready, I .planned .policy, I .stands .range, inner-place I h, inner-facing I h, sym (c .before .before .before .before .before .before .before .is-held .ensures) ∙ not-false _ (c .before .before .before .before .before .before .if4 .left))
 
 add-back : tie.Need-add-back Inv-loop2 μ-loop2 Inv-loop μ-loop Inv-search μ-search
 add-back c = let I = c .before .before .before .before .before .before .before .before .before .before .before .loop2 .inv .2 in omega (arith, chain-bound (turn-chain (I .turn)), I .fixed .nodes)
