@@ -16,7 +16,7 @@ use Rattle.base.proofs.Numbers.{split-le, split-eq}
 use Rattle.plan.specs.inner.Plan.{specialAt, keyAt, eventsAt, leadsAt}
 use Rattle.steps.specs.declared.nearest.Asker.{Asker}
 use Rattle.steps.specs.declared.nearest.Offer.{Offer}
-use Rattle.steps.specs.inner.Nearest.{firstStep, keyOf, closed, StepBy, EntryStep, OpenStep, AskedMask, Passed, Skipped, Block, Cursor, OfferedAt, Resumes, SameEvent, Nearest}
+use Rattle.steps.specs.inner.Nearest.{firstStep, keyOf, closed, StepBy, EntryStep, OpenStep, AskedMask, Passed, AllPassed, Skipped, Block, Cursor, OfferedAt, Resumes, SameEvent, Nearest}
 
 -- a cursor is one for later steps too
 later : {plan : List ℕ} {lo stop a from to : ℕ} → Cursor plan lo stop a from → from ≤ to → Cursor plan lo stop a to
@@ -169,7 +169,7 @@ look-begin {plan} {lo} {stop} {group} {start} {from} swept a few B C h S =
 class-of : (c q : ℕ) → q < 32 → c ≡ (32 * c + q) / 32
 class-of c q h = omega arith
 
-perm-of : (c q : ℕ) → q < 32 → q ≡ (32 * c + q) % 32
+pub perm-of : (c q : ℕ) → q < 32 → q ≡ (32 * c + q) % 32
 perm-of c q h = omega arith
 
 module _ {plan swept : List ℕ} {a : Asker} {lo stop from start at entry j : ℕ} (L : Looking plan swept a lo stop from start at entry j) where
@@ -276,6 +276,25 @@ module _ {plan swept : List ℕ} {a : Asker} {lo stop from start at entry j : �
           ⊎-elim (λ (e : j ≡ i). subst (λ (z : ℕ). keyAt plan j ≤ keyAt plan z) e (omega arith))
           (λ (m : j < i). let w = L .block .rising j i from-lo m k in omega arith) (eq-or-lt-of-le b) in
           omega arith
+
+-- ---- no step of a block need be asked
+module _ {plan swept : List ℕ} {a : Asker} {lo stop : ℕ} where
+  pub all-passed : {r : Offer} → Block plan lo stop → Nearest plan swept a lo stop 0 r → 4194304 ≤ r .at → AllPassed plan swept a lo stop
+  all-passed {r} B N h =
+      record {
+        each = λ j q l k lq x.
+            ⊎-elim (λ (n : r .at ≤ firstStep (keyAt plan j) + 4096 * q). absurd (let s = B .small j l k in omega arith)) (λ p. p) (N .least j q l k lq x (omega arith));
+      }
+
+  pub none-open : (group entry : ℕ) → AllPassed plan swept a lo stop → Nearest plan swept a lo stop 0 (record { group = group; entry = entry; at = 4194304 })
+  none-open group entry S =
+      record {
+        high = omega arith;
+        low = omega arith;
+        resumes = λ l. absurd (omega arith);
+        unclosed = λ l. absurd (omega arith);
+        least = λ j q l k lq x _. inr (S .each j q l k lq x);
+      }
 
 -- ---- the steps by the event of an offer, after it
 -- the entries after the one that offers `at` and below j that offer its event are closed

@@ -62,6 +62,10 @@ pub record AskedMask (plan : List ℕ) (a : Asker) (k mask r : ℕ) : Type 0 whe
 abbrev pub Passed : List ℕ → List ℕ → Asker → ℕ → ℕ → Type 0
 Passed plan swept a e o = (closed a (eventsAt plan e) (getD swept o 0) ≡ true) ⊎ ((a .spent ≡ true) × (bit (specialAt plan (e / 32)) (e % 32) ≡ false))
 
+-- .. no step of the entries from lo to below stop
+pub record AllPassed (plan swept : List ℕ) (a : Asker) (lo stop : ℕ) : Type 0 where
+  pub each : (j q : ℕ) → lo ≤ j → j < stop → q < 32 → bit (leadsAt plan j) q ≡ true → Passed plan swept a (32 * (keyAt plan j / 4096) + q) (keyAt plan j % 4096)
+
 -- the entries from a to below r are of classes below the class
 pub record Skipped (plan : List ℕ) (stop a class r : ℕ) : Type 0 where
   pub low : a ≤ r
