@@ -64,9 +64,9 @@ keeps-all state z h =
     bit-ext 6 (bitAnd state (bitOr 63 z)) state (omega (arith, and-le-l state (bitOr 63 z))) h
     (λ p l. bit-and state (bitOr 63 z) p ∙ ap (λ (b : Bool). bit state p && b) (bit-or 63 z p ∙ ap (λ (b : Bool). b || bit z p) (all-ones p l)) ∙ and-all (bit state p) (bit z p))
 
-pub all-closed : (plan : List ℕ) (a : Asker) (done k mask from : ℕ) {b : Bool} → a .state < 64 → from ≤ 4194304 → a .keeps ≡ 63 → b ≡ bit done (a .state) → b ≡ true
-    → OpenStep plan a done k mask from 4194304
-all-closed plan a done k mask from few h w p t =
+pub all-closed : (plan : List ℕ) (a : Asker) (done k mask from : ℕ) {below : ℕ} {b : Bool} → a .state < 64 → from ≤ 4194304 → below ≤ 4194304 → a .keeps ≡ 63 → b ≡ bit done (a .state)
+    → b ≡ true → OpenStep plan a done k mask from below 4194304
+all-closed plan a done k mask from few h hb w p t =
     record {
       high = omega arith;
       by = λ l. absurd (omega arith);
@@ -109,10 +109,10 @@ module _ {plan : List ℕ} {a : Asker} {done k mask from : ℕ} where
       }
 
   pub open-stop : {at : ℕ} {b : Bool} → Opening plan a done k mask from at → b ≡ closed a (eventsAt plan (at / 4096)) done → not b ≡ true
-      → OpenStep plan a done k mask from at
+      → {below : ℕ} → OpenStep plan a done k mask from below at
   open-stop {b = b} O p t = record { high = O .high; by = O .by; low = O .low; unclosed = λ _. sym p ∙ not-true b t; least = O .least }
 
-  pub open-end : {at : ℕ} → Opening plan a done k mask from at → 4194304 ≤ at → OpenStep plan a done k mask from at
+  pub open-end : {at below : ℕ} → Opening plan a done k mask from at → below ≤ at → OpenStep plan a done k mask from below at
   open-end O h = record { high = O .high; by = O .by; low = O .low; unclosed = λ l. absurd (omega arith); least = O .least }
 
 pub asked-all : (plan : List ℕ) (a : Asker) (k mask : ℕ) → AskedMask plan a k mask mask
@@ -182,7 +182,7 @@ module _ {plan swept : List ℕ} {a : Asker} {lo stop from start at entry j : �
   pub look-other : j < stop → keyAt plan j % 4096 < 256
   look-other h = L .block .others j from-lo h
 
-  module _ {s m : ℕ} (h : j < stop) (A : AskedMask plan a (keyAt plan j) (leadsAt plan j) m) (E : OpenStep plan a (getD swept (keyAt plan j % 4096) 0) (keyAt plan j) m from s) where
+  module _ {s m : ℕ} (h : j < stop) (A : AskedMask plan a (keyAt plan j) (leadsAt plan j) m) (E : OpenStep plan a (getD swept (keyAt plan j % 4096) 0) (keyAt plan j) m from at s) where
     abbrev k : ℕ
     k = keyAt plan j
 
@@ -226,7 +226,7 @@ module _ {plan swept : List ℕ} {a : Asker} {lo stop from start at entry j : �
           unclosed = λ l.
               let b = E .by l in
               let i = b .is in
-              subst (λ (z : ℕ). closed a (eventsAt plan (s / 4096)) (getD swept z 0) ≡ false) (let q : keyAt plan j % 4096 ≡ s % 4096 = omega arith in q) (E .unclosed l);
+              subst (λ (z : ℕ). closed a (eventsAt plan (s / 4096)) (getD swept z 0) ≡ false) (let q : keyAt plan j % 4096 ≡ s % 4096 = omega arith in q) (E .unclosed n);
           least = both (omega arith) (omega arith);
         }
 
