@@ -103,13 +103,13 @@ module _ {plan swept shut : List ℕ} {a : Asker} {x : Context} (R : Recalls pla
   pub recall-same : Recalled plan swept shut shut a x
   recall-same = record { size = R .size; only = λ t k b. inl b }
 
-  pub recall-more : {p : Policy} {r : Offer} {none : Bool} {mark : ℕ} → x .ty < 256 → FirstOffer p plan swept a x r → (none ≡ true → r .at ≡ 4194304) → Marks (a .state) none mark
+  pub recall-more : {p : Policy} {r : Offer} {mark : ℕ} → x .ty < 256 → FirstOffer p plan swept a x r → 4194304 ≤ r .at → Marks (a .state) true mark
       → Recalled plan swept shut (set shut (x .ty) (bitOr (getD shut (x .ty) 0) mark)) a x
   recall-more {mark = mark} h F z K =
       record {
         size = simp length-set (R .size);
         only = λ t k b.
-            ⊎-elim (λ o. inl o) (λ o. let w = K .only k (o .1) in inr (o .0, w .1, F .shut (omega (arith, z (w .0)))))
+            ⊎-elim (λ o. inl o) (λ o. let w = K .only k (o .1) in inr (o .0, w .1, F .shut z))
             (added-bit shut (x .ty) mark t k (omega (arith, R .size)) b);
       }
 

@@ -45,6 +45,9 @@ pub fn first_step(
         return none;
     }
     let offer = first_offer(policy, counts, plan, swept, a, x);
-    shut[own] = shut[own] | mark(a.state, offer.at == NONE);
+    if offer.at < NONE {
+        return offer;
+    }
+    shut[own] = shut[own] | mark(a.state, true);
     offer
 }

@@ -93,15 +93,7 @@ fn skip(plan: &[u32], stop: usize, a: usize, class: u32) -> usize
 }
 
 // The nearest step of an entry from a step on that is not closed. Those not below a step are of no use, and none of them is tested.
-fn open_step(
-    plan: &[u32],
-    a: Asker,
-    done: u64,
-    key: u32,
-    mask: u32,
-    from: u32,
-    below: u32,
-) -> u32
+fn open_step(plan: &[u32], a: Asker, done: u64, key: u32, mask: u32, from: u32, below: u32) -> u32
     requires { ⌜ (a .state < 64) × (26368 ≤ length (now plan)) × (key < 131072) × (from ≤ 4194304) × (below ≤ 4194304) ⌝ }
     ensures { λ r. ⌜ OpenStep (now (plan .entry)) a done key mask from below r ⌝ }
 {

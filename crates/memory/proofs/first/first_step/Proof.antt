@@ -2,7 +2,6 @@ use Rattle.steps.proofs.OfferLaws.{type-few}
 use Rattle.nodes.proofs.ArrivalLaws.{no-step, some-step}
 use Rattle.memory.proofs.ShutLaws.{recall-same, recall-more, no-open}
 use native.Mathlib.Omega.{arith}
-use borrow.Author.Tests.{eqb-true}
 use borrow.Author.Needs.{needs}
 use Rattle.memory.proofs.first.first_step.Statement.{statement}
 use Rattle.memory.proofs.first.first_step.Tie as tie
@@ -28,11 +27,14 @@ returns-2 c = let s = c .before .before .before .before .before .before .before 
 first-offer-requires : tie.Need-first-offer-requires
 first-offer-requires c κs = search needs
 
+returns-3 : tie.Need-returns-3
+returns-3 c = let s = c .before .before .before .before .before .before .before .before .before .before .before in (some-step (s .pre .4) (c .before .before .before .if2 .left) (c .before .before .first-offer .ensures .next), recall-same (s .pre .5))
+
 mul-shut : tie.Need-mul-shut
 mul-shut c = search needs
 
 element-copy-out-shut : tie.Need-element-copy-out-shut
-element-copy-out-shut c = omega (arith, type-few (c .before .before .before .before .before .before .before .before .before .pre .1 .ready) (c .before .before .before .before .before .before .before .before .before .pre .2 .policy) (c .before .before .before .before .before .before .before .before .before .pre .3))
+element-copy-out-shut c = omega (arith, type-few (c .before .before .before .before .before .before .before .before .before .before .before .pre .1 .ready) (c .before .before .before .before .before .before .before .before .before .before .before .pre .2 .policy) (c .before .before .before .before .before .before .before .before .before .before .before .pre .3))
 
 mark-requires : tie.Need-mark-requires
 mark-requires c κs = search needs
@@ -41,13 +43,13 @@ mul-shut-2 : tie.Need-mul-shut-2
 mul-shut-2 c = search needs
 
 element-write-shut : tie.Need-element-write-shut
-element-write-shut c = omega (arith, type-few (c .before .before .before .before .before .before .before .before .before .before .before .before .pre .1 .ready) (c .before .before .before .before .before .before .before .before .before .before .before .before .pre .2 .policy) (c .before .before .before .before .before .before .before .before .before .before .before .before .pre .3))
+element-write-shut c = omega (arith, type-few (c .before .before .before .before .before .before .before .before .before .before .before .before .before .pre .1 .ready) (c .before .before .before .before .before .before .before .before .before .before .before .before .before .pre .2 .policy) (c .before .before .before .before .before .before .before .before .before .before .before .before .before .pre .3))
 
-returns-3 : tie.Need-returns-3
-returns-3 c = let s = c .before .before .before .before .before .before .before .before .before .before .before .before in
-    let f = c .before .before .before .first-offer in (
-      some-step (s .pre .4) (c .before .before .before .before .if2 .left) (f .ensures .next),
-      recall-more (s .pre .5) (omega (arith, type-few (s .pre .1 .ready) (s .pre .2 .policy) (s .pre .3))) (f .ensures) (eqb-true _ _) (c .mark .ensures),
+returns-4 : tie.Need-returns-4
+returns-4 c = let s = c .before .before .before .before .before .before .before .before .before .before .before .before .before in
+    let f = c .before .before .before .before .first-offer in (
+      some-step (s .pre .4) (c .before .before .before .before .before .if2 .left) (f .ensures .next),
+      recall-more (s .pre .5) (omega (arith, type-few (s .pre .1 .ready) (s .pre .2 .policy) (s .pre .3))) (f .ensures) (c .before .before .if3 .left) (c .mark .ensures),
     )
 
 pub first-step-spec : {M : Type 1} → statement M
@@ -61,9 +63,10 @@ first-step-spec =
     returns
     returns-2
     first-offer-requires
+    returns-3
     mul-shut
     element-copy-out-shut
     mark-requires
     mul-shut-2
     element-write-shut
-    returns-3)
+    returns-4)
