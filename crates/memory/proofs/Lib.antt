@@ -1,5 +1,6 @@
 pub mod KeyLaws
 pub mod MemoryLaws
+pub mod ShutLaws
 pub mod StandLaws
 pub mod LoopLaws
 pub mod SettledLaws

@@ -82,7 +82,7 @@ pub record AskerOf (m : Mode) (spent : List ℕ) (x : Context) (state : ℕ) (a 
   pub few : a .state < 64
 
 -- a bit of a set after one is added
-added-bit : (l : List ℕ) (t mark i k : ℕ) → t < length l → bit (getD (set l t (bitOr (getD l t 0) mark)) i 0) k ≡ true
+pub added-bit : (l : List ℕ) (t mark i k : ℕ) → t < length l → bit (getD (set l t (bitOr (getD l t 0) mark)) i 0) k ≡ true
     → (bit (getD l i 0) k ≡ true) ⊎ ((i ≡ t) × (bit mark k ≡ true))
 added-bit l t mark i k h b =
     ⊎-elim

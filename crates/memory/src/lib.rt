@@ -1,4 +1,5 @@
 // What a search remembers, so that it sweeps the contexts of a type once for each part of a state that a step depends on.
+pub mod first;
 pub mod settled;
 
 use nodes::monitor::Mode;

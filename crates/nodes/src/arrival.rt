@@ -1,26 +1,20 @@
-// What arriving at a context comes to, and the first step that a search asks from a node.
+// What arriving at a context comes to, and whether steps from one are asked.
 use crate::monitor::Mode;
 use crate::monitor::is_bad;
 use crate::monitor::step_state;
 use base::bits::has_bit;
-use context::Context;
 use goal_image::check::Legs;
 use plan::sets::sets_at;
 use policy_image::counts::Counts;
-use steps::nearest::Asker;
-use steps::nearest::NONE;
-use steps::nearest::Offer;
-use steps::offers::first_offer;
 use steps::targets::is_held;
 ghost use Prim.Native.Nat.{suc, _*_, _^_, _≤_, _<_};
 ghost use Rattle.policy_image.specs.Policy.{policyOf};
-ghost use Rattle.context.specs.Ranges.{ContextInRange};
 ghost use Rattle.context.specs.inner.Places.{contextAtIndex};
 ghost use Rattle.goal_image.specs.Goal.{goalOf};
 ghost use Rattle.plan.specs.inner.Plan.{GoalPlan, Planned};
 ghost use Rattle.plan.specs.inner.Types.{OfType};
-ghost use Rattle.nodes.specs.inner.Arrivals.{Given, GivenGoal, States, Arrived, Arriving};
-ghost use Rattle.nodes.specs.inner.Blocks.{Asks, FirstStep};
+ghost use Rattle.nodes.specs.inner.Arrivals.{GivenGoal, States, Arrived, Arriving};
+ghost use Rattle.nodes.specs.inner.Blocks.{Asks};
 
 // A node to enter, by its number; an end that breaks nothing; or an end that breaks what is looked for.
 pub enum Arrival {
@@ -81,28 +75,4 @@ pub fn is_asked(policy: &[u8], goal: &[u8], counts: Counts, plan: &[u32], ty: u3
         return false;
     }
     is_held(policy, counts, plan, ty, y)
-}
-
-// The first step to ask from x that is not closed.
-pub fn first_step(
-    policy: &[u8],
-    goal: &[u8],
-    counts: Counts,
-    plan: &[u32],
-    swept: &[u64; 256],
-    a: Asker,
-    x: Context,
-    asks: bool,
-) -> Offer
-    requires { ⌜ (a .state < 64) × Given (now policy) (now goal) counts × Planned (now policy) (now goal) counts (now plan) × ContextInRange counts x × Asks (policyOf (now policy)) (goalOf (now goal)) x asks ⌝ }
-    ensures { λ r. ⌜ FirstStep (policyOf (now (policy .entry))) (goalOf (now (goal .entry))) (now (plan .entry)) (now (swept .entry)) a x r ⌝ }
-{
-    if !asks {
-        return Offer {
-            group: 0,
-            entry: 0,
-            at: NONE,
-        };
-    }
-    first_offer(policy, counts, plan, swept, a, x)
 }

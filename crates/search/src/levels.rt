@@ -2,12 +2,12 @@
 use base::bits::has_member;
 use context::Context;
 use goal_image::check::Legs;
+use memory::first::first_step;
 use memory::keeps_of;
 use memory::mark;
 use memory::settled::is_settled;
 use nodes::arrival::Arrival;
 use nodes::arrival::arrive;
-use nodes::arrival::first_step;
 use nodes::arrival::is_asked;
 use nodes::arrival::states_of;
 use nodes::monitor::Mode;
@@ -40,7 +40,7 @@ pub const UNBOUNDED: u32 = 67108864;
 // The search from the nodes that are seeded, for an end of at most as many steps as the bound. A node's entry of back is 0 while it is not visited, and then one more than the
 // number of the node before it, or a mark for a start. By type, swept has what an event kept of a state when all contexts of the type
 // were entered, and spent the states from which all steps without conditions were taken: a later sweep would only meet nodes that
-// are entered.
+// are entered. From the states in shut no step is left to ask.
 pub fn search_levels(
     policy: &[u8],
     goal: &[u8],
@@ -60,6 +60,7 @@ pub fn search_levels(
     let keeps = keeps_of(mode);
     let mut swept = [0u64; 256];
     let mut spent = [0u64; 256];
+    let mut shut = [0u64; 256];
     let mut tail = seeded;
     let mut head: usize = 0;
     let mut level_end = tail;
@@ -88,7 +89,7 @@ pub fn search_levels(
             keeps: keeps,
             spent: is_spent,
         };
-        let mut offer = first_step(policy, goal, counts, plan, &swept, a, x, asks);
+        let mut offer = first_step(policy, goal, counts, plan, &swept, &mut shut, a, x, asks);
         while offer.at < NONE {
             let e = offer.at / 4096;
             let ty = offer.at % 4096;

@@ -16,7 +16,7 @@ use Rattle.base.proofs.Numbers.{split-le, split-eq}
 use Rattle.plan.specs.inner.Plan.{specialAt, keyAt, eventsAt, leadsAt}
 use Rattle.steps.specs.declared.nearest.Asker.{Asker}
 use Rattle.steps.specs.declared.nearest.Offer.{Offer}
-use Rattle.steps.specs.inner.Nearest.{firstStep, keyOf, closed, StepBy, EntryStep, OpenStep, AskedMask, Passed, Skipped, Block, Cursor, OfferedAt, Resumes, SameEvent, Nearest}
+use Rattle.steps.specs.inner.Nearest.{firstStep, keyOf, closed, StepBy, EntryStep, OpenStep, AskedMask, Passed, AllPassed, Skipped, Block, Cursor, OfferedAt, Resumes, SameEvent, Nearest}
 
 -- a cursor is one for later steps too
 later : {plan : List ℕ} {lo stop a from to : ℕ} → Cursor plan lo stop a from → from ≤ to → Cursor plan lo stop a to
@@ -64,9 +64,9 @@ keeps-all state z h =
     bit-ext 6 (bitAnd state (bitOr 63 z)) state (omega (arith, and-le-l state (bitOr 63 z))) h
     (λ p l. bit-and state (bitOr 63 z) p ∙ ap (λ (b : Bool). bit state p && b) (bit-or 63 z p ∙ ap (λ (b : Bool). b || bit z p) (all-ones p l)) ∙ and-all (bit state p) (bit z p))
 
-pub all-closed : (plan : List ℕ) (a : Asker) (done k mask from : ℕ) {b : Bool} → a .state < 64 → from ≤ 4194304 → a .keeps ≡ 63 → b ≡ bit done (a .state) → b ≡ true
-    → OpenStep plan a done k mask from 4194304
-all-closed plan a done k mask from few h w p t =
+pub all-closed : (plan : List ℕ) (a : Asker) (done k mask from : ℕ) {below : ℕ} {b : Bool} → a .state < 64 → from ≤ 4194304 → below ≤ 4194304 → a .keeps ≡ 63 → b ≡ bit done (a .state)
+    → b ≡ true → OpenStep plan a done k mask from below 4194304
+all-closed plan a done k mask from few h hb w p t =
     record {
       high = omega arith;
       by = λ l. absurd (omega arith);
@@ -109,10 +109,10 @@ module _ {plan : List ℕ} {a : Asker} {done k mask from : ℕ} where
       }
 
   pub open-stop : {at : ℕ} {b : Bool} → Opening plan a done k mask from at → b ≡ closed a (eventsAt plan (at / 4096)) done → not b ≡ true
-      → OpenStep plan a done k mask from at
+      → {below : ℕ} → OpenStep plan a done k mask from below at
   open-stop {b = b} O p t = record { high = O .high; by = O .by; low = O .low; unclosed = λ _. sym p ∙ not-true b t; least = O .least }
 
-  pub open-end : {at : ℕ} → Opening plan a done k mask from at → 4194304 ≤ at → OpenStep plan a done k mask from at
+  pub open-end : {at below : ℕ} → Opening plan a done k mask from at → below ≤ at → OpenStep plan a done k mask from below at
   open-end O h = record { high = O .high; by = O .by; low = O .low; unclosed = λ l. absurd (omega arith); least = O .least }
 
 pub asked-all : (plan : List ℕ) (a : Asker) (k mask : ℕ) → AskedMask plan a k mask mask
@@ -169,7 +169,7 @@ look-begin {plan} {lo} {stop} {group} {start} {from} swept a few B C h S =
 class-of : (c q : ℕ) → q < 32 → c ≡ (32 * c + q) / 32
 class-of c q h = omega arith
 
-perm-of : (c q : ℕ) → q < 32 → q ≡ (32 * c + q) % 32
+pub perm-of : (c q : ℕ) → q < 32 → q ≡ (32 * c + q) % 32
 perm-of c q h = omega arith
 
 module _ {plan swept : List ℕ} {a : Asker} {lo stop from start at entry j : ℕ} (L : Looking plan swept a lo stop from start at entry j) where
@@ -182,7 +182,7 @@ module _ {plan swept : List ℕ} {a : Asker} {lo stop from start at entry j : �
   pub look-other : j < stop → keyAt plan j % 4096 < 256
   look-other h = L .block .others j from-lo h
 
-  module _ {s m : ℕ} (h : j < stop) (A : AskedMask plan a (keyAt plan j) (leadsAt plan j) m) (E : OpenStep plan a (getD swept (keyAt plan j % 4096) 0) (keyAt plan j) m from s) where
+  module _ {s m : ℕ} (h : j < stop) (A : AskedMask plan a (keyAt plan j) (leadsAt plan j) m) (E : OpenStep plan a (getD swept (keyAt plan j % 4096) 0) (keyAt plan j) m from at s) where
     abbrev k : ℕ
     k = keyAt plan j
 
@@ -226,7 +226,7 @@ module _ {plan swept : List ℕ} {a : Asker} {lo stop from start at entry j : �
           unclosed = λ l.
               let b = E .by l in
               let i = b .is in
-              subst (λ (z : ℕ). closed a (eventsAt plan (s / 4096)) (getD swept z 0) ≡ false) (let q : keyAt plan j % 4096 ≡ s % 4096 = omega arith in q) (E .unclosed l);
+              subst (λ (z : ℕ). closed a (eventsAt plan (s / 4096)) (getD swept z 0) ≡ false) (let q : keyAt plan j % 4096 ≡ s % 4096 = omega arith in q) (E .unclosed n);
           least = both (omega arith) (omega arith);
         }
 
@@ -276,6 +276,25 @@ module _ {plan swept : List ℕ} {a : Asker} {lo stop from start at entry j : �
           ⊎-elim (λ (e : j ≡ i). subst (λ (z : ℕ). keyAt plan j ≤ keyAt plan z) e (omega arith))
           (λ (m : j < i). let w = L .block .rising j i from-lo m k in omega arith) (eq-or-lt-of-le b) in
           omega arith
+
+-- ---- no step of a block need be asked
+module _ {plan swept : List ℕ} {a : Asker} {lo stop : ℕ} where
+  pub all-passed : {r : Offer} → Block plan lo stop → Nearest plan swept a lo stop 0 r → 4194304 ≤ r .at → AllPassed plan swept a lo stop
+  all-passed {r} B N h =
+      record {
+        each = λ j q l k lq x.
+            ⊎-elim (λ (n : r .at ≤ firstStep (keyAt plan j) + 4096 * q). absurd (let s = B .small j l k in omega arith)) (λ p. p) (N .least j q l k lq x (omega arith));
+      }
+
+  pub none-open : (group entry : ℕ) → AllPassed plan swept a lo stop → Nearest plan swept a lo stop 0 (record { group = group; entry = entry; at = 4194304 })
+  none-open group entry S =
+      record {
+        high = omega arith;
+        low = omega arith;
+        resumes = λ l. absurd (omega arith);
+        unclosed = λ l. absurd (omega arith);
+        least = λ j q l k lq x _. inr (S .each j q l k lq x);
+      }
 
 -- ---- the steps by the event of an offer, after it
 -- the entries after the one that offers `at` and below j that offer its event are closed

@@ -27,8 +27,9 @@ use Rattle.plan.specs.inner.Plan.{Ready, specialAt, firstAt, keyAt, outsAt, ins
 use Rattle.steps.specs.declared.nearest.Asker.{Asker}
 use Rattle.steps.specs.declared.nearest.Offer.{Offer}
 use Rattle.steps.specs.inner.Nearest.{firstStep, closed, Passed, Block, Cursor, Nearest}
-use Rattle.steps.specs.inner.Steps.{Offering, NextOffer}
+use Rattle.steps.specs.inner.Steps.{Offering, NextOffer, FirstOffer}
 use Rattle.steps.proofs.FlowLaws.{alpha-defined, defined-class, flow-class, flow-held, flow-by, plain-conditions, conditions}
+use Rattle.steps.proofs.NearestLaws.{perm-of, all-passed, none-open}
 use Rattle.steps.proofs.AlikeLaws.{special-same, conditions-same}
 
 module _ {s : List ℕ} {n : Counts} {plan : List ℕ} (R : Ready s n) (P : PolicyPlan s n plan) where
@@ -248,41 +249,31 @@ module _ {s : List ℕ} {n : Counts} {plan : List ℕ} (R : Ready s n) (P : Poli
           resumes = N .resumes;
         }
 
+    pub first-law : {swept : List ℕ} {a : Asker} {r : Offer} → Nearest plan swept a lo hi 0 r → FirstOffer p plan swept a x r
+    first-law N = record { next = next-law N; shut = all-passed (block-law h₀) N }
+
     -- no entry has a special permission, and the others are done
     pub none-special : {swept : List ℕ} {a : Asker} {group entry : ℕ} → a .spent ≡ true → guardsAt plan (x .ty) ≡ 0
-        → NextOffer p plan swept a x 0 (record { group = group; entry = entry; at = 4194304 })
-    none-special {swept} {a} spent z₀ =
-        record {
-          low = omega arith;
-          high = omega arith;
-          none = λ i y w _ _ t.
-              let F = flow-led i y w t in
-              let u = F .under in
-              let c : i / 32 < 32 = small i y w t in
-              let z : y .ty < 4096 = few i y w t in
-              let key = F .key in
-              let e : ℕ = 32 * (i / 32) + F .perm in
-              let class : (32 * (i / 32) + F .perm) / 32 ≡ keyAt plan (F .entry) / 4096 % 32 = omega arith in
-              let perm : (32 * (i / 32) + F .perm) % 32 ≡ F .perm = omega arith in
-              let at : special p (eventOf i) ≡ true → bit (specialAt plan (keyAt plan (F .entry) / 4096 % 32)) (F .perm) ≡ true
-              = λ k. ap₂ (λ (a b : ℕ). bit (specialAt plan a) b) (sym class) (sym perm) ∙ P .tables .special-at (e / 32) (e % 32) (omega arith) ∙ special-same (F .alike) ∙ k in
-              inl (inr (
-                spent,
-                P .tables .special-at (i / 32) (i % 32) c
-                    ∙ ⊎-elim
-                    (λ (k : special p (eventOf i) ≡ true).
-                    absurd (clash (P .guards (x .ty) (type-in h₀) .at (F .entry) (F .perm) (F .low) (F .high)
-                    (bit-and (bitOr (outsAt plan (F .entry)) (insAt plan (F .entry))) (specialAt plan (keyAt plan (F .entry) / 4096 % 32)) (F .perm)
-                    ∙ and-true (bit (bitOr (outsAt plan (F .entry)) (insAt plan (F .entry))) (F .perm)) (bit (specialAt plan (keyAt plan (F .entry) / 4096 % 32)) (F .perm))
-                    (bears (F .entry) (F .perm) (F .low) (F .high) (omega arith) (F .leading)) (at k)))
-                    (ap (λ (v : ℕ). bit v (F .perm)) z₀ ∙ bit-zero (F .perm))))
-                    (λ k. k)
-                    (true-or-false (special p (eventOf i))),
-              ));
-          offers = λ h. absurd (omega arith);
-          unclosed = λ h. absurd (omega arith);
-          resumes = λ h. absurd (omega arith);
-        }
+        → FirstOffer p plan swept a x (record { group = group; entry = entry; at = 4194304 })
+    none-special {swept} {a} {group} {entry} spent z₀ = first-law (none-open group entry (record { each = each }))
+      where
+        each : (j q : ℕ) → lo ≤ j → j < hi → q < 32 → bit (leadsAt plan j) q ≡ true → Passed plan swept a (32 * (keyAt plan j / 4096) + q) (keyAt plan j % 4096)
+        each j q l k lq b =
+            let small = block-law h₀ .small j l k in
+            let class : keyAt plan j / 4096 % 32 ≡ (32 * (keyAt plan j / 4096) + q) / 32 = omega arith in
+            ⊎-elim
+            (λ (t : bit (specialAt plan (keyAt plan j / 4096 % 32)) q ≡ true).
+            absurd (clash (P .guards (x .ty) (type-in h₀) .at j q l k
+            (bit-and (bitOr (outsAt plan j) (insAt plan j)) (specialAt plan (keyAt plan j / 4096 % 32)) q
+            ∙ and-true (bit (bitOr (outsAt plan j) (insAt plan j)) q) (bit (specialAt plan (keyAt plan j / 4096 % 32)) q) (bears j q l k lq b) t))
+            (ap (λ (v : ℕ). bit v q) z₀ ∙ bit-zero q)))
+            (λ (f : bit (specialAt plan (keyAt plan j / 4096 % 32)) q ≡ false).
+            inr (unasked class f))
+            (true-or-false (bit (specialAt plan (keyAt plan j / 4096 % 32)) q))
+          where
+            unasked : keyAt plan j / 4096 % 32 ≡ (32 * (keyAt plan j / 4096) + q) / 32 → bit (specialAt plan (keyAt plan j / 4096 % 32)) q ≡ false
+                → (a .spent ≡ true) × (bit (specialAt plan ((32 * (keyAt plan j / 4096) + q) / 32)) ((32 * (keyAt plan j / 4096) + q) % 32) ≡ false)
+            unasked c f = (spent, ap₂ (λ (u v : ℕ). bit (specialAt plan u) v) (sym c) (sym (perm-of (keyAt plan j / 4096) q lq)) ∙ f)
 
 -- ---- whether a step that an entry offers flows
 yes-then : (a b c d : Bool) → c ≡ true → d ≡ true → (a || b) ≡ true → ((a && c) || (b && d)) ≡ true

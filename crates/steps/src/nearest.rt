@@ -92,10 +92,10 @@ fn skip(plan: &[u32], stop: usize, a: usize, class: u32) -> usize
     j
 }
 
-// The nearest step of an entry from a step on that is not closed.
-fn open_step(plan: &[u32], a: Asker, done: u64, key: u32, mask: u32, from: u32) -> u32
-    requires { ⌜ (a .state < 64) × (26368 ≤ length (now plan)) × (key < 131072) × (from ≤ 4194304) ⌝ }
-    ensures { λ r. ⌜ OpenStep (now (plan .entry)) a done key mask from r ⌝ }
+// The nearest step of an entry from a step on that is not closed. Those not below a step are of no use, and none of them is tested.
+fn open_step(plan: &[u32], a: Asker, done: u64, key: u32, mask: u32, from: u32, below: u32) -> u32
+    requires { ⌜ (a .state < 64) × (26368 ≤ length (now plan)) × (key < 131072) × (from ≤ 4194304) × (below ≤ 4194304) ⌝ }
+    ensures { λ r. ⌜ OpenStep (now (plan .entry)) a done key mask from below r ⌝ }
 {
     if a.keeps == WHOLE {
         if has_member(done, a.state) {
@@ -103,7 +103,7 @@ fn open_step(plan: &[u32], a: Asker, done: u64, key: u32, mask: u32, from: u32) 
         }
     }
     let mut at = entry_step(key, mask, from);
-    while at < NONE {
+    while at < below {
         let e = (at / 4096) as usize;
         if !is_closed(a, plan[EVENTS + e], done) {
             return at;
@@ -153,7 +153,7 @@ pub fn nearest(
         }
         let other = (key % 4096) as usize;
         let mask = asked_mask(plan, a, key, plan[LEADS + j]);
-        let step = open_step(plan, a, swept[other], key, mask, from);
+        let step = open_step(plan, a, swept[other], key, mask, from, at);
         if step < at {
             at = step;
             entry = j;

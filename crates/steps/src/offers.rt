@@ -12,7 +12,7 @@ ghost use Prim.Native.Nat.{_+_, _<_};
 ghost use Rattle.policy_image.specs.Policy.{policyOf};
 ghost use Rattle.context.specs.Ranges.{ContextInRange};
 ghost use Rattle.plan.specs.inner.Plan.{Ready, PolicyPlan};
-ghost use Rattle.steps.specs.inner.Steps.{ResumesFrom, NextOffer};
+ghost use Rattle.steps.specs.inner.Steps.{ResumesFrom, NextOffer, FirstOffer};
 
 // The first step from x after that of an offer that is not closed.
 pub fn next_offer(
@@ -43,7 +43,7 @@ pub fn first_offer(
     x: Context,
 ) -> Offer
     requires { ⌜ (a .state < 64) × Ready (now policy) counts × PolicyPlan (now policy) counts (now plan) × ContextInRange counts x ⌝ }
-    ensures { λ r. ⌜ NextOffer (policyOf (now (policy .entry))) (now (plan .entry)) (now (swept .entry)) a x 0 r ⌝ }
+    ensures { λ r. ⌜ FirstOffer (policyOf (now (policy .entry))) (now (plan .entry)) (now (swept .entry)) a x r ⌝ }
 {
     let ty = x.ty as usize;
     let lo = plan[FIRST + ty] as usize;

@@ -2,6 +2,7 @@
 use mathlib.Core.Path.{_≡_}
 use mathlib.Core.Bool.{Bool, true, false}
 use mathlib.Core.List.{List}
+use mathlib.Core.Logic.{_⊎_}
 use Prim.Native.Nat.{ℕ, _/_, _^_, _≤_, _<_}
 use lib.Bits.{bitAnd, bitOr}
 use lib.Dec.{T}
@@ -9,6 +10,7 @@ use lib.ListN.{length, getD}
 use Rattle.base.specs.Bits.{bit}
 use Rattle.policy_image.specs.declared.counts.Counts.{Counts}
 use Rattle.policy_image.specs.Policy.{policyOf}
+use Rattle.context.specs.declared.Context.{Context}
 use Rattle.context.specs.Codes.{eventOf}
 use Rattle.context.specs.inner.Places.{contextAtIndex}
 use Rattle.goal_image.specs.Layout.{legsOf}
@@ -16,6 +18,8 @@ use Rattle.goal_image.specs.Goal.{goalOf}
 use Rattle.goal_image.specs.inner.Memberships.{EventSets}
 use Rattle.goal_model.specs.Images.{meetsρμ, model}
 use Rattle.plan.specs.inner.Plan.{eventsAt, special}
+use Rattle.steps.specs.declared.nearest.Asker.{Asker}
+use Rattle.steps.specs.inner.Steps.{Shut}
 use Rattle.nodes.specs.declared.monitor.Mode.{Mode}
 use Rattle.nodes.specs.declared.monitor.Mode.the-variants.{Order, Events}
 use Rattle.nodes.specs.inner.State.{Clear}
@@ -45,6 +49,21 @@ pub record Memory (s g : List ℕ) (n : Counts) (m : Mode) (plan back swept spen
       → bit (getD swept (typeOf g n w) 0) (stateKey m plan (stateOf (2 ^ legsOf g) u) e) ≡ true → Clear (graphOf s g n m) back w
   pub over : (u e w : ℕ) → u < graphOf s g n m .k → w < graphOf s g n m .k → graphOf s g n m .Edge u e w → special (policyOf s) (eventOf e) ≡ false
       → bit (getD spent (typeOf g n u) 0) (stateOf (2 ^ legsOf g) u) ≡ true → Clear (graphOf s g n m) back w
+
+-- shut, by type of the source: from a state in the set no step need be asked
+pub record Shuts (m : Mode) (plan swept spent shut : List ℕ) : Type 0 where
+  pub size : length shut ≡ 256
+  pub at : (t : ℕ) (a : Asker) → a .keeps ≡ keepsOf m → a .spent ≡ bit (getD spent t 0) (a .state) → bit (getD shut t 0) (a .state) ≡ true → Shut plan swept a t
+
+-- what it says of one who asks from x
+pub record Recalls (plan swept shut : List ℕ) (a : Asker) (x : Context) : Type 0 where
+  pub size : length shut ≡ 256
+  pub at : bit (getD shut (x .ty) 0) (a .state) ≡ true → Shut plan swept a (x .ty)
+
+-- only the asker's state may be new in a set
+pub record Recalled (plan swept before after : List ℕ) (a : Asker) (x : Context) : Type 0 where
+  pub size : length after ≡ 256
+  pub only : (t k : ℕ) → bit (getD after t 0) k ≡ true → (bit (getD before t 0) k ≡ true) ⊎ ((t ≡ x .ty) × (a .state ≡ k) × Shut plan swept a (x .ty))
 
 -- some event is in just the sets by
 pub record OfEvent (g : List ℕ) (by : ℕ) : Type 0 where

@@ -44,12 +44,12 @@ keyOf a by = bitAnd (a .state) (bitOr (a .keeps) (by / 2 ^ 7))
 abbrev pub closed : Asker → ℕ → ℕ → Bool
 closed a by done = bit by 14 || bit done (keyOf a by)
 
--- the nearest step of an entry from a step on that is not closed
-pub record OpenStep (plan : List ℕ) (a : Asker) (done k mask from r : ℕ) : Type 0 where
+-- the nearest step of an entry from a step on that is not closed; where there is none below a step, one that is not below it
+pub record OpenStep (plan : List ℕ) (a : Asker) (done k mask from below r : ℕ) : Type 0 where
   pub high : r ≤ 4194304
   pub by : r < 4194304 → StepBy (firstStep k) mask r
   pub low : from ≤ r
-  pub unclosed : r < 4194304 → closed a (eventsAt plan (r / 4096)) done ≡ false
+  pub unclosed : r < below → closed a (eventsAt plan (r / 4096)) done ≡ false
   pub least : (q : ℕ) → q < 32 → bit mask q ≡ true → from ≤ firstStep k + 4096 * q
       → (r ≤ firstStep k + 4096 * q) ⊎ (closed a (eventsAt plan (32 * (k / 4096) + q)) done ≡ true)
 
@@ -61,6 +61,10 @@ pub record AskedMask (plan : List ℕ) (a : Asker) (k mask r : ℕ) : Type 0 whe
 -- a step by the event e to the type o need not be asked: it is closed, or the asker is spent and the event is not special
 abbrev pub Passed : List ℕ → List ℕ → Asker → ℕ → ℕ → Type 0
 Passed plan swept a e o = (closed a (eventsAt plan e) (getD swept o 0) ≡ true) ⊎ ((a .spent ≡ true) × (bit (specialAt plan (e / 32)) (e % 32) ≡ false))
+
+-- .. no step of the entries from lo to below stop
+pub record AllPassed (plan swept : List ℕ) (a : Asker) (lo stop : ℕ) : Type 0 where
+  pub each : (j q : ℕ) → lo ≤ j → j < stop → q < 32 → bit (leadsAt plan j) q ≡ true → Passed plan swept a (32 * (keyAt plan j / 4096) + q) (keyAt plan j % 4096)
 
 -- the entries from a to below r are of classes below the class
 pub record Skipped (plan : List ℕ) (stop a class r : ℕ) : Type 0 where

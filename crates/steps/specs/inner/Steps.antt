@@ -18,7 +18,7 @@ use Rattle.goal_model.specs.Images.{meetsρμ}
 use Rattle.plan.specs.inner.Plan.{firstAt, outsAt, insAt, eventsAt, special}
 use Rattle.steps.specs.declared.nearest.Asker.{Asker}
 use Rattle.steps.specs.declared.nearest.Offer.{Offer}
-use Rattle.steps.specs.inner.Nearest.{closed, Passed, Resumes}
+use Rattle.steps.specs.inner.Nearest.{closed, Passed, AllPassed, Resumes}
 
 -- the entry offers the event from the type t to the type o: what α lets t write and o read
 pub record Offering (p : Policy) (plan : List ℕ) (t e o entry : ℕ) : Type 0 where
@@ -50,6 +50,15 @@ pub record NextOffer (p : Policy) (plan swept : List ℕ) (a : Asker) (x : Conte
   pub offers : r .at < 4194304 → Offering p plan (x .ty) (r .at / 4096) (r .at % 4096) (r .entry)
   pub unclosed : r .at < 4194304 → closed a (eventsAt plan (r .at / 4096)) (getD swept (r .at % 4096) 0) ≡ false
   pub resumes : r .at < 4194304 → ResumesFrom plan x r
+
+-- no step from the type t need be asked
+abbrev pub Shut : List ℕ → List ℕ → Asker → ℕ → Type 0
+Shut plan swept a t = AllPassed plan swept a (firstAt plan t) (firstAt plan (t + 1))
+
+-- r is the first step from x; where there is none, no step from its type need be asked
+pub record FirstOffer (p : Policy) (plan swept : List ℕ) (a : Asker) (x : Context) (r : Offer) : Type 0 where
+  pub next : NextOffer p plan swept a x 0 r
+  pub shut : 4194304 ≤ r .at → Shut plan swept a (x .ty)
 
 -- x, which meets ρ and μ, faces contexts of the type o by the event: the entry offers it, and c says whether it is special
 pub record Facing (p : Policy) (plan : List ℕ) (x : Context) (e o entry : ℕ) (c : Bool) : Type 0 where

@@ -2,8 +2,9 @@ use Rattle.plan.proofs.TypeLaws.{own-place}
 use Rattle.memory.proofs.LoopLaws.{Middle, Inner, node-below, asks-same, marks-same, middle-begin, middle-end, middle-spent, event-few, other-few, type-low, type-high, inner-begin, inner-key, of-event, inner-swept, inner-end, inner-place, inner-type, inner-fits, inner-facing, inner-skip, inner-unheld, inner-below, inner-entered, inner-seen, inner-dropped, inner-broken, inner-next}
 use Rattle.memory.proofs.StandLaws.{Around, around, at-place, stand, own-few, state-few, asker-of}
 use Rattle.memory.proofs.MemoryLaws.{memory-begin, memory-keep}
+use Rattle.memory.proofs.ShutLaws.{Grown, grown-same, grown-more, shuts-begin, shuts-recall, shuts-turn}
 use Rattle.nodes.proofs.SearchLaws.{enter, room, nothing, stopped, turn-chain, chain-bound}
-use Rattle.memory.specs.inner.Memory.{keepsOf, Memory}
+use Rattle.memory.specs.inner.Memory.{keepsOf, Memory, Shuts}
 use Rattle.nodes.specs.inner.Tasks.{graphOf}
 use Rattle.nodes.specs.inner.State.{Inv}
 use Rattle.plan.specs.inner.Plan.{Planned}
@@ -22,22 +23,22 @@ falls : {y end : ℕ} → y < end → end - (y + 1) < end - y
 falls h = omega arith
 
 abbrev Inv-loop2 : tie.InvT-loop2
-Inv-loop2 policy goal counts plan legs mode bound seeded queue₀ back₀ states keeps swept spent tail₀ head level-end depth u place state x own asks is-spent a offer e ty by guarded end y₀ queue back tail y = (length queue ≡ length queue₀) × (length back ≡ length back₀) × Inner policy goal counts plan legs mode states back queue head tail level-end depth u x state swept spent a offer guarded end y
+Inv-loop2 policy goal counts plan legs mode bound seeded queue₀ back₀ states keeps swept spent shut tail₀ head level-end depth u place state x own asks is-spent a offer e ty by guarded end y₀ queue back tail y = (length queue ≡ length queue₀) × (length back ≡ length back₀) × Inner policy goal counts plan legs mode states back queue head tail level-end depth u x state swept spent a offer guarded end y
 
 abbrev μ-loop2 : tie.MeasureT-loop2
-μ-loop2 policy goal counts plan legs mode bound seeded queue₀ back₀ states keeps swept spent tail₀ head level-end depth u place state x own asks is-spent a offer e ty by guarded end y₀ queue back tail y = end - y
+μ-loop2 policy goal counts plan legs mode bound seeded queue₀ back₀ states keeps swept spent shut tail₀ head level-end depth u place state x own asks is-spent a offer e ty by guarded end y₀ queue back tail y = end - y
 
 abbrev Inv-loop : tie.InvT-loop
-Inv-loop policy goal counts plan legs mode bound seeded queue₀ back₀ states keeps swept₀ spent tail₀ head level-end depth u place state x own asks is-spent a offer₀ queue back swept tail offer = (length queue ≡ length queue₀) × (length back ≡ length back₀) × Middle policy goal counts plan legs mode states back queue head tail level-end depth u x state swept spent a offer
+Inv-loop policy goal counts plan legs mode bound seeded queue₀ back₀ states keeps swept₀ spent shut tail₀ head level-end depth u place state x own asks is-spent a offer₀ queue back swept tail offer = (length queue ≡ length queue₀) × (length back ≡ length back₀) × Middle policy goal counts plan legs mode states back queue head tail level-end depth u x state swept spent a offer × Grown swept₀ swept
 
 abbrev μ-loop : tie.MeasureT-loop
-μ-loop policy goal counts plan legs mode bound seeded queue₀ back₀ states keeps swept₀ spent tail₀ head level-end depth u place state x own asks is-spent a offer₀ queue back swept tail offer = 4194304 - offer .at
+μ-loop policy goal counts plan legs mode bound seeded queue₀ back₀ states keeps swept₀ spent shut tail₀ head level-end depth u place state x own asks is-spent a offer₀ queue back swept tail offer = 4194304 - offer .at
 
 abbrev Inv-search : tie.InvT-search
-Inv-search policy goal counts plan legs mode bound seeded queue₀ back₀ states keeps swept₀ spent₀ tail₀ head₀ level-end₀ depth₀ queue back swept spent tail head level-end depth = (length queue ≡ length queue₀) × (length back ≡ length back₀) × Around policy goal counts legs states × Planned policy goal counts plan × Memory policy goal counts mode plan back swept spent × (keeps ≡ keepsOf mode) × Inv (graphOf policy goal counts mode) back queue head tail level-end depth
+Inv-search policy goal counts plan legs mode bound seeded queue₀ back₀ states keeps swept₀ spent₀ shut₀ tail₀ head₀ level-end₀ depth₀ queue back swept spent shut tail head level-end depth = (length queue ≡ length queue₀) × (length back ≡ length back₀) × Around policy goal counts legs states × Planned policy goal counts plan × Memory policy goal counts mode plan back swept spent × (keeps ≡ keepsOf mode) × Inv (graphOf policy goal counts mode) back queue head tail level-end depth × Shuts mode plan swept spent shut
 
 abbrev μ-search : tie.MeasureT-search
-μ-search policy goal counts plan legs mode bound seeded queue₀ back₀ states keeps swept₀ spent₀ tail₀ head₀ level-end₀ depth₀ queue back swept spent tail head level-end depth = graphOf policy goal counts mode .k - head
+μ-search policy goal counts plan legs mode bound seeded queue₀ back₀ states keeps swept₀ spent₀ shut₀ tail₀ head₀ level-end₀ depth₀ queue back swept spent shut tail head level-end depth = graphOf policy goal counts mode .k - head
 
 states-of-requires :
     tie.Need-states-of-requires Inv-loop2 μ-loop2 Inv-loop μ-loop Inv-search μ-search
@@ -48,7 +49,7 @@ keeps-of-requires :
 keeps-of-requires c κs = search needs
 
 search-holds : tie.Need-search-holds Inv-loop2 μ-loop2 Inv-loop μ-loop Inv-search μ-search
-search-holds c = (refl, refl, around (c .before .before .before .before .before .before .before .pre .0) (c .before .states-of .ensures), c .before .before .before .before .before .before .before .pre .1, memory-begin _ _ _ _ _ _, c .keeps-of .ensures, c .before .before .before .before .before .before .before .pre .2)
+search-holds c = (refl, refl, around (c .before .before .before .before .before .before .before .pre .0) (c .before .states-of .ensures), c .before .before .before .before .before .before .before .pre .1, memory-begin _ _ _ _ _ _, c .keeps-of .ensures, c .before .before .before .before .before .before .before .pre .2, shuts-begin _ _ _ _)
 
 add-depth : tie.Need-add-depth Inv-loop2 μ-loop2 Inv-loop μ-loop Inv-search μ-search
 add-depth c = omega (arith, c .before .before .search .inv .6 .deep (c .before .if1 .left))
@@ -88,19 +89,20 @@ has-member-requires c κs = let i = c .before .before .before .before .before .b
 
 first-step-requires :
     tie.Need-first-step-requires Inv-loop2 μ-loop2 Inv-loop μ-loop Inv-search μ-search
-first-step-requires c κs = let i = c .before .before .before .before .before .before .before .before .before .search .inv in let lu = node-below (i .6) (c .before .before .before .before .before .before .before .before .if1 .left) in let S = stand _ (i .2) lu (c .before .before .before .before .at .ensures) in (state-few (i .2) S (c .before .before .before .before .before .before .before .before .before .before .before .before .before .before .before .before .before .args .mode) (i .3), i .2 .task .given, i .3, S .range, asks-same (c .before .before .before .before .at .ensures) (c .before .before .is-asked .ensures))
+first-step-requires c κs = let i = c .before .before .before .before .before .before .before .before .before .before .search .inv in let lu = node-below (i .6) (c .before .before .before .before .before .before .before .before .before .if1 .left) in let S = stand _ (i .2) lu (c .before .before .before .before .before .at .ensures) in (state-few (i .2) S (c .before .before .before .before .before .before .before .before .before .before .before .before .before .before .before .before .before .before .args .mode) (i .3), i .2 .task .given, i .3, S .range, asks-same (c .before .before .before .before .before .at .ensures) (c .before .before .before .is-asked .ensures), shuts-recall (i .7) (asker-of (i .2) S (c .before .before .before .before .before .before .before .before .before .before .before .before .before .before .before .before .before .args .mode) (i .3) (i .5) (c .before .before .has-member .ensures)))
 
 loop-holds : tie.Need-loop-holds Inv-loop2 μ-loop2 Inv-loop μ-loop Inv-search μ-search
-loop-holds c = let i = c .before .before .before .before .before .before .before .before .before .before .search .inv in
-    let more = c .before .before .before .before .before .before .before .before .before .if1 .left in
-    let S = stand _ (i .2) (node-below (i .6) more) (c .before .before .before .before .before .at .ensures) in
-    let Q = asker-of (i .2) S (c .before .before .before .before .before .before .before .before .before .before .before .before .before .before .before .before .before .before .args .mode) (i .3) (i .5) (c .before .before .has-member .ensures) in (
+loop-holds c = let i = c .before .before .before .before .before .before .before .before .before .before .before .search .inv in
+    let more = c .before .before .before .before .before .before .before .before .before .before .if1 .left in
+    let S = stand _ (i .2) (node-below (i .6) more) (c .before .before .before .before .before .before .at .ensures) in
+    let Q = asker-of (i .2) S (c .before .before .before .before .before .before .before .before .before .before .before .before .before .before .before .before .before .before .before .args .mode) (i .3) (i .5) (c .before .before .before .has-member .ensures) in (
       refl,
       refl,
       ⊎-elim
-          (λ w. rw (w .1, w .2) (middle-begin (i .2) (i .3) (i .4) (enter (i .6) (w .0 .taken) more) more refl S Q (c .first-step .ensures)))
-          (λ w. rw (w .1, w .2) (middle-begin (i .2) (i .3) (i .4) (i .6) (omega (arith, w .0 .left, i .6 .head-stop)) refl S Q (c .first-step .ensures)))
-          (c .before .before .before .before .before .before .before .before .if2 .came),
+          (λ w. rw (w .1, w .2) (middle-begin (i .2) (i .3) (i .4) (enter (i .6) (w .0 .taken) more) more refl S Q (c .first-step .ensures .0)))
+          (λ w. rw (w .1, w .2) (middle-begin (i .2) (i .3) (i .4) (i .6) (omega (arith, w .0 .left, i .6 .head-stop)) refl S Q (c .first-step .ensures .0)))
+          (c .before .before .before .before .before .before .before .before .before .if2 .came),
+      grown-same _,
     )
 
 cast-by : tie.Need-cast-by Inv-loop2 μ-loop2 Inv-loop μ-loop Inv-search μ-search
@@ -253,7 +255,7 @@ loop-less : tie.Need-loop-less Inv-loop2 μ-loop2 Inv-loop μ-loop Inv-search μ
 loop-less c = omega (arith, c .before .before .before .before .before .before .before .loop2 .inv .2 .below, c .next-offer .ensures .low)
 
 loop-again : tie.Need-loop-again Inv-loop2 μ-loop2 Inv-loop μ-loop Inv-search μ-search
-loop-again c = let i = c .before .before .before .before .before .before .before .loop2 .inv in let j = c .before .before .before .before .before .before .before .before .before .before .before .before .before .before .before .before .loop .inv in let d = c .before .before .before .before .before .before .loop2-test .left in (i .0 ∙ j .0, i .1 ∙ j .1, inner-end (i .2) d (inner-swept (i .2) d (c .before .before .before .before .is-settled .ensures) (marks-same (c .before .before .before .key-of .ensures) (c .before .before .mark .ensures))) (c .next-offer .ensures))
+loop-again c = let i = c .before .before .before .before .before .before .before .loop2 .inv in let j = c .before .before .before .before .before .before .before .before .before .before .before .before .before .before .before .before .loop .inv in let d = c .before .before .before .before .before .before .loop2-test .left in (i .0 ∙ j .0, i .1 ∙ j .1, inner-end (i .2) d (inner-swept (i .2) d (c .before .before .before .before .is-settled .ensures) (marks-same (c .before .before .before .key-of .ensures) (c .before .before .mark .ensures))) (c .next-offer .ensures), grown-more _ _ (omega (arith, other-few (i .2 .fixed) (i .2 .ahead), i .2 .memory .swept-size)) (j .3))
 
 mul-spent : tie.Need-mul-spent Inv-loop2 μ-loop2 Inv-loop μ-loop Inv-search μ-search
 mul-spent c = let I = c .before .before .loop .inv .2 in omega (arith, own-few (I .fixed) (I .stands))
@@ -262,7 +264,7 @@ array-read-spent : tie.Need-array-read-spent Inv-loop2 μ-loop2 Inv-loop μ-loop
 array-read-spent c = let I = c .before .before .loop .inv .2 in omega (arith, own-few (I .fixed) (I .stands), I .memory .spent-size)
 
 mark-requires-2 : tie.Need-mark-requires-2 Inv-loop2 μ-loop2 Inv-loop μ-loop Inv-search μ-search
-mark-requires-2 c κs = let I = c .before .before .loop .inv .2 in state-few (I .fixed) (I .stands) (c .before .before .before .before .before .before .before .before .before .before .before .before .before .before .before .before .before .before .before .before .before .args .mode) (I .planned)
+mark-requires-2 c κs = let I = c .before .before .loop .inv .2 in state-few (I .fixed) (I .stands) (c .before .before .before .before .before .before .before .before .before .before .before .before .before .before .before .before .before .before .before .before .before .before .args .mode) (I .planned)
 
 mul-spent-2 : tie.Need-mul-spent-2 Inv-loop2 μ-loop2 Inv-loop μ-loop Inv-search μ-search
 mul-spent-2 c = let I = c .before .before .before .loop .inv .2 in omega (arith, own-few (I .fixed) (I .stands))
@@ -278,7 +280,7 @@ search-less : tie.Need-search-less Inv-loop2 μ-loop2 Inv-loop μ-loop Inv-searc
 search-less c = omega arith
 
 search-again : tie.Need-search-again Inv-loop2 μ-loop2 Inv-loop μ-loop Inv-search μ-search
-search-again c = let i = c .before .before .before .loop .inv in let j = c .before .before .before .before .before .before .before .before .before .before .before .before .before .before .search .inv in (i .0 ∙ j .0, i .1 ∙ j .1, j .2, j .3, middle-spent (i .2) (c .before .if4 .left) (asks-same (c .before .before .before .before .before .before .before .before .before .at .ensures) (c .before .before .before .before .before .before .before .is-asked .ensures)) (c .mark2 .ensures), j .5, middle-end (i .2) (c .before .if4 .left))
+search-again c = let i = c .before .before .before .loop .inv in let j = c .before .before .before .before .before .before .before .before .before .before .before .before .before .before .before .search .inv in (i .0 ∙ j .0, i .1 ∙ j .1, j .2, j .3, middle-spent (i .2) (c .before .if4 .left) (asks-same (c .before .before .before .before .before .before .before .before .before .before .at .ensures) (c .before .before .before .before .before .before .before .before .is-asked .ensures)) (c .mark2 .ensures), j .5, middle-end (i .2) (c .before .if4 .left), shuts-turn (j .7) _ (i .2 .asker) (c .before .before .before .before .first-step .ensures .1) (i .3) (omega (arith, own-few (i .2 .fixed) (i .2 .stands), i .2 .memory .spent-size)))
 
 same-length : tie.Need-same-length Inv-loop2 μ-loop2 Inv-loop μ-loop Inv-search μ-search
 same-length c = omega arith
@@ -305,10 +307,10 @@ returns-2 c =
     (c .before .if2 .came)
 
 same-length-5 : tie.Need-same-length-5 Inv-loop2 μ-loop2 Inv-loop μ-loop Inv-search μ-search
-same-length-5 c = omega (arith, c .before .before .before .before .before .before .before .before .before .loop2 .inv .0, c .before .before .before .before .before .before .before .before .before .before .before .before .before .before .before .before .before .before .loop .inv .0, c .before .before .before .before .before .before .before .before .before .before .before .before .before .before .before .before .before .before .before .before .before .before .before .before .before .before .before .before .before .search .inv .0)
+same-length-5 c = omega (arith, c .before .before .before .before .before .before .before .before .before .loop2 .inv .0, c .before .before .before .before .before .before .before .before .before .before .before .before .before .before .before .before .before .before .loop .inv .0, c .before .before .before .before .before .before .before .before .before .before .before .before .before .before .before .before .before .before .before .before .before .before .before .before .before .before .before .before .before .before .search .inv .0)
 
 same-length-6 : tie.Need-same-length-6 Inv-loop2 μ-loop2 Inv-loop μ-loop Inv-search μ-search
-same-length-6 c = omega (arith, c .before .before .before .before .before .before .before .before .before .loop2 .inv .1, c .before .before .before .before .before .before .before .before .before .before .before .before .before .before .before .before .before .before .loop .inv .1, c .before .before .before .before .before .before .before .before .before .before .before .before .before .before .before .before .before .before .before .before .before .before .before .before .before .before .before .before .before .search .inv .1)
+same-length-6 c = omega (arith, c .before .before .before .before .before .before .before .before .before .loop2 .inv .1, c .before .before .before .before .before .before .before .before .before .before .before .before .before .before .before .before .before .before .loop .inv .1, c .before .before .before .before .before .before .before .before .before .before .before .before .before .before .before .before .before .before .before .before .before .before .before .before .before .before .before .before .before .before .search .inv .1)
 
 returns-3 : tie.Need-returns-3 Inv-loop2 μ-loop2 Inv-loop μ-loop Inv-search μ-search
 returns-3 c = (inner-broken (c .before .before .before .before .before .before .before .before .before .loop2 .inv .2) (c .before .before .before .before .before .before .before .before .loop2-test .taken) (c .before .before .before .before .before .arrive .ensures) (c .before .is-target .ensures) (c .if6 .taken) (c .before .before .before .v .given .1), c .before .before .before .before .before .before .before .before .before .before .before .before .before .before .before .before .before .before .before .before .before .before .before .before .before .before .if3 .left)

@@ -55,7 +55,7 @@ element-copy-out-open-step : tie.Need-element-copy-out-open-step Inv-loop μ-loo
 element-copy-out-open-step c = omega (arith, look-other (c .before .before .before .before .before .loop .inv) (c .before .before .before .before .loop-test .taken))
 
 open-step-requires : tie.Need-open-step-requires Inv-loop μ-loop
-open-step-requires c κs = (c .before .before .before .before .before .before .loop .inv .few, omega (arith, c .before .before .before .before .before .before .loop .inv .block .size), look-small (c .before .before .before .before .before .before .loop .inv) (c .before .before .before .before .before .loop-test .taken), c .before .before .before .before .before .before .loop .inv .asked)
+open-step-requires c κs = (c .before .before .before .before .before .before .loop .inv .few, omega (arith, c .before .before .before .before .before .before .loop .inv .block .size), look-small (c .before .before .before .before .before .before .loop .inv) (c .before .before .before .before .before .loop-test .taken), c .before .before .before .before .before .before .loop .inv .asked, c .before .before .before .before .before .before .loop .inv .high)
 
 add-j : tie.Need-add-j Inv-loop μ-loop
 add-j c = search needs

@@ -5,16 +5,16 @@ use Rattle.steps.proofs.nearest.open_step.Statement.{statement}
 use Rattle.steps.proofs.nearest.open_step.Tie as tie
 
 abbrev Inv-loop : tie.InvT-loop
-Inv-loop plan a done key mask from at₀ at = Opening plan a done key mask from at
+Inv-loop plan a done key mask from below at₀ at = Opening plan a done key mask from at
 
 abbrev μ-loop : tie.MeasureT-loop
-μ-loop plan a done key mask from at₀ at = 4194304 - at
+μ-loop plan a done key mask from below at₀ at = 4194304 - at
 
 has-member-requires : tie.Need-has-member-requires Inv-loop μ-loop
 has-member-requires c κs = c .before .before .before .pre .0
 
 returns : tie.Need-returns Inv-loop μ-loop
-returns c = all-closed (c .before .before .before .before .before .args .plan .now) (c .before .before .before .before .before .args .a) (c .before .before .before .before .before .args .done) (c .before .before .before .before .before .args .key) (c .before .before .before .before .before .args .mask) (c .before .before .before .before .before .args .from) (c .before .before .before .before .before .pre .0) (c .before .before .before .before .before .pre .3) (c .before .before .if1 .taken) (c .before .has-member .ensures) (c .if2 .taken)
+returns c = all-closed (c .before .before .before .before .before .args .plan .now) (c .before .before .before .before .before .args .a) (c .before .before .before .before .before .args .done) (c .before .before .before .before .before .args .key) (c .before .before .before .before .before .args .mask) (c .before .before .before .before .before .args .from) (c .before .before .before .before .before .pre .0) (c .before .before .before .before .before .pre .3) (c .before .before .before .before .before .pre .4) (c .before .before .if1 .taken) (c .before .has-member .ensures) (c .if2 .taken)
 
 entry-step-requires : tie.Need-entry-step-requires Inv-loop μ-loop
 entry-step-requires c κs = (c .before .before .before .pre .2, c .before .before .before .pre .3)

@@ -1,4 +1,4 @@
-use Rattle.steps.proofs.OfferLaws.{type-few, block-top, block-order, block-law, cursor-start, next-law, none-special}
+use Rattle.steps.proofs.OfferLaws.{type-few, block-top, block-order, block-law, cursor-start, first-law, none-special}
 use native.Mathlib.Omega.{arith}
 use borrow.Author.Needs.{needs}
 use Rattle.steps.proofs.offers.first_offer.Statement.{statement}
@@ -50,7 +50,7 @@ nearest-requires : tie.Need-nearest-requires
 nearest-requires c κs = (c .before .before .before .before .before .before .pre .0, block-law (c .before .before .before .before .before .before .pre .1) (c .before .before .before .before .before .before .pre .2) (c .before .before .before .before .before .before .pre .3), cursor-start (c .before .before .before .before .before .before .pre .1) (c .before .before .before .before .before .before .pre .2) (c .before .before .before .before .before .before .pre .3), omega arith)
 
 returns-2 : tie.Need-returns-2
-returns-2 c = next-law (c .before .before .before .before .before .before .before .pre .1) (c .before .before .before .before .before .before .before .pre .2) (c .before .before .before .before .before .before .before .pre .3) (c .nearest .ensures)
+returns-2 c = first-law (c .before .before .before .before .before .before .before .pre .1) (c .before .before .before .before .before .before .before .pre .2) (c .before .before .before .before .before .before .before .pre .3) (c .nearest .ensures)
 
 pub first-offer-spec : {M : Type 1} → statement M
 first-offer-spec =

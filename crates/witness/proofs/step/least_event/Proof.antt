@@ -75,7 +75,7 @@ loop-holds c =
     let a = b .before .before in
     let s = a .before .before .before .before .before in
     let k = asker (s .pre .0) (s .args .mode) (s .pre .2) (a .before .states-of .ensures) (a .at .ensures) refl (b .keeps-of .ensures) refl in
-    look-begin (s .pre .0) (s .args .mode) (s .pre .2) (a .before .states-of .ensures) (a .at .ensures) (s .pre .1) k (c .first-offer .ensures)
+    look-begin (s .pre .0) (s .args .mode) (s .pre .2) (a .before .states-of .ensures) (a .at .ensures) (s .pre .1) k (c .first-offer .ensures .next)
 
 is-step-requires : tie.Need-is-step-requires Inv-loop μ-loop
 is-step-requires c κs =
