@@ -2,14 +2,14 @@
 use mathlib.Core.Path.{_≡_, refl, sym, _∙_, ap}
 use mathlib.Core.Bool.{true}
 use mathlib.Core.Logic.{⊎-elim}
-use Prim.Native.Nat.{ℕ, _+_, _-_, _*_, _/_, _^_, _≤_, _<_}
+use Prim.Native.Nat.{ℕ, _+_, _-_, _*_, _/_, _%_, _^_, _≤_, _<_}
 use native.Mathlib.Omega.{arith}
 use Rattle.base.specs.Bits.{bit}
 use Rattle.base.specs.inner.Masks.{Lowest}
 use Rattle.base.proofs.BitLaws.{bit-above, bit-shr, bit-zero}
 use Rattle.base.proofs.Numbers.{split-le}
 use Rattle.base.proofs.UptoLaws.{clash}
-use Rattle.steps.specs.inner.Nearest.{firstStep, LowestStep, EntryStep}
+use Rattle.steps.specs.inner.Nearest.{firstStep, StepBy, LowestStep, EntryStep}
 
 -- ---- the lowest step from a permission on
 module _ (first mask perm : ℕ) where
@@ -63,3 +63,16 @@ module _ {k mask from r : ℕ} (lf : from ≤ 4194304) where
         low = ⊎-elim (λ (a : 4194304 ≤ r). omega arith) (λ a. omega (arith, L .low a)) (split-le 4194304 r);
         least = λ q a b l. L .least q a b (omega arith);
       }
+
+-- .. after one of its steps
+pub from-next : {k mask at r : ℕ} → k < 131072 → StepBy (firstStep k) mask at → LowestStep (firstStep k) mask (at / 4096 % 32 + 1) r → EntryStep k mask (at + 1) r
+from-next {k} {mask} {at} {r} h S L =
+    let s = S .small in
+    let e = S .is in
+    let perm : at / 4096 % 32 ≡ S .perm = omega arith in
+    record {
+      high = L .high;
+      by = L .by;
+      low = ⊎-elim (λ (a : 4194304 ≤ r). omega arith) (λ a. omega (arith, L .low a)) (split-le 4194304 r);
+      least = λ q a b l. L .least q a b (omega arith);
+    }

@@ -102,13 +102,14 @@ fn open_step(plan: &[u32], a: Asker, done: u64, key: u32, mask: u32, from: u32, 
             return NONE;
         }
     }
+    let first = 131072 * (key / 4096) + key % 4096;
     let mut at = entry_step(key, mask, from);
     while at < below {
-        let e = (at / 4096) as usize;
-        if !is_closed(a, plan[EVENTS + e], done) {
+        let e = at / 4096;
+        if !is_closed(a, plan[EVENTS + (e as usize)], done) {
             return at;
         }
-        at = entry_step(key, mask, at + 1);
+        at = lowest_step(first, mask, e % 32 + 1);
     }
     at
 }
