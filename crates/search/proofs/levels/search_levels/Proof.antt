@@ -89,7 +89,7 @@ has-member-requires c κs = let i = c .before .before .before .before .before .b
 
 first-step-requires :
     tie.Need-first-step-requires Inv-loop2 μ-loop2 Inv-loop μ-loop Inv-search μ-search
-first-step-requires c κs = let i = c .before .before .before .before .before .before .before .before .before .before .search .inv in let lu = node-below (i .6) (c .before .before .before .before .before .before .before .before .before .if1 .left) in let S = stand _ (i .2) lu (c .before .before .before .before .before .at .ensures) in (state-few (i .2) S (c .before .before .before .before .before .before .before .before .before .before .before .before .before .before .before .before .before .before .args .mode) (i .3), i .2 .task .given, i .3, S .range, asks-same (c .before .before .before .before .before .at .ensures) (c .before .before .before .is-asked .ensures), shuts-recall (i .7) (asker-of (i .2) S (c .before .before .before .before .before .before .before .before .before .before .before .before .before .before .before .before .before .args .mode) (i .3) (i .5) (c .before .before .has-member .ensures)))
+first-step-requires c κs = let i = c .before .before .before .before .before .before .before .before .before .before .search .inv in let lu = node-below (i .6) (c .before .before .before .before .before .before .before .before .before .if1 .left) in let S = stand _ (i .2) lu (c .before .before .before .before .before .at .ensures) in (state-few (i .2) S (c .before .before .before .before .before .before .before .before .before .before .before .before .before .before .before .before .before .before .args .mode) (i .3), i .2 .task .given, i .3, S .range, asks-same (c .before .before .before .before .before .at .ensures) (c .before .before .before .is-asked .ensures), shuts-recall (i .7) (asker-of (i .2) S (c .before .before .before .before .before .before .before .before .before .before .before .before .before .before .before .before .before .before .args .mode) (i .3) (i .5) (c .before .before .has-member .ensures)))
 
 loop-holds : tie.Need-loop-holds Inv-loop2 μ-loop2 Inv-loop μ-loop Inv-search μ-search
 loop-holds c = let i = c .before .before .before .before .before .before .before .before .before .before .before .search .inv in
@@ -159,7 +159,7 @@ enum-known-v c = search needs
 
 is-target-requires :
     tie.Need-is-target-requires Inv-loop2 μ-loop2 Inv-loop μ-loop Inv-search μ-search
-is-target-requires c κs = let I = c .before .before .before .before .before .before .before .loop2 .inv .2 in let h = c .before .before .before .before .before .before .loop2-test .taken in (I .fixed .task .given .ready, I .planned .policy, I .stands .range, inner-place I h, inner-facing I h, sym (c .before .before .before .before .before .is-held .ensures) ∙ not-false _ (c .before .before .before .before .if4 .left))
+is-target-requires c κs = let I = c .before .before .before .before .before .before .before .loop2 .inv .2 in let h = c .before .before .before .before .before .before .loop2-test .taken in (I .fixed .task .given .ready, I .planned .policy, I .stands .range, inner-place I h, inner-facing I h, sym (c .before .before .before .before .before .is-held .ensures) ∙ not-false _ (c .before .before .before .before .if5 .left))
 
 enum-told : tie.Need-enum-told Inv-loop2 μ-loop2 Inv-loop μ-loop Inv-search μ-search
 enum-told c = search needs
@@ -178,7 +178,7 @@ slice-read-if7 c = omega (arith, inner-below (c .before .before .before .before 
 
 is-target-requires-2 :
     tie.Need-is-target-requires-2 Inv-loop2 μ-loop2 Inv-loop μ-loop Inv-search μ-search
-is-target-requires-2 c κs = let I = c .before .before .before .before .before .before .before .before .before .loop2 .inv .2 in let h = c .before .before .before .before .before .before .before .before .loop2-test .taken in (I .fixed .task .given .ready, I .planned .policy, I .stands .range, inner-place I h, inner-facing I h, sym (c .before .before .before .before .before .before .before .is-held .ensures) ∙ not-false _ (c .before .before .before .before .before .before .if4 .left))
+is-target-requires-2 c κs = let I = c .before .before .before .before .before .before .before .before .before .loop2 .inv .2 in let h = c .before .before .before .before .before .before .before .before .loop2-test .taken in (I .fixed .task .given .ready, I .planned .policy, I .stands .range, inner-place I h, inner-facing I h, sym (c .before .before .before .before .before .before .before .is-held .ensures) ∙ not-false _ (c .before .before .before .before .before .before .if5 .left))
 
 add-back : tie.Need-add-back Inv-loop2 μ-loop2 Inv-loop μ-loop Inv-search μ-search
 add-back c = let I = c .before .before .before .before .before .before .before .before .before .before .before .loop2 .inv .2 in omega (arith, chain-bound (turn-chain (I .turn)), I .fixed .nodes)
@@ -313,7 +313,7 @@ same-length-6 : tie.Need-same-length-6 Inv-loop2 μ-loop2 Inv-loop μ-loop Inv-s
 same-length-6 c = omega (arith, c .before .before .before .before .before .before .before .before .before .loop2 .inv .1, c .before .before .before .before .before .before .before .before .before .before .before .before .before .before .before .before .before .before .loop .inv .1, c .before .before .before .before .before .before .before .before .before .before .before .before .before .before .before .before .before .before .before .before .before .before .before .before .before .before .before .before .before .before .search .inv .1)
 
 returns-3 : tie.Need-returns-3 Inv-loop2 μ-loop2 Inv-loop μ-loop Inv-search μ-search
-returns-3 c = (inner-broken (c .before .before .before .before .before .before .before .before .before .loop2 .inv .2) (c .before .before .before .before .before .before .before .before .loop2-test .taken) (c .before .before .before .before .before .arrive .ensures) (c .before .is-target .ensures) (c .if6 .taken) (c .before .before .before .v .given .1), c .before .before .before .before .before .before .before .before .before .before .before .before .before .before .before .before .before .before .before .before .before .before .before .before .before .before .if3 .left)
+returns-3 c = (inner-broken (c .before .before .before .before .before .before .before .before .before .loop2 .inv .2) (c .before .before .before .before .before .before .before .before .loop2-test .taken) (c .before .before .before .before .before .arrive .ensures) (c .before .is-target .ensures) (c .if6 .taken) (c .before .before .before .v .given .1), c .before .before .before .before .before .before .before .before .before .before .before .before .before .before .before .before .before .before .before .before .before .before .before .before .before .before .before .if3 .left)
 
 pub search-levels-spec : {M : Type 1} → statement M
 search-levels-spec =
