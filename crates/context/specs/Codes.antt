@@ -14,11 +14,13 @@ contextAt t r u = record { ty = t; role = r; user = u }
 abbrev pub eventAt : ℕ → ℕ → Event
 eventAt c p = record { class = c; perm = p }
 
--- the context with the code 256t + 16r + u; the laws `context-of-code` and `context-code-of` of proofs/CodeLaws.antt
+-- the context with the code 256t + 16r + u: the laws `context-of-code` and `context-code-of` of proofs/CodeLaws.antt say that each
+-- undoes the other
 abbrev pub contextOf : ℕ → Context
 contextOf n = contextAt (n / 256) (n / 16 % 16) (n % 16)
 
--- the event with the code 32c + p; the laws `event-of-code` and `event-code-of` of proofs/CodeLaws.antt
+-- the event with the code 32c + p: the laws `event-of-code` and `event-code-of` of proofs/CodeLaws.antt say that each undoes the
+-- other
 abbrev pub eventOf : ℕ → Event
 eventOf n = eventAt (n / 32) (n % 32)
 

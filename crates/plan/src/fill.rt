@@ -1,4 +1,4 @@
-// Filling a region of a plan. Regions are filled in rising order, so that what is below stays.
+// Filling a region of a plan; the others stay as they were.
 ghost use mathlib.Core.Path.{_≡_};
 ghost use Prim.Native.Nat.{_+_, _/_, _%_, _≤_};
 ghost use lib.Bits.{bitAnd};

@@ -98,7 +98,7 @@ pub fn search_levels(
             let end = first_place(counts, ty + 1);
             let mut y = first_place(counts, ty);
             while y < end {
-                // Many contexts of a type may meet neither ρ nor μ: those are no targets.
+                // Many contexts of a type may not meet ρ and μ: those are no targets.
                 if !is_held(policy, counts, plan, ty, y) {
                     y += 1;
                     continue;

@@ -30,7 +30,6 @@ use Rattle.paths.proofs.Monitors.{order-verdict, events-verdict}
 use Rattle.goal_model.specs.Images.{inRange, meetsρμ, model}
 use Rattle.goal_model.specs.cases.OwnGoals.{writeOnly}
 use Rattle.goal_model.proofs.Cover.{finite}
-use Rattle.flowgoal.specs.declared.bare.Answer.{Answer}
 use Rattle.flowgoal.specs.declared.bare.Answer.the-variants as answer
 use Rattle.flowgoal.specs.declared.goal.Outcome.{Outcome}
 use Rattle.flowgoal.specs.declared.goal.Outcome.the-variants as outcome
@@ -165,8 +164,8 @@ behind (suc (suc (suc zero))) h = refl
 behind (suc (suc (suc (suc i)))) h = refl
 
 -- ---- the numbers: 0 is that of no outcome that W5 has, and 1 of none that W1 has
-told : (n : ℕ) (r q : Outcome) → r ≡ q → n ≡ outcomeNumber r → n ≡ outcomeNumber q
-told n r q e h = subst (λ (o : Outcome). n ≡ outcomeNumber o) e h
+told : {A : Type 0} (number : A → ℕ) (n : ℕ) (r q : A) → r ≡ q → n ≡ number r → n ≡ number q
+told {A} number n r q e h = subst (λ (o : A). n ≡ number o) e h
 
 w5-not-0 : OutcomeNumber (GoalPromise weirAllow41 goalG 32 32 [] []) 0 → ⊥
 w5-not-0 N = go (N .outcome) (N .promised) (N .number)
@@ -183,7 +182,7 @@ w1-holds = (w1-enough, w1, refl)
 
 w1-not-1 : OutcomeNumber (GoalPromise weir goalG 32 32 [] []) 1 → ⊥
 w1-not-1 N =
-    let e = told 1 (N .outcome) outcome.Holds (one-outcome weir goalG 32 32 [] [] [] (N .outcome) outcome.Holds (N .promised) w1-holds) (N .number) in
+    let e = told outcomeNumber 1 (N .outcome) outcome.Holds (one-outcome weir goalG 32 32 [] [] [] (N .outcome) outcome.Holds (N .promised) w1-holds) (N .number) in
     omega arith
 
 -- ---- the bare questions
@@ -195,19 +194,16 @@ user-2-writes-not : authorized (policyOf weir) (event 2 1) (at 2 2 1) (at 1 1 2)
 unfolding authorized χ roleRule constraintsHold domain Γ allowed α ρ μ roleChange some every bit countsOf recordCount recordOf payloadOf decoded
 user-2-writes-not = refl
 
-answered : (n : ℕ) (a b : Answer) → a ≡ b → n ≡ numberOf a → n ≡ numberOf b
-answered n a b e h = subst (λ (o : Answer). n ≡ numberOf o) e h
-
 reads-not-1 : NumberOf (AuthorizationAnswer weir (at 4 2 1) (at 1 1 1) (event 2 0)) 1 → ⊥
 reads-not-1 N =
     let q = one-answer weir (at 4 2 1) (at 1 1 1) (event 2 0) _ (N .answer) answer.No (N .promised) reads-not in
-    let z = answered 1 (N .answer) answer.No q (N .number) in
+    let z = told numberOf 1 (N .answer) answer.No q (N .number) in
     omega arith
 
 reads-not-0 : NumberOf (AuthorizationAnswer weir (at 2 2 1) (at 1 1 1) (event 2 0)) 0 → ⊥
 reads-not-0 N =
     let q = one-answer weir (at 2 2 1) (at 1 1 1) (event 2 0) _ (N .answer) answer.Yes (N .promised) reads in
-    let z = answered 0 (N .answer) answer.Yes q (N .number) in
+    let z = told numberOf 0 (N .answer) answer.Yes q (N .number) in
     omega arith
 
 -- THE FOURTH THEOREM
