@@ -1,171 +1,152 @@
 -- What two searches and a path that is shown come to, in the words of the promise.
 use Prim.Native.Nat.{ℕ, suc, _+_, _*_, _^_, _≤_, _<_}
-use mathlib.Core.List.{List, [], _∷_, _++_}
-use mathlib.Core.Logic.{⊎-elim}
-use mathlib.Core.Path.{_≡_, sym, ap, subst, _∙_}
-use native.Mathlib.Nat.{eq-or-lt-of-le}
+use mathlib.Core.Bool.{true, false}
+use mathlib.Core.List.{List}
+use mathlib.Core.Logic.{_⊎_, inl, inr, ⊎-elim}
+use mathlib.Core.Path.{_≡_, refl, sym, subst}
 use native.Mathlib.Omega.{arith}
-use native.Mathlib.Decide.{decLe, decLt}
-use lib.ListN.{length}
-use Rattle.base.specs.Questions.{Question, ask, AllYes}
-use Rattle.base.proofs.QuestionLaws.{passed-first, passed-then}
+use Rattle.base.proofs.UptoLaws.{clash}
 use Rattle.policy_image.specs.declared.counts.Counts.{Counts}
-use Rattle.policy_image.specs.Layout.{countsOf}
-use Rattle.policy_check.specs.Questions.{policyQuestions}
-use Rattle.policy_check.specs.inner.Sound.{Sound}
-use Rattle.policy_check.proofs.AnswerLaws.{sound}
-use Rattle.context.specs.inner.Places.{contextCount}
 use Rattle.goal_image.specs.declared.check.Legs.{Legs}
-use Rattle.goal_image.specs.Layout.{legsOf}
-use Rattle.goal_image.specs.Questions.{goalQuestions}
-use Rattle.goal_image.specs.inner.Sound.{SoundGoal}
-use Rattle.goal_image.proofs.AnswerLaws.{sound as goal-sound}
 use Rattle.paths.specs.Model.{Model}
-use Rattle.paths.specs.Paths.{SomeOrder, OrderAt, EventsAt}
-use Rattle.paths.specs.inner.Answer.{Right}
-use Rattle.paths.specs.inner.Monitor.{Monitor, BadNode}
+use Rattle.paths.specs.Paths.{Holds, OrderAt, EventsAt}
+use Rattle.paths.specs.inner.Agree.{Agree}
+use Rattle.paths.specs.inner.Monitor.{BadNode}
 use Rattle.paths.specs.inner.Monitors.{trackerN, stagerN}
-use Rattle.paths.proofs.Monitors.{order-iff, events-iff}
-use Rattle.paths.specs.inner.Verdict.{Least, at, nowhere, answer}
-use Rattle.paths.proofs.Verdict.{order-right, answers}
+use Rattle.paths.specs.inner.Verdict.{Least, at, nowhere, Found as Reached}
+use Rattle.paths.proofs.AgreeLaws.{holds-agrees, order-at-agrees, events-at-agrees, shows-agrees, order-agrees, events-agree}
+use Rattle.paths.proofs.Monitors.{order-iff}
+use Rattle.paths.proofs.Verdict.{order-right, events-right, holds-right}
 use Rattle.goal_model.specs.Images.{model}
-use Rattle.search.specs.declared.levels.Found.{Found}
-use Rattle.search.specs.declared.levels.Found.the-variants.{Nothing, Start, At}
 use Rattle.nodes.specs.declared.monitor.Mode.{Mode}
 use Rattle.nodes.specs.declared.monitor.Mode.the-variants.{Order, Events}
+use Rattle.nodes.specs.declared.task.Task.{Task}
+use Rattle.nodes.specs.inner.Model.{planModel}
 use Rattle.nodes.specs.inner.Nodes.{watchOf, monitorOf}
-use Rattle.nodes.specs.inner.Seeds.{Roomy}
-use Rattle.nodes.specs.inner.Tasks.{Task}
-use Rattle.search.proofs.FoundLaws.{few-nodes, task-of}
-use Rattle.witness.specs.declared.verdict.Verdict.{Verdict}
-use Rattle.witness.specs.inner.Shown.{reachedBy, Fewer, Wins, FoundFewer, FoundEnd, stepsTo, Short, answerOf, Shown}
+use Rattle.nodes.specs.inner.Tasks.{Given, taskFor}
+use Rattle.search.specs.declared.levels.Found.{Found}
+use Rattle.search.specs.declared.levels.Found.the-variants.{Nothing, Start, At}
+use Rattle.search.specs.inner.Found.{FoundLeast}
+use Rattle.witness.specs.inner.Shown.{Shown}
+use Rattle.flowgoal.specs.declared.goal.Outcome.{Outcome}
 use Rattle.flowgoal.specs.declared.goal.Outcome.the-variants as outcome
-use Rattle.flowgoal.specs.GoalQuestion.{workLength, WorkFits, GoalPromise}
+use Rattle.flowgoal.specs.GoalQuestion.{GoalPromise}
+use Rattle.flowgoal.specs.inner.Answers.{boundOf, isNothing, Short, FoundIf, RightAt, RightFound, Answered}
 use Rattle.flowgoal.specs.inner.Parts.{Passed}
 
+-- how many steps away a search found an end
+abbrev reachedBy : Found → Reached
+reachedBy Nothing = nowhere
+reachedBy (Start x) = at 0
+reachedBy (At l) = at (suc (l .depth))
+
+one-more : {d : ℕ} → suc d ≡ d + 1
+one-more = omega arith
+
 -- ---- what a search found
--- two counts that are least are one
-one-least : {M : Model} {A : Monitor} {m k : ℕ} → Least M A (at m) → Least M A (at k) → m ≡ k
-one-least {m = m} {k = k} p q = go (decLt m k) (decLt k m)
-  where
-    go : Dec (m < k) → Dec (k < m) → m ≡ k
-    go (yes h) d = absurd (q .1 m h (p .0))
-    go (no h) (yes l) = absurd (p .1 k l (q .0))
-    go (no h) (no l) = omega arith
+module _ {s plan : List ℕ} {t : Task} (A : Given s plan t) (b : ℕ) (back : List ℕ) where
+  pub found-if : (r : Found) → FoundLeast s plan t b back r → FoundIf s plan t back r
+  found-if Nothing f = tt
+  found-if (Start x) f = f
+  found-if (At l) f = f .0
 
-module _ (s g : List ℕ) (n : Counts) (mode : Mode) (back : List ℕ) where
-  pub least-of : (r : Found) → FoundFewer s g n mode Nothing back r → Least (model s g) (monitorOf (watchOf mode (model s g))) (reachedBy r)
-  least-of Nothing f = λ k. f k tt
-  least-of (Start x) f = f .0 .least
-  least-of (At u e v d) f = f .0 .least
+  pub short-of : (r : Found) → FoundLeast s plan t b back r → Short r
+  short-of Nothing f = tt
+  short-of (Start x) f = tt
+  short-of (At l) f = omega (arith, f .0 .found .short, A .readable .nodes)
 
-  -- what is found is m steps away, where m is the least; and something is found where m is among the numbers that are looked for
-  pub found-some : {m : ℕ} (than r : Found) → Fewer m than → FoundFewer s g n mode than back r → Least (model s g) (monitorOf (watchOf mode (model s g))) (at m)
-      → FoundEnd s g n mode back r × (stepsTo r ≡ m)
-  found-some {m} than Nothing h f l = absurd (f m h (l .0))
-  found-some {m} than (Start x) h f l = (f .0, one-least (f .0 .least) l)
-  found-some {m} than (At u e v d) h f l = (f .0, let q : suc d ≡ m = one-least (f .0 .least) l in omega arith)
+-- with one leg no path breaks order: "0 < i < n"
+one-leg : {M : Model} → M .legs ≡ 1 → Least M (trackerN M) nowhere
+one-leg {M} q k b = let o = order-iff M (let h : 0 < M .legs = omega arith in h) k .1 b in omega (arith, o .breaks .above, o .breaks .below)
 
--- ---- the questions that were passed
-module _ {s g : List ℕ} {n : Counts} {l : Legs} {work1 work2 : ℕ} (P : Passed s g n l work1 work2) where
-  abbrev eleven : List Question
-  eleven = ask 11 (WorkFits s g work1 work2) ∷ []
+-- ---- the answer, by what the searches found
+module _ {s plan : List ℕ} {n : Counts} {l : Legs} (A : (m : Mode) → Given s plan (taskFor n l m)) where
+  abbrev M : Model
+  M = planModel s plan n l
 
-  goal-part : AllYes (goalQuestions (countsOf s) g ++ eleven)
-  goal-part = passed-then (policyQuestions s) (goalQuestions (countsOf s) g ++ eleven) (P .questions)
+  some-leg : 0 < M .legs
+  some-leg = A Events .readable .some-leg
 
-  policy-sound : Sound s
-  policy-sound = sound s (passed-first (policyQuestions s) (goalQuestions (countsOf s) g ++ eleven) (P .questions))
+  module _ (back : List ℕ) where
+    -- every number of steps is within `UNBOUNDED`
+    least-of : (m : Mode) (r : Found) → FoundLeast s plan (taskFor n l m) 67108864 back r → Least M (monitorOf (watchOf m M)) (reachedBy r)
+    least-of m Nothing f = λ k. f k (inr (omega (arith, A m .readable .nodes)))
+    least-of m (Start x) f = f .least
+    least-of m (At e) f = f .0 .least
 
-  sound-goal : SoundGoal g
-  sound-goal = goal-sound (countsOf s) g (passed-first (goalQuestions (countsOf s) g) eleven goal-part)
+  module _ (back : List ℕ) where
+    pub right-one : l .count ≡ 1 → (v : Found) → FoundLeast s plan (taskFor n l Events) 67108864 back v → RightFound M Events v
+    right-one q Nothing f = holds-right M some-leg (one-leg {M = M} q) (least-of back Events Nothing f)
+    right-one q (Start x) f = events-right M some-leg 0 (f .least) (λ k _. one-leg {M = M} q k)
+    right-one q (At e) f = subst (EventsAt M) one-more (events-right M some-leg (suc (e .depth)) (f .0 .least) (λ k _. one-leg {M = M} q k))
 
-  pub passed-task : Task s g n l
-  passed-task = task-of policy-sound (P .counts) sound-goal (P .legs)
+  module _ (back : List ℕ) (v : Found) (f : FoundLeast s plan (taskFor n l Events) 67108864 back v) where
+    -- events have no fewer steps than an end within the bound
+    events-after : {d : ℕ} → d < boundOf v → (k : ℕ) → k < suc d → ¬ BadNode M (stagerN M) k
+    events-after = go v f
+      where
+        go : (v : Found) → FoundLeast s plan (taskFor n l Events) 67108864 back v → {d : ℕ} → d < boundOf v → (k : ℕ) → k < suc d → ¬ BadNode M (stagerN M) k
+        go Nothing f h k u = least-of back Events Nothing f k
+        go (Start x) f h k u = absurd (omega arith)
+        go (At e) f h k u = f .0 .least .1 k (omega arith)
 
-  pub some-leg : 0 < legsOf g
-  some-leg = sound-goal .legs .legs .low
+    module _ {b : ℕ} (q : b ≡ boundOf v) (back′ : List ℕ) where
+      -- order was found up to as many steps: it wins
+      pub right-order : (o : Found) → FoundLeast s plan (taskFor n l Order) b back′ o → isNothing o ≡ false → RightFound M Order o
+      right-order Nothing g z = absurd (clash refl z)
+      right-order (Start x) g z = order-right M some-leg 0 (g .least) (λ k h. absurd (omega arith))
+      right-order (At e) g z = subst (OrderAt M) one-more (order-right M some-leg (suc (e .depth)) (g .0 .least) (events-after (omega (arith, g .1))))
 
-  nodes : contextCount n * 2 ^ (l .count) ≡ workLength s g
-  nodes = ap (λ (k : Counts). contextCount k * 2 ^ (l .count)) (P .counts) ∙ ap (λ (k : Legs). contextCount (countsOf s) * 2 ^ (k .count)) (P .legs)
-
-  work-fits : WorkFits s g work1 work2
-  work-fits = passed-then (goalQuestions (countsOf s) g) eleven goal-part .0
-
-  pub passed-room : {queue back : List ℕ} → length queue ≡ work1 → length back ≡ work2 → Roomy n l queue back
-  passed-room p q =
-      let f = work-fits in
-      record { queue-room = omega (arith, nodes, f .first); back-room = omega (arith, nodes, f .second) }
-
-  pub passed-back : {k : ℕ} → k ≡ work2 → contextCount n * 2 ^ legsOf g ≤ k
-  passed-back q =
-      let z : contextCount n * 2 ^ legsOf g ≡ workLength s g = ap (λ (c : Counts). contextCount c * 2 ^ legsOf g) (P .counts) in
-      omega (arith, work-fits .second)
-
-  module _ (mode : Mode) (back : List ℕ) where
-    pub short-of : (than r : Found) → FoundFewer s g n mode than back r → Short r
-    short-of than Nothing f = tt
-    short-of than (Start x) f = tt
-    short-of than (At u e v d) f = omega (arith, f .0 .found .short, few-nodes passed-task mode)
-
-    -- of what is found, that its steps are fewer
-    pub wins-of : (than r : Found) → FoundFewer s g n mode than back r → Wins r than
-    wins-of than Nothing f = tt
-    wins-of than (Start x) f = f .1
-    wins-of than (At u e v d) f = f .1
-
-  -- the verdict on what the two searches found is right
-  pub judged : (back back′ : List ℕ) (o v : Found) (r : Verdict) → FoundFewer s g n Order Nothing back o → FoundFewer s g n Events o back′ v → answerOf r ≡ answer (reachedBy o) (reachedBy v)
-      → Right (model s g) (answerOf r)
-  judged back back′ o v r p q e = subst (Right (model s g)) (sym e) (go o v p q)
-    where
-      go : (o v : Found) → FoundFewer s g n Order Nothing back o → FoundFewer s g n Events o back′ v → Right (model s g) (answer (reachedBy o) (reachedBy v))
-      go Nothing Nothing p q = answers (model s g) some-leg nowhere nowhere (λ k. p k tt) (λ k. q k tt)
-      go (Start x) Nothing p q = order-right (model s g) some-leg 0 (p .0 .least) (λ k h. absurd (omega arith))
-      go (At u e w d) Nothing p q = order-right (model s g) some-leg (suc d) (p .0 .least) (λ k h. q k (omega arith))
-      go o (Start y) p q = answers (model s g) some-leg (reachedBy o) (at 0) (least-of s g n Order back o p) (q .0 .least)
-      go o (At u e w d) p q = answers (model s g) some-leg (reachedBy o) (at (suc d)) (least-of s g n Order back o p) (q .0 .least)
-
-  order-least : {m : ℕ} → OrderAt (model s g) m → Least (model s g) (trackerN (model s g)) (at m)
-  order-least {m} p =
-      (order-iff (model s g) some-leg m .0 (p .1), λ k h b. p .0 k h .0 (order-iff (model s g) some-leg k .1 b))
-
-  events-least : {m : ℕ} → EventsAt (model s g) m → Least (model s g) (stagerN (model s g)) (at m)
-  events-least {m} p = (events-iff (model s g) m .0 (p .1), λ k h b. p .0 k h .1 (events-iff (model s g) k .1 b))
-
-  -- another search for what the verdict names finds it as many steps away
-  pub order-found : (back : List ℕ) {m : ℕ} (r : Found) → FoundFewer s g n Order Nothing back r → OrderAt (model s g) m → FoundEnd s g n Order back r × (stepsTo r ≡ m)
-  order-found back r f p = found-some s g n Order back Nothing r tt f (order-least p)
-
-  -- where the answer is events, order is found further away
-  events-fewer : (back : List ℕ) {m : ℕ} (o : Found) → FoundFewer s g n Order Nothing back o → EventsAt (model s g) m → Fewer m o
-  events-fewer back {m} o f p = go o f
-    where
-      none : (k : ℕ) → k ≤ m → ¬ BadNode (model s g) (trackerN (model s g)) k
-      none k h b = ⊎-elim (λ (q : k ≡ m). p .2 (subst (SomeOrder (model s g)) q (order-iff (model s g) some-leg k .1 b))) (λ (l : k < m). p .0 k l .0 (order-iff (model s g) some-leg k .1 b)) (eq-or-lt-of-le h)
-
-      go : (o : Found) → FoundFewer s g n Order Nothing back o → Fewer m o
-      go Nothing f = tt
-      go (Start x) f = none 0 (omega arith) (f .0 .least .0)
-      go (At u e v d) f = by (decLe m d)
+      -- neither was found
+      pub right-holds : (o : Found) → FoundLeast s plan (taskFor n l Order) b back′ o → isNothing o ≡ true → isNothing v ≡ true → Holds M
+      right-holds Nothing g z y = go v f q y
         where
-          by : Dec (m ≤ d) → m ≤ d
-          by (yes h) = h
-          by (no h) = absurd (none (suc d) (omega arith) (f .0 .least .0))
+          go : (v : Found) → FoundLeast s plan (taskFor n l Events) 67108864 back v → b ≡ boundOf v → isNothing v ≡ true → Holds M
+          go Nothing f q y = holds-right M some-leg (λ k. g k (inr (omega (arith, A Order .readable .nodes)))) (least-of back Events Nothing f)
+          go (Start x) f q y = absurd (clash y refl)
+          go (At e) f q y = absurd (clash y refl)
+      right-holds (Start x) g z y = absurd (clash z refl)
+      right-holds (At e) g z y = absurd (clash z refl)
 
-  pub events-found : (back back′ : List ℕ) {m : ℕ} (o r : Found) → FoundFewer s g n Order Nothing back o → FoundFewer s g n Events o back′ r → EventsAt (model s g) m
-      → FoundEnd s g n Events back′ r × (stepsTo r ≡ m)
-  events-found back back′ o r f v p = found-some s g n Events back′ o r (events-fewer back o f p) v (events-least p)
+      -- events alone: they are found again, up to as many steps
+      pub right-events : (o : Found) → FoundLeast s plan (taskFor n l Order) b back′ o → isNothing o ≡ true → isNothing v ≡ false
+          → (back″ : List ℕ) (r : Found) → FoundLeast s plan (taskFor n l Events) b back″ r → RightFound M Events r
+      right-events Nothing g z y back″ r p = go r p
+        where
+          there : (v : Found) → FoundLeast s plan (taskFor n l Events) 67108864 back v → b ≡ boundOf v → isNothing v ≡ false → FoundLeast s plan (taskFor n l Events) b back″ Nothing → ⊥
+          there Nothing f q y p = clash refl y
+          there (Start x) f q y p = p 0 (inl (omega arith)) (f .least .0)
+          there (At e) f q y p = p (suc (e .depth)) (inl (omega arith)) (f .0 .least .0)
 
-  -- ---- the promise, by the answer
-  pub promise-order : {m k : ℕ} {before after : List ℕ} → OrderAt (model s g) m → k ≡ m → Shown (model s g) Order k before after
-      → GoalPromise s g work1 work2 before after (outcome.Order m)
-  promise-order {before = before} {after = after} p q h =
-      let z = subst (λ (i : ℕ). Shown (model s g) Order i before after) q h in
-      (P .questions, p, z .shows, z .breaks)
+          go : (r : Found) → FoundLeast s plan (taskFor n l Events) b back″ r → RightFound M Events r
+          go Nothing p = absurd (there v f q y p)
+          go (Start x) p = events-right M some-leg 0 (p .least) (λ k h. g k (inl (omega arith)))
+          go (At e) p = subst (EventsAt M) one-more (events-right M some-leg (suc (e .depth)) (p .0 .least) (λ k h. g k (inl (omega (arith, p .1)))))
+      right-events (Start x) g z y back″ r p = absurd (clash z refl)
+      right-events (At e) g z y back″ r p = absurd (clash z refl)
 
-  pub promise-events : {m k : ℕ} {before after : List ℕ} → EventsAt (model s g) m → k ≡ m → Shown (model s g) Events k before after
-      → GoalPromise s g work1 work2 before after (outcome.Events m)
-  promise-events {before = before} {after = after} p q h =
-      let z = subst (λ (i : ℕ). Shown (model s g) Events i before after) q h in
-      (P .questions, p, z .shows, z .breaks)
+-- ---- what is shown
+module _ {M : Model} {m : ℕ} where
+  pub either-at : (mode : Mode) → RightAt M mode m → OrderAt M m ⊎ EventsAt M m
+  either-at Order h = inl h
+  either-at Events h = inr h
+
+  module _ {k : ℕ} {before after : List ℕ} (q : m ≡ k) where
+    pub shown-order : {mode : Mode} → mode ≡ Order → RightAt M mode m → Shown M mode k before after → Answered M before after (outcome.Order m)
+    shown-order e h S =
+        let z = subst (λ (i : ℕ). Shown M Order i before after) (sym q) (subst (λ (i : Mode). Shown M i k before after) e S) in
+        (subst (λ (i : Mode). RightAt M i m) e h, z .shows, z .breaks)
+
+    pub shown-events : {mode : Mode} → mode ≡ Events → RightAt M mode m → Shown M mode k before after → Answered M before after (outcome.Events m)
+    shown-events e h S =
+        let z = subst (λ (i : ℕ). Shown M Events i before after) (sym q) (subst (λ (i : Mode). Shown M i k before after) e S) in
+        (subst (λ (i : Mode). RightAt M i m) e h, z .shows, z .breaks)
+
+-- ---- the promise, where the model agrees with that of the two images
+pub promised : {M : Model} {s g : List ℕ} {n : Counts} {l : Legs} {work1 work2 : ℕ} → Agree M (model s g) → Passed s g n l work1 work2
+    → (before after : List ℕ) (r : Outcome) → Answered M before after r → GoalPromise s g work1 work2 before after r
+promised A P before after outcome.Holds h = (P .questions, holds-agrees A (h .0), h .1)
+promised A P before after (outcome.Order m) h = (P .questions, order-at-agrees A (h .0), shows-agrees A (h .1), order-agrees A (h .1 .path) (h .2))
+promised A P before after (outcome.Events m) h = (P .questions, events-at-agrees A (h .0), shows-agrees A (h .1), events-agree A (h .1 .path) (h .2))
+promised A P before after (outcome.Refused k) h = absurd h
+promised A P before after (outcome.NoRoom m) h = (P .questions, ⊎-elim (λ o. inl (order-at-agrees A o)) (λ e. inr (events-at-agrees A e)) (h .0), h .1, h .2)

@@ -1,5 +1,5 @@
 -- The goal question's questions in order: a refusal by each, and what is known where none refuses.
-use Prim.Native.Nat.{ℕ, _*_, _^_, _≤_}
+use Prim.Native.Nat.{ℕ, _*_, _≤_}
 use mathlib.Core.List.{List, [], _∷_, _++_}
 use mathlib.Core.Logic.{inl}
 use mathlib.Core.Path.{_≡_, refl, sym, ap, subst, _∙_}
@@ -20,8 +20,9 @@ use Rattle.goal_image.specs.declared.check.CheckedGoal.the-variants as goal
 use Rattle.goal_image.specs.Questions.{goalQuestions}
 use Rattle.goal_image.specs.inner.Answer.{GoalAnswer}
 use Rattle.goal_image.proofs.AnswerLaws.{sound as goal-sound}
-use Rattle.nodes.specs.inner.Tasks.{Task}
-use Rattle.search.proofs.FoundLaws.{task-of}
+use Rattle.nodes.specs.declared.monitor.Mode.{Mode}
+use Rattle.nodes.specs.inner.Tasks.{statesOf, taskFor}
+use Rattle.flowgoal.proofs.SizeLaws.{Sized, sized, work-length}
 use Rattle.flowgoal.specs.GoalQuestion.{workLength, WorkFits, allQuestions}
 use Rattle.flowgoal.specs.inner.Parts.{refusalOf, goalRefusalOf, Passed}
 
@@ -48,28 +49,28 @@ module _ (s g : List ℕ) (work1 work2 : ℕ) where
       goal-passed : AllYes (goalQuestions (countsOf s) g)
       goal-passed = subst (λ (c : Counts). AllYes (goalQuestions c g)) (a .0) (b .1)
 
-      pub asked-task : Task s g n l
-      asked-task = task-of (sound s (a .1)) (a .0) (goal-sound (countsOf s) g goal-passed) (b .0)
+      pub asked-sizes : Sized s g n l
+      asked-sizes = sized (sound s (a .1)) (a .0) (goal-sound (countsOf s) g goal-passed) (b .0)
 
-      nodes : contextCount n * 2 ^ (l .count) ≡ workLength s g
-      nodes = ap (λ (k : Counts). contextCount k * 2 ^ (l .count)) (a .0) ∙ ap (λ (k : Legs). contextCount (countsOf s) * 2 ^ (k .count)) (b .0)
+      nodes : (m : Mode) → contextCount n * statesOf (taskFor n l m) ≡ workLength s g
+      nodes = work-length s g (a .0) (b .0)
 
       no-work : (WorkFits s g work1 work2 → ⊥) → RefusedWith (allQuestions s g work1 work2) 11
       no-work h =
           refused-then (policyQuestions s) (goalQuestions (countsOf s) g ++ eleven) 11 (a .1)
           (refused-then (goalQuestions (countsOf s) g) eleven 11 goal-passed (inl (h, refl)))
 
-      pub first-short : (contextCount n * 2 ^ (l .count) ≤ work1 → ⊥) → RefusedWith (allQuestions s g work1 work2) 11
-      first-short h = no-work (λ f. h (omega (arith, nodes, f .first)))
+      pub first-short : (m : Mode) → (contextCount n * statesOf (taskFor n l m) ≤ work1 → ⊥) → RefusedWith (allQuestions s g work1 work2) 11
+      first-short m h = no-work (λ f. h (omega (arith, nodes m, f .first)))
 
-      pub second-short : (contextCount n * 2 ^ (l .count) ≤ work2 → ⊥) → RefusedWith (allQuestions s g work1 work2) 11
-      second-short h = no-work (λ f. h (omega (arith, nodes, f .second)))
+      pub second-short : (m : Mode) → (contextCount n * statesOf (taskFor n l m) ≤ work2 → ⊥) → RefusedWith (allQuestions s g work1 work2) 11
+      second-short m h = no-work (λ f. h (omega (arith, nodes m, f .second)))
 
-      pub all-passed : contextCount n * 2 ^ (l .count) ≤ work1 → contextCount n * 2 ^ (l .count) ≤ work2 → Passed s g n l work1 work2
-      all-passed h k =
+      pub all-passed : (m : Mode) → contextCount n * statesOf (taskFor n l m) ≤ work1 → contextCount n * statesOf (taskFor n l m) ≤ work2 → Passed s g n l work1 work2
+      all-passed m h k =
           record {
             questions = passed-both (policyQuestions s) (goalQuestions (countsOf s) g ++ eleven) (a .1)
-                (passed-both (goalQuestions (countsOf s) g) eleven goal-passed (record { first = omega (arith, nodes); second = omega (arith, nodes) }, tt));
+                (passed-both (goalQuestions (countsOf s) g) eleven goal-passed (record { first = omega (arith, nodes m); second = omega (arith, nodes m) }, tt));
             counts = a .0;
             legs = b .0;
           }

@@ -1,5 +1,7 @@
 pub mod BareLaws
 pub mod Cases
 pub mod GoalLaws
+pub mod ModelLaws
+pub mod SizeLaws
 pub mod AnswerLaws
 pub mod AskedLaws

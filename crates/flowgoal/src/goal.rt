@@ -1,27 +1,24 @@
 // The goal question: does a goal hold of a policy? Where it does not, a shortest path that breaks it is shown.
+use crate::answer::answer_by;
 use context::Context;
 use goal_image::check::CheckedGoal;
 use goal_image::check::Legs;
 use goal_image::check::check as check_goal;
-use nodes::arrival::states_of;
 use nodes::monitor::Mode;
+use nodes::task::Task;
+use nodes::task::states_of;
+use plan::goal::put_goal;
 use plan::make::make_plan;
 use plan::regions::ENTRIES;
 use policy_check::check;
 use policy_image::counts::Checked;
 use policy_image::counts::Counts;
-use search::levels::Found;
-use witness::path::show;
-use witness::verdict::Verdict;
-use witness::verdict::judge;
-use witness::verdict::search_fewer;
-use witness::verdict::search_order;
 ghost use mathlib.Core.Path.{_≡_};
 ghost use Prim.Native.Nat.{_*_, _^_, _≤_, _<_};
 ghost use lib.ListN.{length};
 ghost use Rattle.base.specs.inner.Decides.{Decides};
 ghost use Rattle.context.specs.inner.Places.{Countable, contextCount};
-ghost use Rattle.plan.specs.inner.Plan.{Planned};
+ghost use Rattle.nodes.specs.inner.Tasks.{statesOf};
 ghost use Rattle.flowgoal.specs.inner.Parts.{Passed, refusalOf, goalRefusalOf};
 ghost use Rattle.flowgoal.specs.GoalQuestion.{GoalPromise, outcomeNumber, OutcomeNumber};
 
@@ -60,89 +57,13 @@ fn goal_refusal(checked: CheckedGoal) -> u32
 }
 
 // Question 11 of one work slice.
-fn work_fits(counts: Counts, legs: Legs, entries: usize) -> bool
-    requires { ⌜ Countable counts × (legs .count ≤ 6) × (contextCount counts * 2 ^ (legs .count) < 2 ^ 26) ⌝ }
-    ensures { λ r. ⌜ Decides r (contextCount counts * 2 ^ (legs .count) ≤ entries) ⌝ }
+fn work_fits(task: Task, entries: usize) -> bool
+    requires { ⌜ Countable (task .counts) × (task .legs .count ≤ 6) × (contextCount (task .counts) * statesOf task < 2 ^ 26) ⌝ }
+    ensures { λ r. ⌜ Decides r (contextCount (task .counts) * statesOf task ≤ entries) ⌝ }
 {
-    let nodes = Context::count(counts) * states_of(legs);
+    let counts = task.counts;
+    let nodes = Context::count(counts) * states_of(task);
     nodes as usize <= entries
-}
-
-// The answer where questions 1 to 11 are passed, by the plan. Nothing is written to the path slice before it is certain.
-fn answer_by(
-    policy: &[u8],
-    goal: &[u8],
-    counts: Counts,
-    plan: &[u32],
-    legs: Legs,
-    work1: &mut [u32],
-    work2: &mut [u32],
-    path: &mut [u32],
-) -> Outcome
-    requires { ⌜ Passed (now policy) (now goal) counts legs (length (now work1)) (length (now work2)) × Planned (now policy) (now goal) counts (now plan) ⌝ }
-    ensures { λ r. ⌜ GoalPromise (now (policy .entry)) (now (goal .entry)) (length (now (work1 .entry))) (length (now (work2 .entry))) (now (path .entry)) (now (path .exit)) r ⌝ }
-{
-    let order = search_order(policy, goal, counts, plan, legs, work1, work2);
-    let events = search_fewer(
-        policy,
-        goal,
-        counts,
-        plan,
-        legs,
-        Mode::Events, // only what takes fewer steps than order
-        order,
-        work1,
-        work2,
-    );
-    let verdict = judge(order, events);
-    match verdict {
-        Verdict::Holds => Outcome::Holds,
-        Verdict::Order(m) => {
-            if path.len() < 2 * (m as usize) + 1 {
-                return Outcome::NoRoom(m);
-            }
-            let again = search_fewer(
-                policy,
-                goal,
-                counts,
-                plan,
-                legs,
-                Mode::Order, // whose links were overwritten by the search for events
-                Found::Nothing,
-                work1,
-                work2,
-            );
-            show(
-                policy,
-                goal,
-                counts,
-                plan,
-                legs,
-                Mode::Order,
-                again,
-                work2,
-                path,
-            );
-            Outcome::Order(m)
-        }
-        Verdict::Events(m) => {
-            if path.len() < 2 * (m as usize) + 1 {
-                return Outcome::NoRoom(m);
-            }
-            show(
-                policy,
-                goal,
-                counts,
-                plan,
-                legs,
-                Mode::Events,
-                events,
-                work2,
-                path,
-            );
-            Outcome::Events(m)
-        }
-    }
 }
 
 // The answer where questions 1 to 11 are passed: the plan is made once for all searches.
@@ -159,8 +80,9 @@ fn answer(
     ensures { λ r. ⌜ GoalPromise (now (policy .entry)) (now (goal .entry)) (length (now (work1 .entry))) (length (now (work2 .entry))) (now (path .entry)) (now (path .exit)) r ⌝ }
 {
     let mut plan = [0u32; ENTRIES];
-    make_plan(policy, goal, counts, &mut plan);
-    answer_by(policy, goal, counts, &plan, legs, work1, work2, path)
+    make_plan(policy, counts, &mut plan);
+    put_goal(goal, counts, &mut plan);
+    answer_by(policy, &plan, counts, legs, work1, work2, path)
 }
 
 // Does the goal hold of the policy? The work slices are overwritten; of the path slice, just the entries of the path that is shown.
@@ -181,10 +103,15 @@ pub fn goal_question(
     let CheckedGoal::Accepted(legs) = checked_goal else {
         return Outcome::Refused(goal_refusal(checked_goal));
     };
-    if !work_fits(counts, legs, work1.len()) {
+    let task = Task {
+        counts: counts,
+        legs: legs,
+        mode: Mode::Events,
+    };
+    if !work_fits(task, work1.len()) {
         return Outcome::Refused(11);
     }
-    if !work_fits(counts, legs, work2.len()) {
+    if !work_fits(task, work2.len()) {
         return Outcome::Refused(11);
     }
     answer(policy, goal, counts, legs, work1, work2, path)

@@ -19,8 +19,16 @@ ghost use Rattle.goal_image.specs.Sets.{fits, matchesContext, matchesEve
 ghost use Rattle.goal_image.specs.inner.Memberships.{ContextSets, EventSets};
 ghost use Rattle.goal_image.specs.inner.Sound.{SoundGoal};
 
+// The sets of a context or an event are bits, by the numbers of the goal's chains: bit i for σi, bit EVENT_CHAINS + i for γi, and one for each
+// exception, σe and γe.
+pub const EVENT_CHAINS: u32 = 7;
+
+pub const EXCEPTED_CONTEXTS: u32 = 13;
+
+pub const EXCEPTED_EVENTS: u32 = 14;
+
 // Whether the field of a record is any, or the value.
-fn fits_field(field: u32, value: u32) -> bool
+pub fn fits_field(field: u32, value: u32) -> bool
     ensures { λ r. ⌜ r ≡ fits field value ⌝ }
 {
     (field == 0) | (field == value)

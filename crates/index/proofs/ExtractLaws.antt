@@ -18,13 +18,15 @@ use Rattle.policy_image.specs.declared.records.Record.{Record}
 use Rattle.policy_image.specs.Layout.{policyHead}
 use Rattle.policy_image.specs.Policy.{Policy, policyOf, policyLinks}
 use Rattle.policy_fields.specs.Fields.{WithinLimits, limitsOf}
-use Rattle.policy_chains.proofs.KindLaws.{OfKind, some-yes, some-record}
+use Rattle.policy_chains.proofs.KindLaws.{OfKind}
 use Rattle.policy_check.specs.inner.Sound.{Sound}
 use Rattle.policy_check.proofs.Along.{along-start, along-step, along-kind, along-end}
 use Rattle.context.specs.Codes.{eventAt}
-use Rattle.relations.specs.Relations.{domain, allowed, targetOf}
+use Rattle.relations.specs.Relations.{domain, targetOf}
+use Rattle.index.specs.inner.Counting.{says, allowedBy}
 use Rattle.index.specs.inner.Rules.{Gives}
 use Rattle.index.specs.inner.Extract.{Extracted}
+use Rattle.index.proofs.CountingLaws.{some-by-yes, some-by-record}
 use Rattle.index.proofs.MaskLaws.{clash, below-or}
 
 -- rule `at` is the record's
@@ -40,19 +42,23 @@ pub record Written (src dst class mask : List ℕ) (n : ℕ) (r : Record) : Type
   pub below : at < n
   pub line : Line src dst class mask at r
 
--- rule `at` is that of an allow record whose source is a domain
-pub record Taken (p : Policy) (src dst class mask : List ℕ) (at : ℕ) : Type 0 where
+-- whether a rule is written for allow record j: its source is a domain, and it counts
+abbrev pub chosen : (ℕ → Bool) → Policy → ℕ → Bool
+chosen keep p j = domain p (p .rec j .a) && keep j
+
+-- rule `at` is that of an allow record that is chosen
+pub record Taken (keep : ℕ → Bool) (p : Policy) (src dst class mask : List ℕ) (at : ℕ) : Type 0 where
   pub number : ℕ
   pub kind : OfKind p 4 number
-  pub source : domain p (p .rec number .a) ≡ true
+  pub choice : chosen keep p number ≡ true
   pub line : Line src dst class mask at (p .rec number)
 
-abbrev Left : Policy → (src dst class mask : List ℕ) → ℕ → ℕ → Type 0
-Left p src dst class mask n j = domain p (p .rec j .a) ≡ true → Written src dst class mask n (p .rec j)
+abbrev Left : (ℕ → Bool) → Policy → (src dst class mask : List ℕ) → ℕ → ℕ → Type 0
+Left keep p src dst class mask n j = chosen keep p j ≡ true → Written src dst class mask n (p .rec j)
 
-pub record Extracting (p : Policy) (src dst class mask : List ℕ) (n i : ℕ) : Type 0 where
-  pub visit : Visit (policyLinks p) 4 (Left p src dst class mask n) i
-  pub taken : (at : ℕ) → at < n → Taken p src dst class mask at
+pub record Extracting (keep : ℕ → Bool) (p : Policy) (src dst class mask : List ℕ) (n i : ℕ) : Type 0 where
+  pub visit : Visit (policyLinks p) 4 (Left keep p src dst class mask n) i
+  pub taken : (at : ℕ) → at < n → Taken keep p src dst class mask at
   pub few : n ≤ p .size
   -- links rise, so fewer rules are written than the number of the record at hand
   pub below : (i ≡ 0 → ⊥) → n < i
@@ -68,7 +74,7 @@ target-cases r =
     ⊎-elim (λ e. inl (e, ap (λ (t : Bool). cond t (r .a) (r .b)) (eq-eqb (r .b) 0 e)))
     (λ n. inr (n, ap (λ (t : Bool). cond t (r .a) (r .b)) (ne-eqb (r .b) 0 n))) (split-eq (r .b) 0)
 
-module _ (s : List ℕ) (S : Sound s) where
+module _ (s : List ℕ) (S : Sound s) (keep : ℕ → Bool) where
   abbrev p : Policy
   p = policyOf s
 
@@ -84,36 +90,36 @@ module _ (s : List ℕ) (S : Sound s) where
         class = m .c;
       }
 
-  pub extract-start : (src dst class mask : List ℕ) (i : ℕ) → i ≡ policyHead s 4 → Extracting p src dst class mask 0 i
+  pub extract-start : (src dst class mask : List ℕ) (i : ℕ) → i ≡ policyHead s 4 → Extracting keep p src dst class mask 0 i
   extract-start src dst class mask i e =
       record {
-        visit = along-start s S 4 (omega arith) (omega arith) (Left p src dst class mask 0) i e;
+        visit = along-start s S 4 (omega arith) (omega arith) (Left keep p src dst class mask 0) i e;
         taken = λ at l. absurd (omega arith);
         few = omega arith;
         below = λ n. omega (arith, n);
       }
 
-  module _ (src dst class mask : List ℕ) (n i : ℕ) (nz : i ≡ 0 → ⊥) (x : Extracting p src dst class mask n i) (i′ : ℕ) (next : i′ ≡ p .rec i .next) where
+  module _ (src dst class mask : List ℕ) (n i : ℕ) (nz : i ≡ 0 → ⊥) (x : Extracting keep p src dst class mask n i) (i′ : ℕ) (next : i′ ≡ p .rec i .next) where
     pub extract-kind : OfKind p 4 i
-    extract-kind = along-kind s S 4 (omega arith) (omega arith) (Left p src dst class mask n) i nz (x .visit)
+    extract-kind = along-kind s S 4 (omega arith) (omega arith) (Left keep p src dst class mask n) i nz (x .visit)
 
     rises : (i′ ≡ 0 → ⊥) → i < i′
     rises z =
         let o = extract-kind in
         ⊎-elim (λ e. absurd (z (next ∙ e))) (λ h. omega (arith, h .0)) (S .links .nexts i (o .low) (o .high))
 
-    -- record i is left out: its source is no domain
-    pub extract-pass : domain p (p .rec i .a) ≡ false → Extracting p src dst class mask n i′
+    -- record i is left out: its source is no domain, or it does not count
+    pub extract-pass : chosen keep p i ≡ false → Extracting keep p src dst class mask n i′
     extract-pass e =
         record {
-          visit = along-step s S 4 (omega arith) (omega arith) (Left p src dst class mask n) i nz (x .visit) i′ next (λ h. clash h e);
+          visit = along-step s S 4 (omega arith) (omega arith) (Left keep p src dst class mask n) i nz (x .visit) i′ next (λ h. clash h e);
           taken = x .taken;
           few = x .few;
           below = λ z. omega (arith, x .below nz, rises z);
         }
 
     -- record i is written
-    module _ (d : domain p (p .rec i .a) ≡ true) (ls : n < length src) (ld : n < length dst) (lc : n < length class) (lm : n < length mask)
+    module _ (d : chosen keep p i ≡ true) (ls : n < length src) (ld : n < length dst) (lc : n < length class) (lm : n < length mask)
         (a b c m : ℕ) (ea : a ≡ p .rec i .a) (eb : b ≡ targetOf (p .rec i)) (ec : c ≡ p .rec i .c) (em : m ≡ p .rec i .mask) where
       abbrev src′ : List ℕ
       src′ = set src n a
@@ -127,8 +133,8 @@ module _ (s : List ℕ) (S : Sound s) where
       abbrev mask′ : List ℕ
       mask′ = set mask n m
 
-      keep : (at : ℕ) (r : Record) → at < n → Line src dst class mask at r → Line src′ dst′ class′ mask′ at r
-      keep at r l h =
+      line-kept : (at : ℕ) (r : Record) → at < n → Line src dst class mask at r → Line src′ dst′ class′ mask′ at r
+      line-kept at r l h =
           record {
             source = getD-set-other src n at a 0 (λ q. omega arith) ∙ h .source;
             target = getD-set-other dst n at b 0 (λ q. omega arith) ∙ h .target;
@@ -145,58 +151,55 @@ module _ (s : List ℕ) (S : Sound s) where
             bears = getD-set-same mask n m 0 lm ∙ em;
           }
 
-      kept : (j : ℕ) → Left p src dst class mask n j → Left p src′ dst′ class′ mask′ (n + 1) j
+      kept : (j : ℕ) → Left keep p src dst class mask n j → Left keep p src′ dst′ class′ mask′ (n + 1) j
       kept j h e =
           let w = h e in
-          record { at = w .at; below = omega (arith, w .below); line = keep (w .at) (p .rec j) (w .below) (w .line) }
+          record { at = w .at; below = omega (arith, w .below); line = line-kept (w .at) (p .rec j) (w .below) (w .line) }
 
-      pub extract-write : Extracting p src′ dst′ class′ mask′ (n + 1) i′
+      pub extract-write : Extracting keep p src′ dst′ class′ mask′ (n + 1) i′
       extract-write =
           record {
-            visit = along-step s S 4 (omega arith) (omega arith) (Left p src′ dst′ class′ mask′ (n + 1)) i nz
-                (visit-map (policyLinks p) 4 i (Left p src dst class mask n) (Left p src′ dst′ class′ mask′ (n + 1)) kept (x .visit)) i′ next
+            visit = along-step s S 4 (omega arith) (omega arith) (Left keep p src′ dst′ class′ mask′ (n + 1)) i nz
+                (visit-map (policyLinks p) 4 i (Left keep p src dst class mask n) (Left keep p src′ dst′ class′ mask′ (n + 1)) kept (x .visit)) i′ next
                 (λ e. record { at = n; below = omega arith; line = fresh });
             taken = λ at l. ⊎-elim
-                (λ (q : at ≡ n). subst (λ (y : ℕ). Taken p src′ dst′ class′ mask′ y) (sym q) (record { number = i; kind = extract-kind; source = d; line = fresh }))
-                (λ (lt : at < n). let t = x .taken at lt in record { number = t .number; kind = t .kind; source = t .source; line = keep at (p .rec (t .number)) lt (t .line) })
+                (λ (q : at ≡ n). subst (λ (y : ℕ). Taken keep p src′ dst′ class′ mask′ y) (sym q) (record { number = i; kind = extract-kind; choice = d; line = fresh }))
+                (λ (lt : at < n). let t = x .taken at lt in record { number = t .number; kind = t .kind; choice = t .choice; line = line-kept at (p .rec (t .number)) lt (t .line) })
                 (below-or l);
             few = omega (arith, x .below nz, extract-kind .high);
             below = λ z. omega (arith, x .below nz, rises z);
           }
 
-  module _ (src dst class mask : List ℕ) (n : ℕ) (x : Extracting p src dst class mask n 0) where
-    -- what an allow record has to say for a to act on b with permission q of class c
-    abbrev says : ℕ → ℕ → ℕ → ℕ → Record → Bool
-    says a b c q r = (eqb (r .a) a && (eqb (targetOf r) b && eqb (r .c) c)) && bit (r .mask) q
-
+  module _ (src dst class mask : List ℕ) (n : ℕ) (x : Extracting keep p src dst class mask n 0) where
     gives-source : (a b c q : ℕ) → Gives src dst class mask n a b c q → domain p a ≡ true
     gives-source a b c q g =
         let t = x .taken (g .at) (g .below) in
-        subst (λ (y : ℕ). domain p y ≡ true) (sym (t .line .source) ∙ g .source) (t .source)
+        subst (λ (y : ℕ). domain p y ≡ true) (sym (t .line .source) ∙ g .source) (and-first (domain p (p .rec (t .number) .a)) (keep (t .number)) (t .choice))
 
-    gives-allowed : (a b c q : ℕ) → Gives src dst class mask n a b c q → allowed p a b (eventAt c q) ≡ true
-    unfolding allowed
+    gives-allowed : (a b c q : ℕ) → Gives src dst class mask n a b c q → allowedBy keep p a b (eventAt c q) ≡ true
+    unfolding allowedBy
     gives-allowed a b c q g =
         let t = x .taken (g .at) (g .below) in
         let r = p .rec (t .number) in
-        some-yes p 4 (says a b c q) (t .number) (t .kind)
+        some-by-yes keep p 4 (says a b (eventAt c q)) (t .number) (t .kind) (and-second (domain p (r .a)) (keep (t .number)) (t .choice))
         (and-true (eqb (r .a) a && (eqb (targetOf r) b && eqb (r .c) c)) (bit (r .mask) q)
         (and-true (eqb (r .a) a) (eqb (targetOf r) b && eqb (r .c) c) (eq-eqb (r .a) a (sym (t .line .source) ∙ g .source))
         (and-true (eqb (targetOf r) b) (eqb (r .c) c) (eq-eqb (targetOf r) b (sym (t .line .target) ∙ g .target)) (eq-eqb (r .c) c (sym (t .line .kind) ∙ g .kind))))
         (subst (λ (y : ℕ). bit y q ≡ true) (t .line .bears) (g .bears)))
 
-    allowed-gives : (a b c q : ℕ) → domain p a ≡ true → allowed p a b (eventAt c q) ≡ true → Gives src dst class mask n a b c q
-    unfolding allowed
+    allowed-gives : (a b c q : ℕ) → domain p a ≡ true → allowedBy keep p a b (eventAt c q) ≡ true → Gives src dst class mask n a b c q
+    unfolding allowedBy
     allowed-gives a b c q d e =
-        let f = some-record p 4 (says a b c q) e in
+        let f = some-by-record keep p 4 (says a b (eventAt c q)) e in
         let r = p .rec (f .0) in
-        let key = and-first (eqb (r .a) a && (eqb (targetOf r) b && eqb (r .c) c)) (bit (r .mask) q) (f .2) in
-        let set = and-second (eqb (r .a) a && (eqb (targetOf r) b && eqb (r .c) c)) (bit (r .mask) q) (f .2) in
+        let key = and-first (eqb (r .a) a && (eqb (targetOf r) b && eqb (r .c) c)) (bit (r .mask) q) (f .3) in
+        let set = and-second (eqb (r .a) a && (eqb (targetOf r) b && eqb (r .c) c)) (bit (r .mask) q) (f .3) in
         let is-a = eqb-true (r .a) a (and-first (eqb (r .a) a) (eqb (targetOf r) b && eqb (r .c) c) key) in
         let rest = and-second (eqb (r .a) a) (eqb (targetOf r) b && eqb (r .c) c) key in
         let is-b = eqb-true (targetOf r) b (and-first (eqb (targetOf r) b) (eqb (r .c) c) rest) in
         let is-c = eqb-true (r .c) c (and-second (eqb (targetOf r) b) (eqb (r .c) c) rest) in
-        let w = along-end s S 4 (omega arith) (omega arith) (Left p src dst class mask n) (x .visit) (f .0) (f .1) (subst (λ (y : ℕ). domain p y ≡ true) (sym is-a) d) in
+        let choice = and-true (domain p (r .a)) (keep (f .0)) (subst (λ (y : ℕ). domain p y ≡ true) (sym is-a) d) (f .2) in
+        let w = along-end s S 4 (omega arith) (omega arith) (Left keep p src dst class mask n) (x .visit) (f .0) (f .1) choice in
         record {
           at = w .at;
           below = w .below;
@@ -209,7 +212,7 @@ module _ (s : List ℕ) (S : Sound s) where
     fields : (at : ℕ) (l : at < n) → Allowing p (p .rec (x .taken at l .number))
     fields at l = allowing (x .taken at l .number) (x .taken at l .kind)
 
-    pub extract-end : Extracted p src dst class mask n
+    pub extract-end : Extracted keep p src dst class mask n
     extract-end =
         record {
           few = x .few;

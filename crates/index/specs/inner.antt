@@ -4,5 +4,6 @@ pub mod Chained
 pub mod Index
 pub mod Insert
 pub mod Build
+pub mod Counting
 pub mod Extract
 pub mod Meaning

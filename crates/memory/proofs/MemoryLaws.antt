@@ -9,7 +9,6 @@ use native.Mathlib.Omega.{arith}
 use lib.Bits.{bitAnd, bitOr}
 use lib.Dec.{T}
 use lib.ListN.{length, getD, set, length-set, replicate, length-replicate}
-use lib.Pow.{pow-pos, pow-mono}
 use lib.Seq.{getD-set-same, getD-set-other}
 use Rattle.base.specs.Bits.{bit}
 use Rattle.base.proofs.BitLaws.{bit-or, bit-zero}
@@ -19,16 +18,16 @@ use Rattle.policy_image.specs.declared.counts.Counts.{Counts}
 use Rattle.policy_image.specs.Policy.{policyOf}
 use Rattle.context.specs.declared.Context.{Context}
 use Rattle.context.specs.Codes.{eventOf}
-use Rattle.context.specs.inner.Places.{contextCount, contextAtIndex}
+use Rattle.context.specs.inner.Places.{Countable, contextCount, contextAtIndex}
 use Rattle.context.proofs.PlaceLaws.{at-in-range}
 use Rattle.access.specs.Authorization.{flow}
-use Rattle.goal_image.specs.declared.check.Legs.{Legs}
-use Rattle.goal_image.specs.Layout.{legsOf}
-use Rattle.goal_image.specs.Goal.{goalOf, σeChain, γeChain}
-use Rattle.goal_image.specs.Sets.{contextIn, eventIn}
+use Rattle.goal_image.specs.Goal.{γeChain}
 use Rattle.paths.specs.Model.{Model}
-use Rattle.goal_model.specs.Images.{meetsρμ, model}
-use Rattle.plan.specs.inner.Plan.{eventsAt, special, Planned}
+use Rattle.goal_model.specs.Images.{meetsρμ}
+use Rattle.plan.specs.inner.Entries.{eventsAt}
+use Rattle.plan.specs.inner.Plan.{special}
+use Rattle.plan.specs.inner.Types.{startOf}
+use Rattle.plan.proofs.TypeLaws.{type-lt, type-le}
 use Rattle.steps.specs.declared.nearest.Asker.{Asker}
 use Rattle.steps.specs.declared.nearest.Offer.{Offer}
 use Rattle.steps.specs.inner.Nearest.{keyOf, Passed}
@@ -36,36 +35,37 @@ use Rattle.steps.specs.inner.Steps.{Offering}
 use Rattle.steps.proofs.FlowLaws.{flow-class, flow-held, plain-same}
 use Rattle.steps.proofs.OfferLaws.{plain-flow}
 use Rattle.nodes.specs.declared.monitor.Mode.{Mode}
+use Rattle.nodes.specs.declared.task.Task.{Task}
 use Rattle.nodes.specs.inner.Graph.{Graph}
 use Rattle.nodes.specs.inner.State.{Turn, Clear}
-use Rattle.nodes.specs.inner.Nodes.{Watch, watchOf, placeOf, stateOf, codeOf}
+use Rattle.nodes.specs.inner.Model.{excepted, barred}
+use Rattle.nodes.specs.inner.Nodes.{Watch, placeOf, stateOf, codeOf}
 use Rattle.nodes.specs.inner.Watching.{By}
-use Rattle.nodes.specs.inner.Tasks.{typeOf, Task, graphOf, Stands}
-use Rattle.plan.specs.inner.Types.{startOf}
+use Rattle.nodes.specs.inner.Tasks.{statesOf, Given, modelBy, watchBy, graphOf, typeOf, Stands}
 use Rattle.nodes.specs.inner.Blocks.{Asks, Ahead}
-use Rattle.memory.specs.inner.Memory.{keepsOf, stateKey, Marks, Settled, Memory}
 use Rattle.nodes.proofs.SearchLaws.{clear-keep, turn-chain}
+use Rattle.nodes.proofs.ModelLaws.{states-some, states-few}
 use Rattle.nodes.proofs.ArrivalLaws.{by-of}
-use Rattle.plan.proofs.TypeLaws.{type-lt, type-le}
+use Rattle.nodes.proofs.LevelLaws.{place-lt, place-le, whole, chain-open, edge-flow, edge-free, edge-freeE, edge-at, types-few}
+use Rattle.memory.specs.inner.Memory.{keepsOf, stateKey, Marks, Settled, Memory}
 use Rattle.memory.proofs.KeyLaws.{kept, step-by-key}
-use Rattle.nodes.proofs.LevelLaws.{place-lt, place-le, whole, chain-open, edge-flow, edge-free, edge-freeE, edge-at, types-few, same-counts}
 
 -- nothing is remembered at first
-pub memory-begin : (s g : List ℕ) (n : Counts) (m : Mode) (plan back : List ℕ) → Memory s g n m plan back (replicate 256 0) (replicate 256 0)
-memory-begin s g n m plan back =
+pub memory-begin : (s plan : List ℕ) (t : Task) (back : List ℕ) → Memory s plan t back (replicate 256 0) (replicate 256 0)
+memory-begin s plan t back =
     record {
       swept-size = length-replicate {A = ℕ} 256 0;
       spent-size = length-replicate {A = ℕ} 256 0;
-      done = λ u e w lu lw ed b. absurd (clash b (empty (typeOf g n w) _));
-      over = λ u e w lu lw ed _ b. absurd (clash b (empty (typeOf g n u) _));
+      done = λ u e w lu lw ed b. absurd (clash b (empty (typeOf t w) _));
+      over = λ u e w lu lw ed _ b. absurd (clash b (empty (typeOf t u) _));
     }
   where
     empty : (t k : ℕ) → bit (getD (replicate 256 0) t 0) k ≡ false
     empty t k = ap (λ (v : ℕ). bit v k) (zeros 256 t) ∙ bit-zero k
 
 -- a node is entered
-pub memory-keep : {s g : List ℕ} {n : Counts} {m : Mode} {plan back swept spent : List ℕ} (v x : ℕ) → getD back v 0 ≡ 0
-    → Memory s g n m plan back swept spent → Memory s g n m plan (set back v x) swept spent
+pub memory-keep : {s plan : List ℕ} {t : Task} {back swept spent : List ℕ} (v x : ℕ) → getD back v 0 ≡ 0
+    → Memory s plan t back swept spent → Memory s plan t (set back v x) swept spent
 memory-keep v x z M =
     record {
       swept-size = M .swept-size;
@@ -92,157 +92,143 @@ added-bit l t mark i k h b =
     (λ (d : i ≡ t → ⊥). inl (ap (λ (v : ℕ). bit v k) (sym (getD-set-other l t i (bitOr (getD l t 0) mark) 0 d)) ∙ b))
     (split-eq i t)
 
-module _ {s g : List ℕ} {n : Counts} {l : Legs} (A : Task s g n l) (m : Mode) {plan : List ℕ} (P : Planned s g n plan) where
+module _ {s plan : List ℕ} {t₀ : Task} (A : Given s plan t₀) where
+  abbrev n : Counts
+  n = t₀ .counts
+
+  abbrev m : Mode
+  m = t₀ .mode
+
   abbrev M : Model
-  M = model s g
+  M = modelBy s plan t₀
 
   abbrev W : Watch
-  W = watchOf m M
+  W = watchBy s plan t₀
 
   abbrev K : ℕ
-  K = 2 ^ M .legs
+  K = statesOf t₀
 
   abbrev G : Graph
-  G = graphOf s g n m
+  G = graphOf s plan t₀
+
+  C₀ : Countable n
+  C₀ = A .readable .sets .counts .countable
 
   pub state-small : (v : ℕ) → stateOf K v < 64
   unfolding stateOf
-  state-small v = lt-of-lt-of-le (mod-lt v (pow-pos (M .legs))) (pow-mono (let h : legsOf g ≤ 6 = omega (arith, A .legs .count, A .legs .few-legs) in h))
+  state-small v = lt-of-lt-of-le (mod-lt v (states-some t₀)) (states-few t₀ (A .readable .few-legs))
 
   state-lt : (v : ℕ) → stateOf K v < K
   unfolding stateOf
-  state-lt v = mod-lt v (pow-pos (M .legs))
+  state-lt v = mod-lt v (states-some t₀)
 
   place-in : {v : ℕ} → v < G .k → placeOf K v < contextCount n
-  place-in h = place-lt (pow-pos (M .legs)) h
+  place-in h = place-lt (states-some t₀) h
 
-  stands-any : (u : ℕ) → u < G .k → Stands g n u (contextAtIndex n (placeOf K u)) (stateOf K u)
+  stands-any : (u : ℕ) → u < G .k → Stands t₀ u (contextAtIndex n (placeOf K u)) (stateOf K u)
   stands-any u h =
-      record { below = place-in h; place = refl; range = at-in-range n (placeOf K u) (A .legs .countable .roles) (A .legs .countable .users) (place-in h); at = refl }
+      record { below = place-in h; place = refl; range = at-in-range n (placeOf K u) (C₀ .roles) (C₀ .users) (place-in h); at = refl }
 
-  classes-same : n .classes ≡ policyOf s .counts .classes
-  classes-same = ap (λ (c : Counts). c .classes) (same-counts A m)
+  -- an event that flows is one of a class of the policy
+  event-in : (e : ℕ) (x y : Context) → flow (policyOf s) (eventOf e) x y ≡ true → e / 32 < 32
+  event-in e x y f = let w = flow-class {s = s} (eventOf e) x y (A .ready .sound) f .high in omega (arith, A .ready .sound .range .classes .high)
 
-  -- the sets of an event that flows
-  sets-of : (e : ℕ) (x y : Context) → flow (policyOf s) (eventOf e) x y ≡ true → (32 ≤ e) × (e < 32 * (n .classes + 1))
-  sets-of e x y f =
-      let w = flow-class {s = s} (eventOf e) x y (A .given .ready .sound) f in
-      let a = w .low in
-      let b = w .high in
-      let c = classes-same in
-      (omega arith, omega arith)
-
-  by-at : (e : ℕ) → 32 ≤ e → e < 32 * (n .classes + 1) → By M e (eventsAt plan e)
-  by-at e a b = by-of (A .legs) s (P .goal .events e a b)
+  by-at : (e : ℕ) → By M e (eventsAt plan e)
+  by-at e = by-of s plan t₀ refl
 
   -- an edge from another node to w, as one from u by another event
-  module _ {u state : ℕ} {x : Context} (S : Stands g n u x state) (first : ¬ T (M .σ (M .legs) (codeOf n K u))) (free : contextIn (goalOf g) σeChain x ≡ false) where
-    pub edge-from : (u′ e e₀ w : ℕ) → w < G .k → G .Edge u′ e w → eventIn (goalOf g) γeChain (eventOf e₀) ≡ false
+  module _ {u state : ℕ} {x : Context} (S : Stands t₀ u x state) (first : ¬ T (M .σ (M .legs) (codeOf n K u))) (free : excepted n plan x ≡ false) where
+    pub edge-from : (u′ e e₀ w : ℕ) → w < G .k → G .Edge u′ e w → barred plan e₀ ≡ false
         → flow (policyOf s) (eventOf e₀) x (contextAtIndex n (placeOf K w)) ≡ true
         → W .step (stateOf K u′) e (codeOf n K w) ≡ W .step state e₀ (codeOf n K w) → G .Edge u e₀ w
     edge-from u′ e e₀ w lw ed freeE f q =
         let st : stateOf K w ≡ W .step state e₀ (codeOf n K w) = ed .state ∙ q in
-        edge-at A m S e₀ (placeOf K w) (place-in lw) (whole K w ∙ ap (λ (i : ℕ). placeOf K w * K + i) st) (subst (λ (i : ℕ). i < K) st (state-lt w)) first free freeE f
+        edge-at A S e₀ (placeOf K w) (place-in lw) (whole K w ∙ ap (λ (i : ℕ). placeOf K w * K + i) st) (subst (λ (i : ℕ). i < K) st (state-lt w)) first free freeE f
         (λ z. subst (λ (i : ℕ). T (W .bad i)) st (ed .kept z))
 
   -- ---- what is passed over
-  module _ {back swept spent : List ℕ} (N : Memory s g n m plan back swept spent) {u state : ℕ} {x : Context} (S : Stands g n u x state) (lu : u < G .k) {a : Asker} (Q : AskerOf m spent x state a) where
+  module _ {back swept spent : List ℕ} (N : Memory s plan t₀ back swept spent) {u state : ℕ} {x : Context} (S : Stands t₀ u x state) (lu : u < G .k) {a : Asker} (Q : AskerOf m spent x state a) where
     key-is : (by : ℕ) → keyOf a by ≡ kept m (stateOf K u) by
     key-is by = ap₂ (λ (i j : ℕ). bitAnd i (bitOr j (by / 2 ^ 7))) (Q .state-is ∙ S .at) (Q .keeps-are)
 
-    own-type : x .ty ≡ typeOf g n u
+    own-type : x .ty ≡ typeOf t₀ u
     own-type = ap (λ (z : Context). z .ty) (S .place)
 
-    pub passed : {i w : ℕ} → w < G .k → G .Edge u i w → Passed plan swept a i (typeOf g n w) → Clear G back w
+    pub passed : {i w : ℕ} → w < G .k → G .Edge u i w → Passed plan swept a i (typeOf t₀ w) → Clear G back w
     passed {i} {w} lw ed (inl c) =
-        let r = sets-of i x (contextAtIndex n (placeOf K w)) (edge-flow A m S lw ed) in
         ⊎-elim
-        (λ (b : bit (eventsAt plan i) 14 ≡ true). absurd (clash (sym (P .goal .events i (r .0) (r .1) .at 14) ∙ b) (edge-freeE A m S ed)))
-        (λ b. N .done u i w lu lw ed (ap (bit (getD swept (typeOf g n w) 0)) (sym (key-is (eventsAt plan i))) ∙ b))
-        (or-cases (bit (eventsAt plan i) 14) (bit (getD swept (typeOf g n w) 0) (keyOf a (eventsAt plan i))) c)
+        (λ (b : barred plan i ≡ true). absurd (clash b (edge-freeE A S ed)))
+        (λ b. N .done u i w lu lw ed (ap (bit (getD swept (typeOf t₀ w) 0)) (sym (key-is (eventsAt plan i))) ∙ b))
+        (or-cases (barred plan i) (bit (getD swept (typeOf t₀ w) 0) (keyOf a (eventsAt plan i))) c)
     passed {i} {w} lw ed (inr c) =
-        let r = sets-of i x (contextAtIndex n (placeOf K w)) (edge-flow A m S lw ed) in
-        let few : i / 32 < 32 = (let h = r .1 in let k = A .given .ready .sound .range .classes .high in let q = classes-same in omega arith) in
-        N .over u i w lu lw ed (sym (P .policy .tables .special-at (i / 32) (i % 32) few) ∙ c .1)
+        N .over u i w lu lw ed (sym (A .planned .policy .tables .special-at (i / 32) (i % 32) (event-in i x (contextAtIndex n (placeOf K w)) (edge-flow A S lw ed))) ∙ c .1)
         (ap₂ (λ (t k : ℕ). bit (getD spent t 0) k) (sym own-type) (sym (S .at)) ∙ sym (Q .spent-is) ∙ c .0)
 
     -- an event in the same sets that flows to the same context leads to the same node
     pub edge-like : ¬ T (M .σ (M .legs) (codeOf n K u)) → {i e w : ℕ} → w < G .k → G .Edge u i w → eventsAt plan e ≡ eventsAt plan i
         → flow (policyOf s) (eventOf e) x (contextAtIndex n (placeOf K w)) ≡ true → G .Edge u e w
     edge-like first {i} {e} {w} lw ed q f =
-        let y : Context = contextAtIndex n (placeOf K w) in
-        let r = sets-of i x y (edge-flow A m S lw ed) in
-        let r′ = sets-of e x y f in
         let few : state < 64 = subst (λ (k : ℕ). k < 64) (Q .state-is) (Q .few) in
-        let free : eventIn (goalOf g) γeChain (eventOf e) ≡ false = sym (P .goal .events e (r′ .0) (r′ .1) .at 14) ∙ ap (λ (k : ℕ). bit k 14) q ∙ P .goal .events i (r .0) (r .1) .at 14 ∙ edge-freeE A m S ed in
-        edge-from S first (edge-free A m S ed) u i e w lw ed free f
-        (ap (λ (k : ℕ). W .step k i (codeOf n K w)) (sym (S .at))
-        ∙ step-by-key m state state (codeOf n K w) few few (by-at i (r .0) (r .1)) (by-at e (r′ .0) (r′ .1)) (ap (λ (k : ℕ). kept m state k) (sym q)))
+        let free : barred plan e ≡ false = ap (λ (k : ℕ). bit k γeChain) q ∙ edge-freeE A S ed in
+        edge-from S first (edge-free A S ed) u i e w lw ed free f
+        (ap (λ (k : ℕ). W .step k i (codeOf n K w)) (sym (S .at)) ∙ step-by-key m state state (codeOf n K w) few few (by-at i) (by-at e) (ap (λ (k : ℕ). kept m state k) (sym q)))
 
     -- ---- the contexts of a type are swept
-    module _ {queue : List ℕ} {head tail stop depth : ℕ} {o : Offer} (O : Ahead (policyOf s) (goalOf g) plan swept a x o)
+    module _ {queue : List ℕ} {head tail stop depth : ℕ} {o : Offer} (O : Ahead (policyOf s) n plan swept a x o)
         (t : Turn G back queue head tail stop depth u (o .at / 4096) (startOf n (o .at % 4096 + 1) * K)) where
       abbrev e₀ : ℕ
       e₀ = o .at / 4096
 
       other-few : o .at % 4096 < 256
-      other-few = omega (arith, O .offering .other .high, A .given .ready .sound .range .types .high)
+      other-few = omega (arith, O .offering .other .high, A .ready .sound .range .types .high)
 
-      e₀-low : 32 ≤ e₀
-      e₀-low = O .offering .event .low
-
-      e₀-high : e₀ < 32 * (n .classes + 1)
-      e₀-high = let c = classes-same in omega (arith, O .offering .event .high)
-
-      not-excepted : eventIn (goalOf g) γeChain (eventOf e₀) ≡ false
-      not-excepted = sym (P .goal .events e₀ e₀-low e₀-high .at 14) ∙ first-false (bit (eventsAt plan e₀) 14) (bit (getD swept (o .at % 4096) 0) (keyOf a (eventsAt plan e₀))) (O .unclosed)
+      not-excepted : barred plan e₀ ≡ false
+      not-excepted = first-false (barred plan e₀) (bit (getD swept (o .at % 4096) 0) (keyOf a (eventsAt plan e₀))) (O .unclosed)
 
       -- where another edge with the same key leads
-      key-step : (u′ e w : ℕ) → u′ < G .k → w < G .k → G .Edge u′ e w → keyOf a (eventsAt plan e₀) ≡ stateKey m plan (stateOf K u′) e
-          → W .step (stateOf K u′) e (codeOf n K w) ≡ W .step state e₀ (codeOf n K w)
-      key-step u′ e w lu′ lw ed key =
-          let r = sets-of e (contextAtIndex n (placeOf K u′)) (contextAtIndex n (placeOf K w)) (edge-flow A m (stands-any u′ lu′) lw ed) in
-          step-by-key m (stateOf K u′) state (codeOf n K w) (state-small u′) (subst (λ (i : ℕ). i < 64) (Q .state-is) (Q .few)) (by-at e (r .0) (r .1)) (by-at e₀ e₀-low e₀-high)
+      key-step : (u′ e w : ℕ) → keyOf a (eventsAt plan e₀) ≡ stateKey m plan (stateOf K u′) e → W .step (stateOf K u′) e (codeOf n K w) ≡ W .step state e₀ (codeOf n K w)
+      key-step u′ e w key =
+          step-by-key m (stateOf K u′) state (codeOf n K w) (state-small u′) (subst (λ (i : ℕ). i < 64) (Q .state-is) (Q .few)) (by-at e) (by-at e₀)
           (sym key ∙ ap₂ (λ (i j : ℕ). bitAnd i (bitOr j (eventsAt plan e₀ / 2 ^ 7))) (Q .state-is) (Q .keeps-are))
 
       arrival-held : (u′ e w : ℕ) → u′ < G .k → w < G .k → G .Edge u′ e w → meetsρμ (policyOf s) (contextAtIndex n (placeOf K w)) ≡ true
-      arrival-held u′ e w lu′ lw ed = flow-held (policyOf s) (eventOf e) (contextAtIndex n (placeOf K u′)) (contextAtIndex n (placeOf K w)) (edge-flow A m (stands-any u′ lu′) lw ed) .1
+      arrival-held u′ e w lu′ lw ed = flow-held (policyOf s) (eventOf e) (contextAtIndex n (placeOf K u′)) (contextAtIndex n (placeOf K w)) (edge-flow A (stands-any u′ lu′) lw ed) .1
 
       -- without conditions it is one from u
-      swept-edge : special (policyOf s) (eventOf e₀) ≡ false → (u′ e w : ℕ) → u′ < G .k → w < G .k → G .Edge u′ e w → typeOf g n w ≡ o .at % 4096
+      swept-edge : special (policyOf s) (eventOf e₀) ≡ false → (u′ e w : ℕ) → u′ < G .k → w < G .k → G .Edge u′ e w → typeOf t₀ w ≡ o .at % 4096
           → keyOf a (eventsAt plan e₀) ≡ stateKey m plan (stateOf K u′) e → Clear G back w
       swept-edge plain u′ e w lu′ lw ed ty key =
           let y : Context = contextAtIndex n (placeOf K w) in
           let O′ : Offering (policyOf s) plan (x .ty) e₀ (y .ty) (o .entry) = subst (λ (i : ℕ). Offering (policyOf s) plan (x .ty) e₀ i (o .entry)) (sym ty) (O .offering) in
           let f₀ : flow (policyOf s) (eventOf e₀) x y ≡ true = plain-flow x y (O .meets) (arrival-held u′ e w lu′ lw ed) O′ plain in
-          t .targets w (below w ty) (edge-from S (chain-open A m (turn-chain t)) (O .free) u′ e e₀ w lw ed not-excepted f₀ (key-step u′ e w lu′ lw ed key))
+          t .targets w (below w ty) (edge-from S (chain-open A (turn-chain t)) (O .free) u′ e e₀ w lw ed not-excepted f₀ (key-step u′ e w key))
         where
-          below : (w : ℕ) → typeOf g n w ≡ o .at % 4096 → w < startOf n (o .at % 4096 + 1) * K
+          below : (w : ℕ) → typeOf t₀ w ≡ o .at % 4096 → w < startOf n (o .at % 4096 + 1) * K
           below w ty =
               ⊎-elim
-              (λ (h : startOf n (o .at % 4096 + 1) * K ≤ w). absurd (let z = type-le (A .legs .countable) (o .at % 4096 + 1) (placeOf K w) (place-le (pow-pos (M .legs)) h) in omega arith))
+              (λ (h : startOf n (o .at % 4096 + 1) * K ≤ w). absurd (let z = type-le (C₀) (o .at % 4096 + 1) (placeOf K w) (place-le (states-some t₀) h) in omega arith))
               (λ h. h)
               (split-le (startOf n (o .at % 4096 + 1) * K) w)
 
       -- where all that could be entered is entered, it leads there
-      settled-edge : Settled s g n m back state (eventsAt plan e₀) (startOf n (o .at % 4096)) (startOf n (o .at % 4096 + 1)) → (u′ e w : ℕ) → u′ < G .k → w < G .k → G .Edge u′ e w
-          → typeOf g n w ≡ o .at % 4096 → keyOf a (eventsAt plan e₀) ≡ stateKey m plan (stateOf K u′) e → Clear G back w
+      settled-edge : Settled s plan t₀ back state (eventsAt plan e₀) (startOf n (o .at % 4096)) (startOf n (o .at % 4096 + 1)) → (u′ e w : ℕ) → u′ < G .k → w < G .k → G .Edge u′ e w
+          → typeOf t₀ w ≡ o .at % 4096 → keyOf a (eventsAt plan e₀) ≡ stateKey m plan (stateOf K u′) e → Clear G back w
       settled-edge F u′ e w lu′ lw ed ty key =
-          F .all e₀ w (P .goal .events e₀ e₀-low e₀-high) from to (arrival-held u′ e w lu′ lw ed) (ed .state ∙ key-step u′ e w lu′ lw ed key) (ed .kept)
+          F .all e₀ w refl from to (arrival-held u′ e w lu′ lw ed) (ed .state ∙ key-step u′ e w key) (ed .kept)
         where
           from : startOf n (o .at % 4096) ≤ placeOf K w
           from =
-              ⊎-elim (λ h. h) (λ (h : placeOf K w < startOf n (o .at % 4096)). absurd (let z = type-lt (A .legs .countable) (o .at % 4096) (placeOf K w) h in omega arith))
+              ⊎-elim (λ h. h) (λ (h : placeOf K w < startOf n (o .at % 4096)). absurd (let z = type-lt (C₀) (o .at % 4096) (placeOf K w) h in omega arith))
               (split-le (startOf n (o .at % 4096)) (placeOf K w))
 
           to : placeOf K w < startOf n (o .at % 4096 + 1)
           to =
-              ⊎-elim (λ (h : startOf n (o .at % 4096 + 1) ≤ placeOf K w). absurd (let z = type-le (A .legs .countable) (o .at % 4096 + 1) (placeOf K w) h in omega arith)) (λ h. h)
+              ⊎-elim (λ (h : startOf n (o .at % 4096 + 1) ≤ placeOf K w). absurd (let z = type-le (C₀) (o .at % 4096 + 1) (placeOf K w) h in omega arith)) (λ h. h)
               (split-le (startOf n (o .at % 4096 + 1)) (placeOf K w))
 
       pub memory-swept : {guarded done : Bool} {mark : ℕ} → guarded ≡ special (policyOf s) (eventOf e₀)
-          → (done ≡ true → (guarded ≡ false) ⊎ Settled s g n m back state (eventsAt plan e₀) (startOf n (o .at % 4096)) (startOf n (o .at % 4096 + 1)))
-          → Marks (keyOf a (eventsAt plan e₀)) done mark → Memory s g n m plan back (set swept (o .at % 4096) (bitOr (getD swept (o .at % 4096) 0) mark)) spent
+          → (done ≡ true → (guarded ≡ false) ⊎ Settled s plan t₀ back state (eventsAt plan e₀) (startOf n (o .at % 4096)) (startOf n (o .at % 4096 + 1)))
+          → Marks (keyOf a (eventsAt plan e₀)) done mark → Memory s plan t₀ back (set swept (o .at % 4096) (bitOr (getD swept (o .at % 4096) 0) mark)) spent
       memory-swept {guarded} {done} {mark} c D R =
           record {
             swept-size = simp length-set (N .swept-size);
@@ -253,24 +239,23 @@ module _ {s g : List ℕ} {n : Counts} {l : Legs} (A : Task s g n l) (m : Mode) 
                 (λ d.
                 let k = R .only _ (d .1) in
                 ⊎-elim (λ f. swept-edge (sym c ∙ f) u′ e w lu′ lw ed (d .0) (k .1)) (λ F. settled-edge F u′ e w lu′ lw ed (d .0) (k .1)) (D (k .0)))
-                (added-bit swept (o .at % 4096) mark (typeOf g n w) (stateKey m plan (stateOf K u′) e) (omega (arith, other-few, N .swept-size)) b);
+                (added-bit swept (o .at % 4096) mark (typeOf t₀ w) (stateKey m plan (stateOf K u′) e) (omega (arith, other-few, N .swept-size)) b);
           }
 
     -- ---- the steps of a state are taken
     module _ {queue : List ℕ} {head tail stop depth at v : ℕ} (t : Turn G back queue head tail stop depth u (at / 4096) v) (end : 4194304 ≤ at) where
-      spent-edge : contextIn (goalOf g) σeChain x ≡ false → meetsρμ (policyOf s) x ≡ true → (u′ e w : ℕ) → u′ < G .k → w < G .k → G .Edge u′ e w → special (policyOf s) (eventOf e) ≡ false
-          → typeOf g n u′ ≡ x .ty → state ≡ stateOf K u′ → Clear G back w
+      spent-edge : excepted n plan x ≡ false → meetsρμ (policyOf s) x ≡ true → (u′ e w : ℕ) → u′ < G .k → w < G .k → G .Edge u′ e w → special (policyOf s) (eventOf e) ≡ false
+          → typeOf t₀ u′ ≡ x .ty → state ≡ stateOf K u′ → Clear G back w
       spent-edge free meets u′ e w lu′ lw ed plain ty st =
-          let f = edge-flow A m (stands-any u′ lu′) lw ed in
-          let r = sets-of e (contextAtIndex n (placeOf K u′)) (contextAtIndex n (placeOf K w)) f in
+          let f = edge-flow A (stands-any u′ lu′) lw ed in
           let y : Context = contextAtIndex n (placeOf K w) in
           let f₀ : flow (policyOf s) (eventOf e) x y ≡ true = plain-same (policyOf s) (eventOf e) (contextAtIndex n (placeOf K u′)) x y plain ty meets f in
-          let few : e < at / 4096 = (let h = r .1 in let k = A .given .ready .sound .range .classes .high in let q = classes-same in omega arith) in
+          let few : e < at / 4096 = (let h = event-in e (contextAtIndex n (placeOf K u′)) y f in omega arith) in
           t .events e w few lw
-          (edge-from S (chain-open A m (turn-chain t)) free u′ e e w lw ed (edge-freeE A m (stands-any u′ lu′) ed) f₀ (ap (λ (i : ℕ). W .step i e (codeOf n K w)) (sym st)))
+          (edge-from S (chain-open A (turn-chain t)) free u′ e e w lw ed (edge-freeE A (stands-any u′ lu′) ed) f₀ (ap (λ (i : ℕ). W .step i e (codeOf n K w)) (sym st)))
 
-      pub memory-spent : {asks : Bool} {mark : ℕ} → Asks (policyOf s) (goalOf g) x asks → Marks state asks mark
-          → Memory s g n m plan back swept (set spent (x .ty) (bitOr (getD spent (x .ty) 0) mark))
+      pub memory-spent : {asks : Bool} {mark : ℕ} → Asks (policyOf s) n plan x asks → Marks state asks mark
+          → Memory s plan t₀ back swept (set spent (x .ty) (bitOr (getD spent (x .ty) 0) mark))
       memory-spent {asks} {mark} C R =
           record {
             swept-size = N .swept-size;
@@ -279,8 +264,8 @@ module _ {s g : List ℕ} {n : Counts} {l : Legs} (A : Task s g n l) (m : Mode) 
             over = λ u′ e w lu′ lw ed plain b.
                 ⊎-elim (λ d. N .over u′ e w lu′ lw ed plain d)
                 (λ d. let k = R .only _ (d .1) in spent-edge (C .free (k .0)) (C .meets (k .0)) u′ e w lu′ lw ed plain (d .0) (k .1))
-                (added-bit spent (x .ty) mark (typeOf g n u′) (stateOf K u′) (own-few) b);
+                (added-bit spent (x .ty) mark (typeOf t₀ u′) (stateOf K u′) (own-few) b);
           }
         where
           own-few : x .ty < length spent
-          own-few = let h = types-few A m in omega (arith, S .range .ty .high, N .spent-size)
+          own-few = let h = types-few A in omega (arith, S .range .ty .high, N .spent-size)

@@ -11,22 +11,23 @@ use lib.Seq.{getD-set-same, getD-set-other}
 use Rattle.base.specs.Bits.{bit}
 use Rattle.base.proofs.BitLaws.{bit-or, bit-zero}
 use Rattle.base.proofs.Numbers.{split-eq, zeros}
-use Rattle.base.proofs.UptoLaws.{or-cases, or-left, or-true, clash}
+use Rattle.base.proofs.UptoLaws.{or-cases, or-left, or-true, true-or-false, clash}
 use Rattle.policy_image.specs.declared.counts.Counts.{Counts}
-use Rattle.policy_image.specs.Policy.{Policy, policyOf}
+use Rattle.policy_image.specs.Policy.{policyOf}
 use Rattle.context.specs.declared.Context.{Context}
 use Rattle.context.specs.Ranges.{ContextInRange}
-use Rattle.goal_image.specs.Goal.{Goal}
-use Rattle.plan.specs.inner.Plan.{Ready, PolicyPlan, eventsAt, firstAt}
+use Rattle.plan.specs.inner.Plan.{Ready, Planned}
+use Rattle.plan.specs.inner.Entries.{eventsAt}
 use Rattle.steps.specs.declared.nearest.Asker.{Asker}
 use Rattle.steps.specs.declared.nearest.Offer.{Offer}
-use Rattle.steps.specs.inner.Nearest.{keyOf, Passed, AllPassed}
-use Rattle.steps.specs.inner.Steps.{Shut, FirstOffer}
-use Rattle.steps.proofs.NearestLaws.{none-open}
+use Rattle.steps.specs.inner.Nearest.{keyOf, Passed, AllPassed, NearestOf, BlockOf}
+use Rattle.steps.specs.inner.Steps.{Shut}
+use Rattle.steps.proofs.NearestLaws.{all-passed, none-open}
 use Rattle.steps.proofs.OfferLaws.{next-law}
 use Rattle.nodes.specs.declared.monitor.Mode.{Mode}
-use Rattle.nodes.specs.inner.Blocks.{FirstStep}
-use Rattle.memory.specs.inner.Memory.{keepsOf, Marks, Shuts, Recalls, Recalled}
+use Rattle.nodes.specs.inner.Blocks.{Asks, FirstStep}
+use Rattle.nodes.proofs.ArrivalLaws.{no-step, some-step}
+use Rattle.memory.specs.inner.Memory.{keepsOf, Marks, Shuts, Recalls, Recalled, First}
 use Rattle.memory.proofs.MemoryLaws.{AskerOf, added-bit}
 
 -- the sets of l are within those of l′
@@ -73,12 +74,12 @@ shuts-begin m plan swept spent =
     record { size = length-replicate {A = ℕ} 256 0; at = λ t a _ _ b. absurd (clash b (ap (λ (v : ℕ). bit v (a .state)) (zeros 256 t) ∙ bit-zero (a .state))) }
 
 module _ {m : Mode} {plan swept spent shut : List ℕ} (S : Shuts m plan swept spent shut) where
-  pub shuts-recall : {x : Context} {state : ℕ} {a : Asker} → AskerOf m spent x state a → Recalls plan swept shut a x
+  pub shuts-recall : {x : Context} {state : ℕ} {a : Asker} → AskerOf m spent x state a → Recalls plan swept shut a (x .ty)
   shuts-recall {x} {state} {a} Q =
       record { size = S .size; at = S .at (x .ty) a (Q .keeps-are) (Q .spent-is ∙ ap (bit (getD spent (x .ty) 0)) (sym (Q .state-is))) }
 
   -- after a turn of x, in which more was swept, and its state was spent
-  pub shuts-turn : {x : Context} {state : ℕ} {a : Asker} {swept′ shut′ : List ℕ} (mark : ℕ) → AskerOf m spent x state a → Recalled plan swept shut shut′ a x → Grown swept swept′
+  pub shuts-turn : {x : Context} {state : ℕ} {a : Asker} {swept′ shut′ : List ℕ} (mark : ℕ) → AskerOf m spent x state a → Recalled plan swept shut shut′ a (x .ty) → Grown swept swept′
       → x .ty < length spent → Shuts m plan swept′ (set spent (x .ty) (bitOr (getD spent (x .ty) 0) mark)) shut′
   shuts-turn {x} {state} {a} {swept′} mark Q R G h =
       record {
@@ -99,27 +100,29 @@ module _ {m : Mode} {plan swept spent shut : List ℕ} (S : Shuts m plan swept s
       more = grown-more (x .ty) mark h (grown-same spent)
 
 -- ---- the first step
-module _ {plan swept shut : List ℕ} {a : Asker} {x : Context} (R : Recalls plan swept shut a x) where
-  pub recall-same : Recalled plan swept shut shut a x
+module _ {plan swept shut : List ℕ} {a : Asker} {o : ℕ} (R : Recalls plan swept shut a o) where
+  pub recall-same : Recalled plan swept shut shut a o
   recall-same = record { size = R .size; only = λ t k b. inl b }
 
-  pub recall-more : {p : Policy} {r : Offer} {mark : ℕ} → x .ty < 256 → FirstOffer p plan swept a x r → 4194304 ≤ r .at → Marks (a .state) true mark
-      → Recalled plan swept shut (set shut (x .ty) (bitOr (getD shut (x .ty) 0) mark)) a x
-  recall-more {mark = mark} h F z K =
+  pub recall-more : {r : Offer} {mark : ℕ} → BlockOf plan o → NearestOf plan swept a o 0 r → 4194304 ≤ r .at → Marks (a .state) true mark
+      → Recalled plan swept shut (set shut o (bitOr (getD shut o 0) mark)) a o
+  recall-more {mark = mark} B N z K =
       record {
         size = simp length-set (R .size);
         only = λ t k b.
-            ⊎-elim (λ o. inl o) (λ o. let w = K .only k (o .1) in inr (o .0, w .1, F .shut z))
-            (added-bit shut (x .ty) mark t k (omega (arith, R .size)) b);
+            ⊎-elim (λ i. inl i) (λ i. let w = K .only k (i .1) in inr (i .0, w .1, all-passed (B .block) N z))
+            (added-bit shut o mark t k (omega (arith, R .size, B .type)) b);
       }
 
   -- no step need be asked
-  pub no-open : {s : List ℕ} {g : Goal} {n : Counts} {group entry : ℕ} {b : Bool} → Ready s n → PolicyPlan s n plan → ContextInRange n x → b ≡ bit (getD shut (x .ty) 0) (a .state) → b ≡ true
-      → FirstStep (policyOf s) g plan swept a x (record { group = group; entry = entry; at = 4194304 })
-  no-open {group = group} {entry} Y P h q t =
-      let N = next-law Y P h (none-open group entry (R .at (sym q ∙ t))) in
-      record {
-        high = omega arith;
-        ahead = λ l. absurd (omega arith);
-        none = λ i z w l _ k. ⊎-elim (λ p. p) (λ E. absurd (let e = E .before in omega arith)) (N .none i z w (omega arith) l k);
-      }
+  pub no-open : {group entry : ℕ} {b asks : Bool} → b ≡ bit (getD shut o 0) (a .state) → b ≡ true → First plan swept a o asks (record { group = group; entry = entry; at = 4194304 })
+  no-open {group} {entry} q t = record { none = λ _. refl; nearest = λ _. none-open group entry (R .at (sym q ∙ t)) }
+
+-- what it is for a node at x
+pub first-step-law : {s plan swept : List ℕ} {n : Counts} {a : Asker} {x : Context} {asks : Bool} {r : Offer} → Ready s n → Planned s n plan → ContextInRange n x
+    → Asks (policyOf s) n plan x asks → First plan swept a (x .ty) asks r → FirstStep (policyOf s) n plan swept a x r
+first-step-law {asks = asks} {r} Y P h A F =
+    ⊎-elim (λ (k : asks ≡ true). some-step A k (next-law Y P h (F .nearest k))) (λ (k : asks ≡ false). subst (FirstStep _ _ _ _ _ _) (at-none k) (no-step A k)) (true-or-false asks)
+  where
+    at-none : asks ≡ false → record { group = r .group; entry = r .entry; at = 4194304 } ≡ r
+    at-none k = ap (λ (i : ℕ). record { group = r .group; entry = r .entry; at = i }) (sym (F .none k))

@@ -1,4 +1,4 @@
--- The loops of a search over the graph of two images: what the leaves pass over has no edge, and what each arrival comes to.
+-- The loops of a search over the graph of a policy and a plan: what the leaves pass over has no edge, and what each arrival comes to.
 use mathlib.Core.Path.{_≡_, sym, _∙_, ap, ap₂, subst}
 use mathlib.Core.Bool.{true, false}
 use mathlib.Core.List.{List}
@@ -9,7 +9,6 @@ use native.Mathlib.Omega.{arith}
 use lib.Arith.{digits-lt}
 use lib.Dec.{T, le→leb}
 use lib.ListN.{getD, set}
-use lib.Pow.{pow-pos}
 use Rattle.base.proofs.Numbers.{split-le}
 use Rattle.policy_image.specs.declared.counts.Counts.{Counts}
 use Rattle.policy_image.specs.Layout.{countsOf}
@@ -20,22 +19,21 @@ use Rattle.context.specs.Ranges.{ContextInRange}
 use Rattle.context.specs.inner.Places.{Countable, contextCount, contextAtIndex}
 use Rattle.context.proofs.PlaceLaws.{at-in-range}
 use Rattle.access.specs.Authorization.{flow}
-use Rattle.goal_image.specs.declared.check.Legs.{Legs}
-use Rattle.goal_image.specs.Goal.{goalOf, σeChain, γeChain}
-use Rattle.goal_image.specs.Sets.{contextIn, eventIn}
 use Rattle.paths.specs.Model.{Model}
 use Rattle.paths.proofs.Any.{and-T, not-true}
-use Rattle.goal_model.specs.Images.{inRange, model}
-use Rattle.nodes.specs.declared.monitor.Mode.{Mode}
+use Rattle.goal_model.specs.Images.{inRange}
+use Rattle.plan.specs.inner.Plan.{PlanCounts}
+use Rattle.nodes.specs.declared.task.Task.{Task}
 use Rattle.nodes.specs.inner.Graph.{Graph, Chain, Chain.root, Chain.link, FoundAt}
 use Rattle.nodes.specs.inner.State.{Turn, Clear, Through}
-use Rattle.nodes.specs.inner.Nodes.{Watch, watchOf, codeAt, placeOf, stateOf, codeOf, Bounded}
+use Rattle.nodes.specs.inner.Nodes.{Watch, codeAt, placeOf, stateOf, codeOf, Bounded}
 use Rattle.nodes.specs.inner.Arrivals.{LandsOpen, LandsGood, LandsBad}
 use Rattle.plan.specs.inner.Types.{startOf}
-use Rattle.nodes.specs.inner.Tasks.{typeOf, Task, graphOf, Stands, Asked, Faced}
+use Rattle.nodes.specs.inner.Tasks.{statesOf, Given, modelBy, watchBy, graphOf, typeOf, Stands, Asked, Faced}
+use Rattle.nodes.specs.inner.Model.{excepted, barred}
 use Rattle.nodes.proofs.SearchLaws.{pass-to, visited, found, turn-chain}
 use Rattle.nodes.proofs.NodeLaws.{place-of, state-of}
-use Rattle.nodes.proofs.ModelLaws.{to-true, of-true, bounded}
+use Rattle.nodes.proofs.ModelLaws.{to-true, of-true, bounded, states-some}
 use Rattle.base.proofs.UptoLaws.{clash}
 use Rattle.nodes.proofs.ArrivalLaws.{code-of-place}
 use Rattle.plan.proofs.TypeLaws.{type-lt, type-le, start-le}
@@ -107,27 +105,33 @@ in-range-T {n} {x} r =
 pub next-block : (y k : ℕ) → (y + 1) * k ≡ y * k + k
 next-block y k = add-mul y 1 k ∙ ap (λ (z : ℕ). y * k + z) (one-mul k)
 
-module _ {s g : List ℕ} {n : Counts} {l : Legs} (A : Task s g n l) (m : Mode) where
+module _ {s plan : List ℕ} {t₀ : Task} (A : Given s plan t₀) where
+  abbrev n : Counts
+  n = t₀ .counts
+
   abbrev M : Model
-  M = model s g
+  M = modelBy s plan t₀
 
   abbrev W : Watch
-  W = watchOf m M
+  W = watchBy s plan t₀
 
   abbrev K : ℕ
-  K = 2 ^ M .legs
+  K = statesOf t₀
 
   abbrev G : Graph
-  G = graphOf s g n m
+  G = graphOf s plan t₀
 
-  B : Bounded M n W
-  B = bounded (A .given .ready) (A .given .goal) m
+  B : Bounded M n W K
+  B = bounded A
+
+  N : PlanCounts n
+  N = A .planned .policy .counts
 
   at-place : {y : ℕ} → y < contextCount n → ContextInRange n (contextAtIndex n y)
-  at-place {y} h = at-in-range n y (A .legs .countable .roles) (A .legs .countable .users) h
+  at-place {y} h = at-in-range n y (N .countable .roles) (N .countable .users) h
 
   pub same-counts : n ≡ countsOf s
-  same-counts = A .given .ready .same
+  same-counts = A .ready .same
 
   pub chain-open : {back : List ℕ} {d u : ℕ} → Chain G back d u → ¬ T (M .σ (M .legs) (codeOf n K u))
   chain-open (root lv st e) = st .outside
@@ -137,13 +141,13 @@ module _ {s g : List ℕ} {n : Counts} {l : Legs} (A : Task s g n l) (m : Mode) 
   room r w h k = let p : r * K ≤ contextCount n * K = mul-le-mul-right K h in omega arith
 
   C : Countable n
-  C = A .legs .countable
+  C = N .countable
 
   pub types-few : n .types ≤ 255
-  types-few = subst (λ (k : Counts). k .types ≤ 255) (sym same-counts) (A .given .ready .sound .range .types .high)
+  types-few = subst (λ (k : Counts). k .types ≤ 255) (sym same-counts) (A .ready .sound .range .types .high)
 
-  pub type-small : {w : ℕ} → w < G .k → typeOf g n w < 4096
-  type-small {w} lw = let z = at-place (place-lt (pow-pos (M .legs)) lw) .ty .high in omega (arith, types-few)
+  pub type-small : {w : ℕ} → w < G .k → typeOf t₀ w < 4096
+  type-small {w} lw = let z = at-place (place-lt (states-some t₀) lw) .ty .high in omega (arith, types-few)
 
   pub few-types : (at : ℕ) → at ≤ 4194304 → (at < 4194304 → at % 4096 ≤ policyOf s .counts .types) → at % 4096 ≤ n .types + 1
   few-types at h k =
@@ -151,23 +155,23 @@ module _ {s g : List ℕ} {n : Counts} {l : Legs} (A : Task s g n l) (m : Mode) 
       (λ (l : at < 4194304). let z : at % 4096 ≤ n .types = subst (λ (c : Counts). at % 4096 ≤ c .types) (sym same-counts) (k l) in omega arith) (split-le 4194304 at)
 
   -- ---- an edge from u, which stands at x
-  module _ {u state : ℕ} {x : Context} (S : Stands g n u x state) where
+  module _ {u state : ℕ} {x : Context} (S : Stands t₀ u x state) where
     here : contextOf (codeOf n K u) ≡ x
-    here = code-of-place (A .legs) (S .below) ∙ sym (S .place)
+    here = code-of-place N (S .below) ∙ sym (S .place)
 
     pub edge-flow : {e w : ℕ} → w < G .k → G .Edge u e w → flow (policyOf s) (eventOf e) x (contextAtIndex n (placeOf K w)) ≡ true
     edge-flow {e} {w} lw ed =
-        ap₂ (flow (policyOf s) (eventOf e)) (sym here) (sym (code-of-place (A .legs) (place-lt (pow-pos (M .legs)) lw)))
+        ap₂ (flow (policyOf s) (eventOf e)) (sym here) (sym (code-of-place N (place-lt (states-some t₀) lw)))
         ∙ to-true (M .flowBy (codeOf n K u) e (codeOf n K w)) (ed .edge .flows)
 
-    pub edge-free : {e w : ℕ} → G .Edge u e w → contextIn (goalOf g) σeChain x ≡ false
-    edge-free {e} {w} ed = ap (contextIn (goalOf g) σeChain) (sym here) ∙ not-true (M .σe (codeOf n K u)) (ed .edge .free)
+    pub edge-free : {e w : ℕ} → G .Edge u e w → excepted n plan x ≡ false
+    edge-free {e} {w} ed = ap (excepted n plan) (sym here) ∙ not-true (M .σe (codeOf n K u)) (ed .edge .free)
 
-    pub edge-freeE : {e w : ℕ} → G .Edge u e w → eventIn (goalOf g) γeChain (eventOf e) ≡ false
+    pub edge-freeE : {e w : ℕ} → G .Edge u e w → barred plan e ≡ false
     edge-freeE {e} {w} ed = not-true (M .γe e) (ed .edge .freeE)
 
     pub range-at : {w : ℕ} → w < G .k → ContextInRange (policyOf s .counts) (contextAtIndex n (placeOf K w))
-    range-at {w} lw = subst (λ (k : Counts). ContextInRange k (contextAtIndex n (placeOf K w))) same-counts (at-place (place-lt (pow-pos (M .legs)) lw))
+    range-at {w} lw = subst (λ (k : Counts). ContextInRange k (contextAtIndex n (placeOf K w))) same-counts (at-place (place-lt (states-some t₀) lw))
 
     -- ---- the target at place y, and the monitor's state there
     abbrev pub dest : ℕ → ℕ → ℕ
@@ -176,8 +180,8 @@ module _ {s g : List ℕ} {n : Counts} {l : Legs} (A : Task s g n l) (m : Mode) 
     module _ (e y : ℕ) where
       place-is : (w : ℕ) → y * K ≤ w → w < (y + 1) * K → placeOf K w ≡ y
       place-is w lo hi =
-          let a : placeOf K w < y + 1 = place-lt (pow-pos (M .legs)) hi in
-          let b : y ≤ placeOf K w = place-le (pow-pos (M .legs)) lo in
+          let a : placeOf K w < y + 1 = place-lt (states-some t₀) hi in
+          let b : y ≤ placeOf K w = place-le (states-some t₀) lo in
           omega arith
 
       state-is : (w : ℕ) → placeOf K w ≡ y → G .Edge u e w → stateOf K w ≡ dest e y
@@ -208,19 +212,19 @@ module _ {s g : List ℕ} {n : Counts} {l : Legs} (A : Task s g n l) (m : Mode) 
         target : T (M .context (codeOf n K v))
         target =
             subst (λ (z : ℕ). T (M .context (codeAt n z))) (sym at-v)
-            (subst (λ (z : Context). T (inRange (countsOf s) z)) (sym (code-of-place (A .legs) h))
+            (subst (λ (z : Context). T (inRange (countsOf s) z)) (sym (code-of-place N h))
             (in-range-T (subst (λ (k : Counts). ContextInRange k (contextAtIndex n y)) same-counts (at-place h))))
 
-        pub edge-at : ¬ T (M .σ (M .legs) (codeOf n K u)) → contextIn (goalOf g) σeChain x ≡ false → eventIn (goalOf g) γeChain (eventOf e) ≡ false
+        pub edge-at : ¬ T (M .σ (M .legs) (codeOf n K u)) → excepted n plan x ≡ false → barred plan e ≡ false
             → flow (policyOf s) (eventOf e) x (contextAtIndex n y) ≡ true → (T (M .σ (M .legs) (codeAt n y)) → T (W .bad (dest e y))) → G .Edge u e v
         edge-at first free freeE flows k =
             record {
               edge = record {
                 into = target;
                 flows = of-true _
-                    (ap₂ (flow (policyOf s) (eventOf e)) here (ap (λ (z : ℕ). contextOf (codeAt n z)) at-v ∙ code-of-place (A .legs) h) ∙ flows);
+                    (ap₂ (flow (policyOf s) (eventOf e)) here (ap (λ (z : ℕ). contextOf (codeAt n z)) at-v ∙ code-of-place N h) ∙ flows);
                 first = first;
-                free = λ z. clash (to-true (M .σe (codeOf n K u)) z) (ap (contextIn (goalOf g) σeChain) here ∙ free);
+                free = λ z. clash (to-true (M .σe (codeOf n K u)) z) (ap (excepted n plan) here ∙ free);
                 freeE = λ z. clash (to-true (M .γe e) z) freeE;
               };
               state = state-v ∙ ap₂ (λ (i c : ℕ). W .step i e c) (S .at) (ap (codeAt n) (sym at-v));
@@ -239,29 +243,29 @@ module _ {s g : List ℕ} {n : Counts} {l : Legs} (A : Task s g n l) (m : Mode) 
 
       -- the steps from one to below another lead nowhere that is new
       pub step-on : (at to : ℕ) → Turn G back queue head tail stop depth u (at / 4096) (startOf n (at % 4096) * K) → at ≤ to → to % 4096 ≤ n .types + 1
-          → ((i w : ℕ) → w < G .k → at ≤ 4096 * i + typeOf g n w → 4096 * i + typeOf g n w < to → Through G back u i w) → Turn G back queue head tail stop depth u (to / 4096) (startOf n (to % 4096) * K)
+          → ((i w : ℕ) → w < G .k → at ≤ 4096 * i + typeOf t₀ w → 4096 * i + typeOf t₀ w < to → Through G back u i w) → Turn G back queue head tail stop depth u (to / 4096) (startOf n (to % 4096) * K)
       step-on at to t l few th =
           jump (to / 4096) (startOf n (to % 4096) * K) t (omega arith)
           (λ i w h lw a b. th i w lw (after i w a b) (let z = type-small lw in omega arith))
           (λ w h b.
-          let z : typeOf g n w < to % 4096 = before w h in
+          let z : typeOf t₀ w < to % 4096 = before w h in
           th (to / 4096) w (bound w h) (after (to / 4096) w (omega arith) b) (omega arith))
         where
-          after : (i w : ℕ) → at / 4096 ≤ i → (i ≡ at / 4096 → startOf n (at % 4096) * K ≤ w) → at ≤ 4096 * i + typeOf g n w
+          after : (i w : ℕ) → at / 4096 ≤ i → (i ≡ at / 4096 → startOf n (at % 4096) * K ≤ w) → at ≤ 4096 * i + typeOf t₀ w
           after i w a b =
               ⊎-elim
-              (λ (q : at / 4096 ≡ i). let z : at % 4096 ≤ typeOf g n w = type-le C (at % 4096) (placeOf K w) (place-le (pow-pos (M .legs)) (b (sym q))) in omega arith)
+              (λ (q : at / 4096 ≡ i). let z : at % 4096 ≤ typeOf t₀ w = type-le C (at % 4096) (placeOf K w) (place-le (states-some t₀) (b (sym q))) in omega arith)
               (λ (k : at / 4096 < i). omega arith)
               (eq-or-lt-of-le a)
 
-          before : (w : ℕ) → w < startOf n (to % 4096) * K → typeOf g n w < to % 4096
-          before w h = type-lt C (to % 4096) (placeOf K w) (place-lt (pow-pos (M .legs)) h)
+          before : (w : ℕ) → w < startOf n (to % 4096) * K → typeOf t₀ w < to % 4096
+          before w h = type-lt C (to % 4096) (placeOf K w) (place-lt (states-some t₀) h)
 
           bound : (w : ℕ) → w < startOf n (to % 4096) * K → w < G .k
           bound w h = room (startOf n (to % 4096)) w (start-le C (to % 4096) few) h
 
       -- the steps before one are done
-      pub step-past : (at : ℕ) → Turn G back queue head tail stop depth u (at / 4096) (startOf n (at % 4096) * K) → (i w : ℕ) → w < G .k → 4096 * i + typeOf g n w < at → Through G back u i w
+      pub step-past : (at : ℕ) → Turn G back queue head tail stop depth u (at / 4096) (startOf n (at % 4096) * K) → (i w : ℕ) → w < G .k → 4096 * i + typeOf t₀ w < at → Through G back u i w
       step-past at t i w lw h =
           ⊎-elim
           (λ (q : i ≡ at / 4096). subst (λ (k : ℕ). Through G back u k w) (sym q) (t .targets w (under q)))
@@ -271,7 +275,7 @@ module _ {s g : List ℕ} {n : Counts} {l : Legs} (A : Task s g n l) (m : Mode) 
           under : i ≡ at / 4096 → w < startOf n (at % 4096) * K
           under q =
               ⊎-elim
-              (λ (k : startOf n (at % 4096) * K ≤ w). absurd (let z = type-le C (at % 4096) (placeOf K w) (place-le (pow-pos (M .legs)) k) in omega arith))
+              (λ (k : startOf n (at % 4096) * K ≤ w). absurd (let z = type-le C (at % 4096) (placeOf K w) (place-le (states-some t₀) k) in omega arith))
               (λ k. k)
               (split-le (startOf n (at % 4096) * K) w)
 
@@ -293,10 +297,10 @@ module _ {s g : List ℕ} {n : Counts} {l : Legs} (A : Task s g n l) (m : Mode) 
 
       -- ---- what an arrival at place y comes to, whether or not it is a target
       module _ {e y : ℕ} (t : Turn G back queue head tail stop depth u e (y * K)) (h : y < contextCount n) where
-        pub dropped : LandsGood M n W y (dest e y) → Turn G back queue head tail stop depth u e ((y + 1) * K)
+        pub dropped : LandsGood M n W K y (dest e y) → Turn G back queue head tail stop depth u e ((y + 1) * K)
         dropped L = pass-to ((y + 1) * K) t (λ w lo hi ed. absurd (L .good (bad-of e y (L .arrives) w lo hi ed)))
 
-        module _ {v : ℕ} (L : LandsOpen M n W y (dest e y) v) where
+        module _ {v : ℕ} (L : LandsOpen M n W K y (dest e y) v) where
           small : dest e y < K
           small = B .steps state e (codeAt n y) (L .outside)
 
@@ -310,17 +314,17 @@ module _ {s g : List ℕ} {n : Counts} {l : Legs} (A : Task s g n l) (m : Mode) 
           seen z = block-pass ((y + 1) * K) t (only-v e y h (L .node) small) (record { open-end = enter-open; seen = z })
 
         -- .. and where it is
-        module _ (le : e < 1024) (Q : Asked (goalOf g) x e) (F : Faced (policyOf s) (goalOf g) n x e y) where
+        module _ (le : e < 1024) (Q : Asked n plan x e) (F : Faced (policyOf s) n plan x e y) where
           to-node : {v : ℕ} → v ≡ y * K + dest e y → dest e y < K → (T (M .σ (M .legs) (codeAt n y)) → T (W .bad (dest e y))) → G .Edge u e v
           to-node q few k = edge-at e y h q few (chain-open (turn-chain t)) (Q .free le) (F .free h) (F .flows h) k
 
-          pub entered : {v : ℕ} → LandsOpen M n W y (dest e y) v → getD back v 0 ≡ 0
+          pub entered : {v : ℕ} → LandsOpen M n W K y (dest e y) v → getD back v 0 ≡ 0
               → Turn G (set back v (u + 1)) (set queue tail v) head (tail + 1) stop depth u e ((y + 1) * K)
           entered L z =
               block-visit ((y + 1) * K) t (inside e y h (L .node) (small L)) (only-v e y h (L .node) (small L)) (omega (arith, L .node)) le (enter-below L) z
               (to-node (L .node) (small L) (λ k. absurd (L .outside k))) (enter-open L)
 
-          pub broken : {v : ℕ} → LandsBad M n W y (dest e y) v → FoundAt G back u e v depth
+          pub broken : {v : ℕ} → LandsBad M n W K y (dest e y) v → FoundAt G back u e v depth
           broken {v} L =
               found t (record {
                 event = le;

@@ -1,9 +1,10 @@
--- The model of two accepted images: its contexts have places, its events codes below 1024, and 2 ^ n states are enough.
+-- The model of an accepted policy and a plan: its contexts have places, its events codes below 1024, and the states are enough.
 use mathlib.Core.Path.{_≡_, refl, sym, _∙_, ap, subst}
 use mathlib.Core.Bool.{Bool, true, not}
 use mathlib.Core.List.{List}
-use Prim.Native.Nat.{ℕ, suc, _/_, _%_, _<_}
+use Prim.Native.Nat.{ℕ, suc, _/_, _%_, _^_, _≤_, _<_}
 use native.Mathlib.Omega.{arith}
+use lib.Pow.{pow-pos, pow-mono}
 use lib.Dec.{T, leb, leb→le, T-not}
 use Rattle.base.specs.Bits.{bit}
 use Rattle.policy_image.specs.declared.counts.Counts.{Counts}
@@ -14,18 +15,19 @@ use Rattle.context.specs.Ranges.{ContextInRange}
 use Rattle.context.specs.inner.Places.{contextCount, contextIndex}
 use Rattle.context.proofs.CodeLaws.{context-code-of}
 use Rattle.context.proofs.PlaceLaws.{at-index, index-lt}
-use Rattle.goal_image.specs.inner.Sound.{SoundGoal}
 use Rattle.paths.specs.Model.{Model}
 use Rattle.paths.proofs.Any.{and-T, not-true}
 use Rattle.paths.proofs.Numbers.{pack-lt, pack-top, bit-pack}
 use Rattle.paths.specs.inner.Monitors.{opens}
 use Rattle.paths.proofs.Bounds.{top, one-lt}
-use Rattle.goal_model.specs.Images.{inRange, model}
+use Rattle.goal_model.specs.Images.{inRange}
 use Rattle.plan.specs.inner.Plan.{Ready}
 use Rattle.steps.proofs.FlowLaws.{flow-code}
 use Rattle.nodes.specs.declared.monitor.Mode.{Mode}
 use Rattle.nodes.specs.declared.monitor.Mode.the-variants.{Order, Events}
+use Rattle.nodes.specs.declared.task.Task.{Task}
 use Rattle.nodes.specs.inner.Nodes.{watchOf, codeAt, Bounded}
+use Rattle.nodes.specs.inner.Tasks.{statesOf, Given, modelBy, watchBy}
 
 pub to-true : (b : Bool) → T b → b ≡ true
 to-true true t = refl
@@ -50,31 +52,41 @@ place {s} {n} r x t =
     let h = range-of r x t in
     (contextIndex n (contextOf x), index-lt n (contextOf x) h, ap contextCode (at-index n (contextOf x) h) ∙ context-code-of x)
 
-module _ {s g : List ℕ} {n : Counts} (r : Ready s n) (G : SoundGoal g) where
+module _ {s plan : List ℕ} {t : Task} (A : Given s plan t) where
   abbrev M : Model
-  M = model s g
-
-  some-leg : 0 < M .legs
-  some-leg = G .legs .legs .low
+  M = modelBy s plan t
 
   code : (x e y : ℕ) → T (M .flowBy x e y) → e < 1024
-  code x e y t = flow-code {s = s} e (contextOf x) (contextOf y) (r .sound) (to-true (M .flowBy x e y) t)
+  code x e y k = flow-code {s = s} e (contextOf x) (contextOf y) (A .ready .sound) (to-true (M .flowBy x e y) k)
 
-  pub bounded : (m : Mode) → Bounded M n (watchOf m M)
-  bounded Order =
+  enough : (m : Mode) → Bounded M (t .counts) (watchOf m M) (2 ^ M .legs)
+  enough Order =
       record {
-        placed = place r;
+        placed = place (A .ready);
         events = code;
         starts = λ x. pack-lt (M .legs) _;
         steps = λ s e y k. pack-lt (M .legs) _;
         bads = λ s e y b. pack-lt (M .legs) _;
       }
-  bounded Events =
+  enough Events =
       record {
-        placed = place r;
+        placed = place (A .ready);
         events = code;
-        starts = λ x. one-lt M (M .legs) some-leg;
+        starts = λ x. one-lt M (M .legs) (A .readable .some-leg);
         steps = λ s e y k. pack-top (M .legs) (opens M (bit s) e y) (not-true (opens M (bit s) e y (M .legs)) (λ t. k (top M s e y (M .legs) refl t)));
         bads = λ s e y b. pack-top (M .legs) (opens M (bit s) e y) (not-true (opens M (bit s) e y (M .legs))
             (T-not (opens M (bit s) e y (M .legs)) (subst (λ (a : Bool). T (not a)) (bit-pack (suc (M .legs)) (opens M (bit s) e y) (M .legs) (omega arith)) b)));
       }
+
+  pub bounded : Bounded M (t .counts) (watchBy s plan t) (statesOf t)
+  unfolding statesOf
+  bounded = enough (t .mode)
+
+-- a context has states, and at most 64
+pub states-some : (t : Task) → 0 < statesOf t
+unfolding statesOf
+states-some t = pow-pos (t .legs .count)
+
+pub states-few : (t : Task) → t .legs .count ≤ 6 → statesOf t ≤ 64
+unfolding statesOf
+states-few t h = pow-mono {j = 6} h

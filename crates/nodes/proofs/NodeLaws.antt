@@ -11,7 +11,7 @@ use Rattle.paths.specs.Model.{Model}
 use Rattle.paths.specs.inner.Monitor.{Monitor, Start, Edge, BadNode, Reach as Reached, begin as begins, more}
 use Rattle.paths.specs.inner.Verdict.{Least, at}
 use Rattle.nodes.specs.inner.Graph.{Reach, Reach.begin, Reach.step, Breaks, FoundAt, Within, NoneFound}
-use Rattle.nodes.specs.inner.Nodes.{Watch, monitorOf, codeAt, placeOf, stateOf, codeOf, states, EdgeAt, graph, BadStart, Bounded}
+use Rattle.nodes.specs.inner.Nodes.{Watch, monitorOf, codeAt, placeOf, stateOf, codeOf, EdgeAt, graph, BadStart, Bounded}
 
 -- ---- the number of a node
 pub place-of : {k s : ℕ} (y : ℕ) → s < k → placeOf k (y * k + s) ≡ y
@@ -22,20 +22,17 @@ pub state-of : {k s : ℕ} (y : ℕ) → s < k → stateOf k (y * k + s) ≡ s
 unfolding stateOf
 state-of y h = digits-mod y h
 
-module _ (M : Model) (n : Counts) (W : Watch) where
-  abbrev K : ℕ
-  K = states M n W
-
+module _ (M : Model) (n : Counts) (W : Watch) (K : ℕ) where
   abbrev A : Monitor
   A = monitorOf W
 
   -- ---- from the graph to the model
-  pub reach-there : {d v : ℕ} → Reach (graph M n W) d v → Reached M A d (codeOf n K v) (stateOf K v)
+  pub reach-there : {d v : ℕ} → Reach (graph M n W K) d v → Reached M A d (codeOf n K v) (stateOf K v)
   reach-there (begin {v} l s) = subst (λ (t : ℕ). Reached M A 0 (codeOf n K v) t) (sym (s .state)) (begins (s .begins))
   reach-there (step {d} {u} {e} {v} r le lv ed ne) =
       subst (λ (t : ℕ). Reached M A (suc d) (codeOf n K v) t) (sym (ed .state)) (more e (codeOf n K v) (reach-there r) (ed .edge))
 
-  pub breaks-there : {d u e v : ℕ} → Reach (graph M n W) d u → Breaks (graph M n W) u e v → BadNode M A (suc d)
+  pub breaks-there : {d u e v : ℕ} → Reach (graph M n W K) d u → Breaks (graph M n W K) u e v → BadNode M A (suc d)
   breaks-there {d} {u} {e} {v} r b =
       record {
         x = codeOf n K v;
@@ -52,14 +49,14 @@ module _ (M : Model) (n : Counts) (W : Watch) where
     pub code : codeOf n K v ≡ x
     pub state : stateOf K v ≡ s
 
-  module _ (B : Bounded M n W) where
+  module _ (B : Bounded M n W K) where
     pub node-of : (x s : ℕ) → T (M .context x) → s < K → NodeOf x s
     node-of x s c h =
         let (y, l, q) = B .placed x c in
         record { v = y * K + s; below = digits-lt l h; code = ap (codeAt n) (place-of y h) ∙ q; state = state-of y h }
 
     edge-back : {x s e y : ℕ} (u : NodeOf x s) (v : NodeOf y (W .step s e y)) → Edge M x e y → (T (M .σ (M .legs) y) → T (W .bad (W .step s e y)))
-        → EdgeAt M n W (u .v) e (v .v)
+        → EdgeAt M n W K (u .v) e (v .v)
     edge-back {x} {s} {e} {y} u v g h =
         record {
           edge = rw (u .code, v .code) g;
@@ -70,7 +67,7 @@ module _ (M : Model) (n : Counts) (W : Watch) where
     -- a node of the graph for each that is reached and no end
     pub record Back (d x s : ℕ) : Type 0 where
       pub node : NodeOf x s
-      pub reach : Reach (graph M n W) d (node .v)
+      pub reach : Reach (graph M n W K) d (node .v)
 
     pub reach-back : {d x s : ℕ} → Reached M A d x s → ¬ T (M .σ (M .legs) x) → Back d x s
     reach-back (begins {x} st) k =
@@ -96,8 +93,8 @@ module _ (M : Model) (n : Counts) (W : Watch) where
       pub u : ℕ
       pub e : ℕ
       pub v : ℕ
-      pub reach : Reach (graph M n W) d u
-      pub breaks : Breaks (graph M n W) u e v
+      pub reach : Reach (graph M n W K) d u
+      pub breaks : Breaks (graph M n W K) u e v
 
     pub bad-back : {d x s : ℕ} → Reached M A (suc d) x s → T (M .σ (M .legs) x) → T (W .bad s) → BrokenFrom d
     bad-back (more {d} {x} {s} e y r g) t b =
@@ -116,26 +113,26 @@ module _ (M : Model) (n : Counts) (W : Watch) where
           };
         }
 
-    start-back : {x s : ℕ} → Reached M A 0 x s → T (M .σ (M .legs) x) → T (W .bad s) → BadStart M n W x
+    start-back : {x s : ℕ} → Reached M A 0 x s → T (M .σ (M .legs) x) → T (W .bad s) → BadStart M W x
     start-back (begins st) t b = record { begins = st; arrives = t; verdict = b }
 
     -- ---- what the search finds
-    pub least-start : {x : ℕ} → BadStart M n W x → Least M A (at 0)
+    pub least-start : {x : ℕ} → BadStart M W x → Least M A (at 0)
     least-start {x} b =
         (record { x = x; s = W .start x; reach = begins (b .begins); arrives = b .arrives; verdict = b .verdict }, λ k h. absurd (omega arith))
 
-    module _ (none : (x : ℕ) → BadStart M n W x → ⊥) where
-      none-below : (d : ℕ) → ((j u e v : ℕ) → Reach (graph M n W) j u → Breaks (graph M n W) u e v → d ≤ j) → (k : ℕ) → k < suc d → ¬ BadNode M A k
+    module _ (none : (x : ℕ) → BadStart M W x → ⊥) where
+      none-below : (d : ℕ) → ((j u e v : ℕ) → Reach (graph M n W K) j u → Breaks (graph M n W K) u e v → d ≤ j) → (k : ℕ) → k < suc d → ¬ BadNode M A k
       none-below d l zero h b = none (b .x) (start-back (b .reach) (b .arrives) (b .verdict))
       none-below d l (suc k) h b =
           let f = bad-back (b .reach) (b .arrives) (b .verdict) in
           let z : d ≤ k = l k (f .u) (f .e) (f .v) (f .reach) (f .breaks) in
           absurd (omega arith)
 
-      pub least-at : {back : List ℕ} {u e v d : ℕ} → FoundAt (graph M n W) back u e v d → Least M A (at (suc d))
+      pub least-at : {back : List ℕ} {u e v d : ℕ} → FoundAt (graph M n W K) back u e v d → Least M A (at (suc d))
       least-at {d = d} f = (breaks-there (f .reach) (f .breaks), none-below d (f .least))
 
-      pub none-within : {h : ℕ} → NoneFound (graph M n W) h → (k : ℕ) → Within h (contextCount n * K) k → ¬ BadNode M A k
+      pub none-within : {h : ℕ} → NoneFound (graph M n W K) h → (k : ℕ) → Within h (contextCount n * K) k → ¬ BadNode M A k
       none-within f zero w b = none (b .x) (start-back (b .reach) (b .arrives) (b .verdict))
       none-within f (suc k) w b =
           let r = bad-back (b .reach) (b .arrives) (b .verdict) in

@@ -2,8 +2,9 @@
 pub mod Graph
 pub mod State
 pub mod Nodes
+pub mod Model
+pub mod Tasks
 pub mod Watching
 pub mod Arrivals
 pub mod Blocks
-pub mod Tasks
 pub mod Seeds

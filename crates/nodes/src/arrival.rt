@@ -1,20 +1,19 @@
 // What arriving at a context comes to, and whether steps from one are asked.
-use crate::monitor::Mode;
 use crate::monitor::is_bad;
 use crate::monitor::step_state;
+use crate::task::Task;
+use crate::task::states_of;
 use base::bits::has_bit;
-use goal_image::check::Legs;
+use goal_image::sets::EXCEPTED_CONTEXTS;
 use plan::sets::sets_at;
 use policy_image::counts::Counts;
 use steps::targets::is_held;
+ghost use mathlib.Core.Path.{_≡_};
 ghost use Prim.Native.Nat.{suc, _*_, _^_, _≤_, _<_};
-ghost use Rattle.policy_image.specs.Policy.{policyOf};
-ghost use Rattle.context.specs.inner.Places.{contextAtIndex};
-ghost use Rattle.goal_image.specs.Goal.{goalOf};
-ghost use Rattle.plan.specs.inner.Plan.{GoalPlan, Planned};
 ghost use Rattle.plan.specs.inner.Types.{OfType};
-ghost use Rattle.nodes.specs.inner.Arrivals.{GivenGoal, States, Arrived, Arriving};
-ghost use Rattle.nodes.specs.inner.Blocks.{Asks};
+ghost use Rattle.nodes.specs.inner.Model.{asksBy};
+ghost use Rattle.nodes.specs.inner.Tasks.{statesOf, ReadablePlan, Readable};
+ghost use Rattle.nodes.specs.inner.Arrivals.{Arrived, Arriving};
 
 // A node to enter, by its number; an end that breaks nothing; or an end that breaks what is looked for.
 pub enum Arrival {
@@ -23,56 +22,35 @@ pub enum Arrival {
     Broken(u32),
 }
 
-// The number of states of a context: 2 ^ n.
-pub fn states_of(legs: Legs) -> u32
-    requires { ⌜ legs .count ≤ 6 ⌝ }
-    ensures { λ r. ⌜ States legs r ⌝ }
-{
-    1 << legs.count
-}
-
 // What arriving at the context at place y, in the sets into, with the state comes to.
-pub fn land(mode: Mode, legs: Legs, into: u32, y: u32, state: u32) -> Arrival
-    requires { ⌜ (legs .count ≤ 6) × (y * 2 ^ (legs .count) < 2 ^ 26) × (state < 2 ^ suc (legs .count)) ⌝ }
-    ensures { λ r. ⌜ Arrived mode legs into y state r ⌝ }
+pub fn land(task: Task, into: u32, y: u32, state: u32) -> Arrival
+    requires { ⌜ (task .legs .count ≤ 6) × (y * statesOf task < 2 ^ 26) × (state < 2 ^ suc (task .legs .count)) ⌝ }
+    ensures { λ r. ⌜ Arrived task into y state r ⌝ }
 {
-    if has_bit(into, legs.count) {
-        if is_bad(mode, legs, state) {
-            return Arrival::Broken(y * states_of(legs) + state);
+    if has_bit(into, task.legs.count) {
+        if is_bad(task, state) {
+            return Arrival::Broken(y * states_of(task) + state);
         }
         return Arrival::Dropped;
     }
-    Arrival::Enter(y * states_of(legs) + state)
+    Arrival::Enter(y * states_of(task) + state)
 }
 
-// What a step to the context at place y, of the type, comes to, from the state, by an event in the sets by. The plan has the goal's
-// sets.
-pub fn arrive(
-    goal: &[u8],
-    counts: Counts,
-    plan: &[u32],
-    legs: Legs,
-    mode: Mode,
-    state: u32,
-    by: u32,
-    ty: u32,
-    y: u32,
-) -> Arrival
-    requires { ⌜ GivenGoal (now goal) counts legs × GoalPlan (now goal) counts (now plan) × OfType counts ty y ⌝ }
-    ensures { λ r. ⌜ Arriving (now (goal .entry)) counts legs mode state by y r ⌝ }
+// What a step to the context at place y, of the type, comes to, from the state, by an event in the sets by.
+pub fn arrive(plan: &[u32], task: Task, state: u32, by: u32, ty: u32, y: u32) -> Arrival
+    requires { ⌜ Readable (now plan) task × OfType (task .counts) ty y ⌝ }
+    ensures { λ r. ⌜ Arriving (now (plan .entry)) task state by y r ⌝ }
 {
-    let into = sets_at(goal, counts, plan, ty, y);
-    land(mode, legs, into, y, step_state(mode, legs, state, by, into))
+    let counts = task.counts;
+    let into = sets_at(counts, plan, ty, y);
+    land(task, into, y, step_state(task, state, by, into))
 }
 
 // Whether steps from the context at place y, of the type, are asked at all: it is not in σe, and meets ρ and μ.
-pub fn is_asked(policy: &[u8], goal: &[u8], counts: Counts, plan: &[u32], ty: u32, y: u32) -> bool
-    requires { ⌜ Planned (now policy) (now goal) counts (now plan) × OfType counts ty y ⌝ }
-    ensures { λ r. ⌜ Asks (policyOf (now (policy .entry))) (goalOf (now (goal .entry))) (contextAtIndex counts y) r ⌝ }
+pub fn is_asked(counts: Counts, plan: &[u32], ty: u32, y: u32) -> bool
+    requires { ⌜ ReadablePlan counts (now plan) × OfType counts ty y ⌝ }
+    ensures { λ r. ⌜ r ≡ asksBy counts (now (plan .entry)) ty y ⌝ }
 {
-    let into = sets_at(goal, counts, plan, ty, y);
-    if has_bit(into, 13) {
-        return false;
-    }
-    is_held(policy, counts, plan, ty, y)
+    let into = sets_at(counts, plan, ty, y);
+    !has_bit(into, EXCEPTED_CONTEXTS) & is_held(counts, plan, ty, y)
 }

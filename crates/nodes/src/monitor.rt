@@ -1,7 +1,8 @@
 // The monitors that a search runs, by its mode: the state at a start, after a step, and whether a state is bad at an end. They
 // read the sets that the context and the event are in: bit i for σi, bit 7 + i for γi.
+use crate::task::Task;
 use base::bits::has_bit;
-use goal_image::check::Legs;
+use goal_image::sets::EVENT_CHAINS;
 use paths::stages::advance;
 use paths::tracker::track;
 ghost use Prim.Native.Nat.{_<_};
@@ -14,34 +15,43 @@ pub enum Mode {
 }
 
 // The state at a start.
-pub fn start_state(mode: Mode, legs: Legs, into: u32) -> u32
-    requires { ⌜ (0 < legs .count) × (legs .count < 32) ⌝ }
-    ensures { λ r. ⌜ Started mode legs into r ⌝ }
+pub fn start_state(task: Task, into: u32) -> u32
+    requires { ⌜ (0 < task .legs .count) × (task .legs .count < 32) ⌝ }
+    ensures { λ r. ⌜ Started (task .mode) (task .legs) into r ⌝ }
 {
+    let mode = task.mode;
     match mode {
-        Mode::Order => track(0, into, legs.count),
+        Mode::Order => track(0, into, task.legs.count),
         Mode::Events => 1,
     }
 }
 
 // The state after a step.
-pub fn step_state(mode: Mode, legs: Legs, state: u32, by: u32, into: u32) -> u32
-    requires { ⌜ (0 < legs .count) × (legs .count < 32) ⌝ }
-    ensures { λ r. ⌜ Stepped mode legs state by into r ⌝ }
+pub fn step_state(task: Task, state: u32, by: u32, into: u32) -> u32
+    requires { ⌜ (0 < task .legs .count) × (task .legs .count < 32) ⌝ }
+    ensures { λ r. ⌜ Stepped (task .mode) (task .legs) state by into r ⌝ }
 {
+    let mode = task.mode;
     match mode {
-        Mode::Order => track(state, into, legs.count),
-        Mode::Events => advance(state, legs.repeated, by >> 7, into, legs.count),
+        Mode::Order => track(state, into, task.legs.count),
+        Mode::Events => advance(
+            state,
+            task.legs.repeated,
+            by >> EVENT_CHAINS,
+            into,
+            task.legs.count,
+        ),
     }
 }
 
 // Whether the state is bad at an end.
-pub fn is_bad(mode: Mode, legs: Legs, state: u32) -> bool
-    requires { ⌜ legs .count < 32 ⌝ }
-    ensures { λ r. ⌜ Judged mode legs state r ⌝ }
+pub fn is_bad(task: Task, state: u32) -> bool
+    requires { ⌜ task .legs .count < 32 ⌝ }
+    ensures { λ r. ⌜ Judged (task .mode) (task .legs) state r ⌝ }
 {
+    let mode = task.mode;
     match mode {
         Mode::Order => has_bit(state, 0),
-        Mode::Events => !has_bit(state, legs.count),
+        Mode::Events => !has_bit(state, task.legs.count),
     }
 }

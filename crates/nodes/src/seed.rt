@@ -1,21 +1,18 @@
 // The nodes that a search starts from.
 use crate::arrival::Arrival;
 use crate::arrival::land;
-use crate::arrival::states_of;
-use crate::monitor::Mode;
 use crate::monitor::start_state;
+use crate::task::Task;
+use crate::task::states_of;
 use base::bits::has_bit;
 use context::Context;
-use goal_image::check::Legs;
 use plan::sets::sets_at;
-use policy_image::counts::Counts;
 use steps::targets::is_held;
 ghost use Prim.Native.Nat.{_≤_};
 ghost use lib.ListN.{length};
-ghost use Rattle.plan.specs.inner.Plan.{Planned};
 ghost use Rattle.plan.specs.inner.Types.{OfType};
 ghost use Rattle.nodes.specs.inner.Seeds.{Cleared, Roomy, Beginning, Sown};
-ghost use Rattle.nodes.specs.inner.Tasks.{Task};
+ghost use Rattle.nodes.specs.inner.Tasks.{Given};
 
 // How many nodes are in the queue, in rising order; or the place of the first start that is a bad end.
 pub enum Seeded {
@@ -24,27 +21,19 @@ pub enum Seeded {
 }
 
 // What the context at place y, of the type, comes to as a start: where it is none, it is dropped.
-pub fn start_at(
-    policy: &[u8],
-    goal: &[u8],
-    counts: Counts,
-    plan: &[u32],
-    legs: Legs,
-    mode: Mode,
-    ty: u32,
-    y: u32,
-) -> Arrival
-    requires { ⌜ Task (now policy) (now goal) counts legs × Planned (now policy) (now goal) counts (now plan) × OfType counts ty y ⌝ }
-    ensures { λ r. ⌜ Beginning (now (policy .entry)) (now (goal .entry)) counts mode y r ⌝ }
+pub fn start_at(policy: &[u8], plan: &[u32], task: Task, ty: u32, y: u32) -> Arrival
+    requires { ⌜ Given (now policy) (now plan) task × OfType (task .counts) ty y ⌝ }
+    ensures { λ r. ⌜ Beginning (now (policy .entry)) (now (plan .entry)) task y r ⌝ }
 {
-    let into = sets_at(goal, counts, plan, ty, y);
+    let counts = task.counts;
+    let into = sets_at(counts, plan, ty, y);
     if !has_bit(into, 0) {
         return Arrival::Dropped;
     }
-    if !is_held(policy, counts, plan, ty, y) {
+    if !is_held(counts, plan, ty, y) {
         return Arrival::Dropped;
     }
-    land(mode, legs, into, y, start_state(mode, legs, into))
+    land(task, into, y, start_state(task, into))
 }
 
 // No node is visited.
@@ -61,27 +50,19 @@ fn clear(back: &mut [u32], nodes: u32)
 }
 
 // Puts the starts that are no ends into the queue.
-pub fn seed(
-    policy: &[u8],
-    goal: &[u8],
-    counts: Counts,
-    plan: &[u32],
-    legs: Legs,
-    mode: Mode,
-    queue: &mut [u32],
-    back: &mut [u32],
-) -> Seeded
-    requires { ⌜ Task (now policy) (now goal) counts legs × Planned (now policy) (now goal) counts (now plan) × Roomy counts legs (now queue) (now back) ⌝ }
-    ensures { λ r. ⌜ Sown (now (policy .entry)) (now (goal .entry)) counts mode (now (queue .exit)) (now (back .exit)) r ⌝ }
+pub fn seed(policy: &[u8], plan: &[u32], task: Task, queue: &mut [u32], back: &mut [u32]) -> Seeded
+    requires { ⌜ Given (now policy) (now plan) task × Roomy task (now queue) (now back) ⌝ }
+    ensures { λ r. ⌜ Sown (now (policy .entry)) (now (plan .entry)) task (now (queue .exit)) (now (back .exit)) r ⌝ }
 {
+    let counts = task.counts;
     let count = Context::count(counts);
-    let nodes = count * states_of(legs);
+    let nodes = count * states_of(task);
     clear(back, nodes);
     let mut tail: usize = 0;
     let mut y: u32 = 0;
     while y < count {
         let ty = Context::at(y, counts).ty;
-        match start_at(policy, goal, counts, plan, legs, mode, ty, y) {
+        match start_at(policy, plan, task, ty, y) {
             Arrival::Broken(_) => {
                 return Seeded::Start(y);
             }

@@ -6,6 +6,7 @@ pub mod Numbers
 pub mod Monitors
 pub mod Bounds
 pub mod Verdict
+pub mod AgreeLaws
 pub mod StageLaws
 pub mod TrackerLaws
 pub mod Finite

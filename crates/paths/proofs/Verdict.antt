@@ -4,13 +4,13 @@ use mathlib.Core.Bool.{Bool}
 use Prim.Native.Nat.{ℕ, suc, _≤_, _<_}
 use native.Mathlib.Nat.{le-refl}
 use native.Mathlib.Omega.{arith}
-use native.Mathlib.Decide.{decLe, decLt}
+use native.Mathlib.Decide.{decLt}
 use lib.Dec.{T}
 use Rattle.paths.specs.Model.{Model}
 use Rattle.paths.specs.Paths.{IsPath, BreaksOrder, BreaksEvents, SomeOrder, SomeEvents, OrderAt, EventsAt}
 use Rattle.paths.specs.inner.Answer.{Answer, holds, order, events, Right}
 use Rattle.paths.specs.inner.Monitor.{BadNode}
-use Rattle.paths.specs.inner.Verdict.{Found, at, nowhere, Least, answerBy, answer}
+use Rattle.paths.specs.inner.Verdict.{at, nowhere, Least}
 use Rattle.paths.proofs.Monitor.{run-same}
 use Rattle.paths.proofs.Events.{stager, follows-iff}
 use Rattle.paths.specs.inner.Monitors.{trackerN, stagerN}
@@ -57,19 +57,12 @@ module _ (M : Model) where
     pub order-right : (m : ℕ) → Least M (trackerN M) (at m) → ((k : ℕ) → k < m → ¬ BadNode M (stagerN M) k) → Right M (order m)
     order-right m p q = (λ i l. (no-order i (p .1 i l), no-events i (q i l)), order-iff M some-leg m .1 (p .0))
 
-    pub answers : (o v : Found) → Least M (trackerN M) o → Least M (stagerN M) v → Right M (answer o v)
-    answers (at m) (at k) p q = go (decLe m k)
-      where
-        go : (d : Dec (m ≤ k)) → Right M (answerBy d (order m) (events k))
-        go (yes h) = order-right m p (λ i l. q .1 i (omega arith))
-        go (no h) = (
-          λ i l. (no-order i (p .1 i (omega arith)), no-events i (q .1 i l)),
-          events-iff M k .1 (q .0),
-          no-order k (p .1 k (omega arith)),
-        )
-    answers (at m) nowhere p q = order-right m p (λ i l. q i)
-    answers nowhere (at k) p q = (λ i l. (no-order i (p i), no-events i (q .1 i l)), events-iff M k .1 (q .0), no-order k (p k))
-    answers nowhere nowhere p q = λ i. (no-order i (p i), no-events i (q i))
+    -- events need of order that none has as many steps, or fewer
+    pub events-right : (m : ℕ) → Least M (stagerN M) (at m) → ((k : ℕ) → k ≤ m → ¬ BadNode M (trackerN M) k) → Right M (events m)
+    events-right m p q = (λ i l. (no-order i (q i (omega arith)), no-events i (p .1 i l)), events-iff M m .1 (p .0), no-order m (q m (omega arith)))
+
+    pub holds-right : Least M (trackerN M) nowhere → Least M (stagerN M) nowhere → Right M holds
+    holds-right p q i = (no-order i (p i), no-events i (q i))
 
   -- only x 0 to x m and e 0 to e (m − 1) count
   module _ (m : ℕ) (x y e f : ℕ → ℕ) (xs : (j : ℕ) → j ≤ m → x j ≡ y j) (es : (j : ℕ) → j < m → e j ≡ f j) where

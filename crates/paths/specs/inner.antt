@@ -7,3 +7,4 @@ pub mod Pack
 pub mod Monitor
 pub mod Monitors
 pub mod Verdict
+pub mod Agree

@@ -16,21 +16,18 @@ use Rattle.policy_image.specs.declared.counts.Counts.{Counts}
 use Rattle.policy_image.specs.Policy.{Policy, policyOf}
 use Rattle.policy_image.specs.Layout.{countsOf}
 use Rattle.policy_image.specs.inner.Reading.{Counted}
-use Rattle.context.specs.Codes.{eventAt, eventOf}
+use Rattle.context.specs.Codes.{eventAt}
 use Rattle.relations.specs.Relations.{α, flowsAs, writeLike, readLike}
 use Rattle.tables.specs.inner.Tables.{FlowMasks}
 use Rattle.index.specs.inner.Index.{Bears, Ranged}
 use Rattle.index.specs.inner.Meaning.{AllowBlock, AllowIndex}
 use Rattle.index.proofs.MeaningLaws.{entry-towards, entry-from}
-use Rattle.goal_image.specs.Goal.{goalOf}
-use Rattle.goal_image.specs.inner.Memberships.{EventSets}
-use Rattle.goal_image.specs.inner.Sound.{SoundGoal}
 use Rattle.base.specs.inner.Fill.{Filled}
 use Rattle.base.proofs.FillLaws.{fill-begin, fill-more}
-use Rattle.plan.proofs.LeadLaws.{last-first}
-use Rattle.plan.proofs.ContextLaws.{plan-counts, holding-kept, sorting-kept}
-use Rattle.plan.specs.inner.Regions.{rolesStart, planEntries}
-use Rattle.plan.specs.inner.Plan.{Ready, firstAt, keyAt, outsAt, insAt, guardsAt, specialsAt, EntryOf, OfferBlock, Blocks, Tops, BlocksPut, GuardsOf, GuardsPut, LeadsPut, TablesPut, ContextsPut, Planned}
+use Rattle.plan.specs.inner.Regions.{firstEntries, blockEntries, firstStart, keysStart, outsStart, insStart, guardsStart, planEntries}
+use Rattle.plan.specs.inner.Plan.{Ready, PlanCounts, specialsAt, EntryOf, OfferBlock, Blocks, GuardsOf}
+use Rattle.plan.specs.inner.Entries.{firstAt, keyAt, outsAt, insAt}
+use Rattle.plan.specs.inner.Put.{Tops, Kept, BlocksPut, GuardsPut}
 
 -- ---- bounds
 module _ {s : List ℕ} {n : Counts} (R : Ready s n) where
@@ -76,23 +73,23 @@ module _ (p : Policy) (first keys ts fs : List ℕ) (I : AllowIndex p first keys
   before-end t w = let h = w .high in let e : t + (p .counts .types - t) ≡ p .counts .types = omega arith in ends (p .counts .types - t) t (w .low) e
 
 module _ {p : Policy} {first keys ts fs write read old p1 p2 p3 plan : List ℕ} {n types : ℕ} (I : AllowIndex p first keys ts fs) (W : FlowMasks p 1 write) (R : FlowMasks p 2 read)
-    (few : p .counts .types ≤ 255) (same : types ≡ p .counts .types) (size : length keys ≡ 8192) (top : n ≡ getD first (types + 1) 0)
-    (F1 : Filled (λ i v. v ≡ getD first i 0) old p1 64 0 257) (F2 : Filled (λ i v. v ≡ getD keys i 0) p1 p2 512 0 n)
-    (F3 : Filled (λ i v. v ≡ cutTo keys ts write i) p2 p3 8704 0 n) (F4 : Filled (λ i v. v ≡ cutTo keys fs read i) p3 plan 16896 0 n) (some : 1 ≤ p .counts .types) where
+    (few : p .counts .types ≤ 255) (same : types ≡ p .counts .types) (size : length keys ≡ blockEntries) (top : n ≡ getD first (types + 1) 0)
+    (F1 : Filled (λ i v. v ≡ getD first i 0) old p1 firstStart 0 firstEntries) (F2 : Filled (λ i v. v ≡ getD keys i 0) p1 p2 keysStart 0 n)
+    (F3 : Filled (λ i v. v ≡ cutTo keys ts write i) p2 p3 outsStart 0 n) (F4 : Filled (λ i v. v ≡ cutTo keys fs read i) p3 plan insStart 0 n) (some : 1 ≤ p .counts .types) where
   last : n ≡ getD first (p .counts .types + 1) 0
   last = top ∙ ap (λ (k : ℕ). getD first (k + 1) 0) same
 
-  room : n ≤ 8192
+  room : n ≤ blockEntries
   room = omega (arith, last, I .tops (p .counts .types) (record { low = some; high = omega arith }))
 
-  first-same : (t : ℕ) → t < 257 → firstAt plan t ≡ getD first t 0
-  first-same t h = F4 .below (64 + t) (omega arith) ∙ F3 .below (64 + t) (omega arith) ∙ F2 .below (64 + t) (omega arith) ∙ F1 .here t (omega arith) h
+  first-same : (t : ℕ) → t < firstEntries → firstAt plan t ≡ getD first t 0
+  first-same t h = F4 .below (firstStart + t) (omega arith) ∙ F3 .below (firstStart + t) (omega arith) ∙ F2 .below (firstStart + t) (omega arith) ∙ F1 .here t (omega arith) h
 
   key-same : (j : ℕ) → j < n → keyAt plan j ≡ getD keys j 0
-  key-same j h = let r = room in F4 .below (512 + j) (omega arith) ∙ F3 .below (512 + j) (omega arith) ∙ F2 .here j (omega arith) h
+  key-same j h = let r = room in F4 .below (keysStart + j) (omega arith) ∙ F3 .below (keysStart + j) (omega arith) ∙ F2 .here j (omega arith) h
 
   outs-same : (j : ℕ) → j < n → outsAt plan j ≡ cutTo keys ts write j
-  outs-same j h = let r = room in F4 .below (8704 + j) (omega arith) ∙ F3 .here j (omega arith) h
+  outs-same j h = let r = room in F4 .below (outsStart + j) (omega arith) ∙ F3 .here j (omega arith) h
 
   ins-same : (j : ℕ) → j < n → insAt plan j ≡ cutTo keys fs read j
   ins-same j h = F4 .here j (omega arith) h
@@ -142,14 +139,13 @@ module _ {p : Policy} {first keys ts fs write read old p1 p2 p3 plan : List ℕ}
           tops = λ t w. let h = w .high in omega (arith, first-same (t + 1) (omega arith), I .tops t w);
         };
         below = λ i h. F4 .below i (omega arith) ∙ F3 .below i (omega arith) ∙ F2 .below i (omega arith) ∙ F1 .below i (omega arith);
-        above = λ i h. F4 .above i (omega arith) ∙ F3 .above i (omega arith) ∙ F2 .above i (omega arith) ∙ F1 .above i (omega arith);
       }
 
 -- ---- a list that is the same below the guards has the same blocks
-module _ (p : Policy) (old new : List ℕ) (few : p .counts .types ≤ 255) (same : (i : ℕ) → i < 25088 → getD new i 0 ≡ getD old i 0) where
-  module _ (t lo hi : ℕ) (top : hi ≤ 8192) (B : OfferBlock p t old lo hi) where
+module _ (p : Policy) (old new : List ℕ) (few : p .counts .types ≤ 255) (same : Kept guardsStart old new) where
+  module _ (t lo hi : ℕ) (top : hi ≤ blockEntries) (B : OfferBlock p t old lo hi) where
     key-kept : (j : ℕ) → j < hi → keyAt new j ≡ keyAt old j
-    key-kept j h = same (512 + j) (omega arith)
+    key-kept j h = same (keysStart + j) (omega arith)
 
     kept-block : OfferBlock p t new lo hi
     kept-block =
@@ -158,16 +154,16 @@ module _ (p : Policy) (old new : List ℕ) (few : p .counts .types ≤ 255) (sam
           rising = λ i j l k h. omega (arith, key-kept i (omega arith), key-kept j h, B .rising i j l k h);
           ranged = λ j l h. subst (Ranged (p .counts .types)) (sym (key-kept j h)) (B .ranged j l h);
           outs = λ j q l h lq. subst (λ (k : ℕ). bit (outsAt new j) q ≡ (α p t (k % 4096) (eventAt (k / 4096) q) && writeLike p (eventAt (k / 4096) q))) (sym (key-kept j h))
-              (ap (λ (m : ℕ). bit m q) (same (8704 + j) (omega arith)) ∙ B .outs j q l h lq);
+              (ap (λ (m : ℕ). bit m q) (same (outsStart + j) (omega arith)) ∙ B .outs j q l h lq);
           ins = λ j q l h lq. subst (λ (k : ℕ). bit (insAt new j) q ≡ (α p (k % 4096) t (eventAt (k / 4096) q) && readLike p (eventAt (k / 4096) q))) (sym (key-kept j h))
-              (ap (λ (m : ℕ). bit m q) (same (16896 + j) (omega arith)) ∙ B .ins j q l h lq);
+              (ap (λ (m : ℕ). bit m q) (same (insStart + j) (omega arith)) ∙ B .ins j q l h lq);
           whole = λ c o q lc lo′ lq w.
               let E = B .whole c o q lc lo′ lq w in
               record { place = E .place; low = E .low; high = E .high; key = key-kept (E .place) (E .high) ∙ E .key };
         }
 
   first-kept : (t : ℕ) → t ≤ 256 → firstAt new t ≡ firstAt old t
-  first-kept t h = same (64 + t) (omega arith)
+  first-kept t h = same (firstStart + t) (omega arith)
 
   pub kept-blocks : Blocks p old → Blocks p new
   kept-blocks D =
@@ -187,10 +183,10 @@ module _ (p : Policy) (old new : List ℕ) (few : p .counts .types ≤ 255) (sam
       let top = D .tops t w in
       record { at = λ j q l k b. G .at j q (omega arith) (omega arith) (subst (λ (m : ℕ). bit m q ≡ true) (specials-kept j (omega arith)) b) }
     where
-      specials-kept : (j : ℕ) → j < 8192 → specialsAt new j ≡ specialsAt old j
+      specials-kept : (j : ℕ) → j < blockEntries → specialsAt new j ≡ specialsAt old j
       specials-kept j h =
-          ap₂ bitAnd (ap₂ bitOr (same (8704 + j) (omega arith)) (same (16896 + j) (omega arith)))
-          (same (keyAt new j / 4096 % 32) (omega arith) ∙ ap (λ (k : ℕ). getD old (k / 4096 % 32) 0) (same (512 + j) (omega arith)))
+          ap₂ bitAnd (ap₂ bitOr (same (outsStart + j) (omega arith)) (same (insStart + j) (omega arith)))
+          (same (keyAt new j / 4096 % 32) (omega arith) ∙ ap (λ (k : ℕ). getD old (k / 4096 % 32) 0) (same (keysStart + j) (omega arith)))
 
 -- ---- guards, entry by entry
 pub guards-begin : (plan : List ℕ) (lo : ℕ) → GuardsOf plan lo lo 0
@@ -213,26 +209,26 @@ pub record Guarding (types : ℕ) (old new : List ℕ) (t : ℕ) : Type 0 where
   pub high : t ≤ types + 1
   pub few : types ≤ 255
   pub tops : Tops types old
-  pub put : Filled (λ i v. GuardsOf old (firstAt old i) (firstAt old (i + 1)) v) old new 25088 1 t
+  pub put : Filled (λ i v. GuardsOf old (firstAt old i) (firstAt old (i + 1)) v) old new guardsStart 1 t
 
 pub guarding-begin : {types : ℕ} {plan : List ℕ} → types ≤ 255 → Tops types plan → Guarding types plan plan 1
 guarding-begin few T = record { low = omega arith; high = omega arith; few = few; tops = T; put = fill-begin _ _ _ _ }
 
 -- the end of the block of t stands behind its start
-pub place-next : (l : List ℕ) (t : ℕ) → getD l (64 + t + 1) 0 ≡ firstAt l (t + 1)
-place-next l t = ap (λ (i : ℕ). getD l i 0) (let e : 64 + t + 1 ≡ 64 + (t + 1) = omega arith in e)
+pub place-next : (l : List ℕ) (t : ℕ) → getD l (firstStart + t + 1) 0 ≡ firstAt l (t + 1)
+place-next l t = ap (λ (i : ℕ). getD l i 0) (let e : firstStart + t + 1 ≡ firstStart + (t + 1) = omega arith in e)
 
 pub guards-to : {plan : List ℕ} {lo hi hi′ r : ℕ} → GuardsOf plan lo hi r → hi ≡ hi′ → GuardsOf plan lo hi′ r
 guards-to {plan} {lo} {r = r} G e = subst (λ (k : ℕ). GuardsOf plan lo k r) e G
 
 module _ {types : ℕ} {old new : List ℕ} {t : ℕ} (G : Guarding types old new t) (h : t ≤ types) where
-  same-below : (i : ℕ) → i < 25088 → getD new i 0 ≡ getD old i 0
+  same-below : Kept guardsStart old new
   same-below i l = G .put .below i (omega arith)
 
-  pub guarding-top : firstAt new (t + 1) ≤ 8192
-  guarding-top = omega (arith, same-below (64 + (t + 1)) (omega (arith, G .few)), G .tops .at t (record { low = G .low; high = h }))
+  pub guarding-top : firstAt new (t + 1) ≤ blockEntries
+  guarding-top = omega (arith, same-below (firstStart + (t + 1)) (omega (arith, G .few)), G .tops .at t (record { low = G .low; high = h }))
 
-  pub guarding-more : {v : ℕ} → 25344 ≤ length new → GuardsOf new (firstAt new t) (firstAt new (t + 1)) v → Guarding types old (set new (25088 + t) v) (t + 1)
+  pub guarding-more : {v : ℕ} → planEntries ≤ length new → GuardsOf new (firstAt new t) (firstAt new (t + 1)) v → Guarding types old (set new (guardsStart + t) v) (t + 1)
   guarding-more {v} size H =
       record {
         low = omega arith;
@@ -242,18 +238,18 @@ module _ {types : ℕ} {old new : List ℕ} {t : ℕ} (G : Guarding types old ne
         put = fill-more (λ i v. GuardsOf old (firstAt old i) (firstAt old (i + 1)) v) (G .put) (G .low) (omega (arith, G .few)) here;
       }
     where
-      top : firstAt old (t + 1) ≤ 8192
+      top : firstAt old (t + 1) ≤ blockEntries
       top = G .tops .at t (record { low = G .low; high = h })
 
-      specials : (j : ℕ) → j < 8192 → specialsAt new j ≡ specialsAt old j
+      specials : (j : ℕ) → j < blockEntries → specialsAt new j ≡ specialsAt old j
       specials j l =
-          ap₂ bitAnd (ap₂ bitOr (same-below (8704 + j) (omega arith)) (same-below (16896 + j) (omega arith)))
-          (same-below (keyAt new j / 4096 % 32) (omega arith) ∙ ap (λ (k : ℕ). getD old (k / 4096 % 32) 0) (same-below (512 + j) (omega arith)))
+          ap₂ bitAnd (ap₂ bitOr (same-below (outsStart + j) (omega arith)) (same-below (insStart + j) (omega arith)))
+          (same-below (keyAt new j / 4096 % 32) (omega arith) ∙ ap (λ (k : ℕ). getD old (k / 4096 % 32) 0) (same-below (keysStart + j) (omega arith)))
 
       here : GuardsOf old (firstAt old t) (firstAt old (t + 1)) v
       here =
-          let e = same-below (64 + t) (omega (arith, G .few)) in
-          let e′ = same-below (64 + (t + 1)) (omega (arith, G .few)) in
+          let e = same-below (firstStart + t) (omega (arith, G .few)) in
+          let e′ = same-below (firstStart + (t + 1)) (omega (arith, G .few)) in
           record { at = λ j q l k b. H .at j q (omega arith) (omega arith) (subst (λ (m : ℕ). bit m q ≡ true) (sym (specials j (omega (arith, top)))) b) }
 
 pub guarding-end : {types : ℕ} {old new : List ℕ} {t : ℕ} → Guarding types old new t → types < t → GuardsPut types old new
@@ -261,67 +257,15 @@ guarding-end G h =
     record {
       guards = λ i w. G .put .here i (w .low) (let z = w .high in omega arith);
       below = λ i l. G .put .below i (omega arith);
-      above = λ i l. G .put .above i (omega (arith, G .high, G .few));
     }
-
--- ---- the whole plan
-pub planned : {s g old p1 p2 p3 p4 p5 plan : List ℕ} {n : Counts} {classes types : ℕ} → planEntries ≤ length plan → SoundGoal g → classes ≡ n .classes → Ready s n → types ≡ n .types
-    → Filled (λ e v. EventSets (goalOf g) (eventOf e) v) old p1 25344 32 (32 * (classes + 1))
-    → ContextsPut s g n p1 p2 → TablesPut (policyOf s) p2 p3 → BlocksPut (policyOf s) p3 p4 → GuardsPut types p4 p5 → LeadsPut (policyOf s) types p5 plan → Planned s g n plan
-planned {s} {g} {old} {p1} {p2} {p3} {p4} {p5} {plan} {n} {classes} {types} size G same R st E C A B D L =
-    record {
-      policy = record {
-        size = size;
-        counts = plan-counts R;
-        tables = record {
-          special-at = λ c q h. ap (λ (k : ℕ). bit k q) (to-four c (omega arith) ∙ B .below c (omega arith)) ∙ A .tables .special-at c q h;
-          change = λ r1 r2 h. ap (λ (k : ℕ). bit k r2) (to-four (32 + r1) (omega arith) ∙ B .below (32 + r1) (omega arith)) ∙ A .tables .change r1 r2 h;
-        };
-        index = blocks;
-        guards = λ t w. kept-guards (policyOf s) p4 plan (all-few R) to-four (B .blocks) t (guardsAt plan t) w
-            (subst (GuardsOf p4 (firstAt p4 t) (firstAt p4 (t + 1))) (sym (L .below (25088 + t) (let h = w .high in let k = all-few R in omega arith)))
-            (D .guards t (record { low = w .low; high = omega (arith, w .high, types-same R) })));
-        leads = λ t j w lo hi.
-            let k = last-first blocks t w in
-            let few = all-few R in
-            let top = blocks .tops t w in
-            let e : types ≡ policyOf s .counts .types = omega (arith, types-same R) in
-            let f : firstAt plan (types + 1) ≡ firstAt p5 (types + 1) = L .below (64 + (types + 1)) (omega arith) in
-            let g : firstAt plan (types + 1) ≡ firstAt plan (policyOf s .counts .types + 1) = ap (λ (i : ℕ). firstAt plan (i + 1)) e in
-            let key : keyAt plan j ≡ keyAt p5 j = L .below (512 + j) (omega arith) in
-            L .leads j (omega arith) (let z = blocks .blocks t w .ranged j lo hi .class .high in omega arith);
-        held = holding-kept kept (C .held);
-      };
-      goal = record {
-        size = size;
-        counts = plan-counts R;
-        sound = G;
-        events = λ e l h.
-            subst (EventSets (goalOf g) (eventOf e))
-            (sym (L .below (25344 + e) (let few = classes-few R in omega arith) ∙ after (25344 + e) (omega arith) ∙ C .below (25344 + e) (let few = classes-few R in omega arith))) (E .here e l (omega arith));
-        sets = sorting-kept kept (C .sets);
-      };
-    }
-  where
-    to-four : (i : ℕ) → i < 25088 → getD plan i 0 ≡ getD p4 i 0
-    to-four i h = L .below i (omega arith) ∙ D .below i h
-
-    blocks : Blocks (policyOf s) plan
-    blocks = kept-blocks (policyOf s) p4 plan (all-few R) to-four (B .blocks)
-
-    after : (i : ℕ) → 25344 ≤ i → getD p5 i 0 ≡ getD p2 i 0
-    after i h = D .above i h ∙ B .above i h ∙ A .above i (omega arith)
-
-    kept : (i : ℕ) → rolesStart ≤ i → getD plan i 0 ≡ getD p2 i 0
-    kept i h = L .above i (omega arith) ∙ after i (omega arith)
 
 -- the last block's end
-pub last-top : {s : List ℕ} {n : Counts} {plan : List ℕ} → Ready s n → Tops (n .types) plan → firstAt plan (n .types + 1) ≤ 8192
-last-top {n = n} R T = T .at (n .types) (record { low = omega (arith, types-same R, all-some R); high = omega arith })
+pub last-top : {n : Counts} {plan : List ℕ} → PlanCounts n → Tops (n .types) plan → firstAt plan (n .types + 1) ≤ blockEntries
+last-top {n = n} C T = T .at (n .types) (record { low = C .some-type; high = omega arith })
 
--- the guards leave the blocks' ends
-pub tops-after : {types : ℕ} {old plan : List ℕ} → types ≤ 255 → GuardsPut types old plan → Tops types old → Tops types plan
-tops-after few D T = record { at = λ t w. let h = w .high in omega (arith, T .at t w, D .below (64 + (t + 1)) (omega arith)) }
+-- what is put above them leaves the blocks' ends
+pub tops-after : {types place : ℕ} {old plan : List ℕ} → types ≤ 255 → keysStart ≤ place → Kept place old plan → Tops types old → Tops types plan
+tops-after few l K T = record { at = λ t w. let h = w .high in omega (arith, T .at t w, K (firstStart + (t + 1)) (omega arith)) }
 
 pub tops-of : {p : Policy} {old plan : List ℕ} {types : ℕ} → BlocksPut p old plan → types ≡ p .counts .types → Tops types plan
 tops-of B e = record { at = λ t w. B .blocks .tops t (record { low = w .low; high = omega (arith, w .high) }) }

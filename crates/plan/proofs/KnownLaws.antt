@@ -23,7 +23,8 @@ use Rattle.goal_image.specs.Goal.{Goal}
 use Rattle.goal_image.specs.inner.Memberships.{ContextSets, EventSets}
 use Rattle.tables.specs.inner.Tables.{ConstraintMasks, RoleChanges}
 use Rattle.base.specs.inner.Fill.{Filled}
-use Rattle.plan.specs.inner.Plan.{special, TablesPut}
+use Rattle.plan.specs.inner.Regions.{classEntries, roleEntries, specialStart, changesStart}
+use Rattle.plan.specs.inner.Plan.{special, Tabled}
 
 pub zero-plus : (c : ℕ) → 0 + c ≡ c
 zero-plus c = omega arith
@@ -73,14 +74,11 @@ module _ {p : Policy} {masks : List ℕ} (C : ConstraintMasks p masks) (size : l
       zero-is i = ⊎-elim (λ (e : i ≡ 0). eq-eqb 0 i (sym e) ∙ sym (eq-eqb i 0 e)) (λ (d : i ≡ 0 → ⊥). ne-eqb 0 i (λ e. d (sym e)) ∙ sym (ne-eqb i 0 d)) (split-eq i 0)
 
   pub tabled : {changes old mid new : List ℕ} → RoleChanges p changes
-      → Filled (λ i v. v ≡ getD (set masks 1 (bitOr (getD masks 1 0) 1)) i 0) old mid 0 0 32
-      → Filled (λ i v. v ≡ getD changes i 0) mid new 32 0 16
-      → TablesPut p old new
+      → Filled (λ i v. v ≡ getD (set masks 1 (bitOr (getD masks 1 0) 1)) i 0) old mid specialStart 0 classEntries
+      → Filled (λ i v. v ≡ getD changes i 0) mid new changesStart 0 roleEntries
+      → Tabled p new
   tabled {changes} {old} {mid} {new} R A B =
       record {
-        tables = record {
-          special-at = λ c q h. ap (λ (k : ℕ). bit k q) (B .below c (omega arith) ∙ ap (λ (k : ℕ). getD mid k 0) (sym (zero-plus c)) ∙ A .here c (omega arith) h) ∙ marked c q;
-          change = λ r1 r2 h. ap (λ (k : ℕ). bit k r2) (B .here r1 (omega arith) h) ∙ R .at r1 r2;
-        };
-        above = λ i h. B .above i (omega arith) ∙ A .above i (omega arith);
+        special-at = λ c q h. ap (λ (k : ℕ). bit k q) (B .below c (omega arith) ∙ ap (λ (k : ℕ). getD mid k 0) (sym (zero-plus c)) ∙ A .here c (omega arith) h) ∙ marked c q;
+        change = λ r1 r2 h. ap (λ (k : ℕ). bit k r2) (B .here r1 (omega arith) h) ∙ R .at r1 r2;
       }

@@ -20,21 +20,23 @@ use Rattle.base.proofs.UptoLaws.{clash, or-true, or-left, or-cases, and-true, a
 use Rattle.policy_image.specs.Policy.{Policy}
 use Rattle.context.specs.Codes.{eventAt, eventOf, isTransition}
 use Rattle.constraints.specs.Constraints.{constrains}
-use Rattle.tables.specs.inner.Groups.{ConstraintGroups}
-use Rattle.plan.specs.inner.Plan.{firstAt, keyAt, outsAt, insAt, eventsAt, leadsAt, Blocks, Alike, Leader, Leads, LeadsPut}
+use Rattle.plan.specs.inner.Entries.{firstAt, keyAt, outsAt, insAt, groupsAt, eventsAt, leadsAt}
+use Rattle.plan.specs.inner.Regions.{blockEntries, keysStart, outsStart, insStart, eventsStart, leadsStart}
+use Rattle.plan.specs.inner.Plan.{Grouped, Blocks, Alike, Leader, Leads}
+use Rattle.plan.specs.inner.Put.{Kept, LeadsPut}
 use Rattle.plan.proofs.KnownLaws.{or-nothing, and-false, and-yes}
 use Rattle.plan.specs.inner.Leads.{likes, WithIf, SameSets, AlikeTable, Led, Leading, EntryLeads}
 
 -- ---- events in the same sets
-pub sets-begin : (plan : List ℕ) (event group : ℕ) → SameSets plan event group 0 0
-sets-begin plan event group = record { done = λ q h. absurd (omega arith); rest = λ q h. bit-zero q }
+pub sets-begin : (plan : List ℕ) (event : ℕ) → SameSets plan event 0 0
+sets-begin plan event = record { done = λ q h. absurd (omega arith); rest = λ q h. bit-zero q }
 
-pub sets-next : {plan : List ℕ} {event group n r r′ : ℕ} {yes : Bool} → SameSets plan event group n r → yes ≡ likes plan event group n → WithIf r n yes r′ → SameSets plan event group (n + 1) r′
-sets-next {plan} {event} {group} {n} {r} {r′} {yes} S y W =
+pub sets-next : {plan : List ℕ} {event n r r′ : ℕ} {yes : Bool} → SameSets plan event n r → yes ≡ likes plan event n → WithIf r n yes r′ → SameSets plan event (n + 1) r′
+sets-next {plan} {event} {n} {r} {r′} {yes} S y W =
     record {
       done = λ q h. W .at q
           ∙ ⊎-elim
-          (λ (e : q ≡ n). ap₂ (λ (a b : Bool). a || (yes && b)) (S .rest q (omega arith)) (eq-eqb n q (sym e)) ∙ and-yes yes ∙ y ∙ ap (likes plan event group) (sym e))
+          (λ (e : q ≡ n). ap₂ (λ (a b : Bool). a || (yes && b)) (S .rest q (omega arith)) (eq-eqb n q (sym e)) ∙ and-yes yes ∙ y ∙ ap (likes plan event) (sym e))
           (λ (d : q ≡ n → ⊥). off q d ∙ S .done q (omega (arith, d)))
           (split-eq q n);
       rest = λ q h. W .at q ∙ off q (λ e. omega arith) ∙ S .rest q (omega arith);
@@ -43,8 +45,8 @@ sets-next {plan} {event} {group} {n} {r} {r′} {yes} S y W =
     off : (q : ℕ) → (q ≡ n → ⊥) → (bit r q || (yes && eqb n q)) ≡ bit r q
     off q d = ap (λ (b : Bool). bit r q || (yes && b)) (ne-eqb n q (λ e. d (sym e))) ∙ ap (λ (b : Bool). bit r q || b) (and-false yes) ∙ or-nothing (bit r q)
 
-pub sets-end : {plan : List ℕ} {event group n r : ℕ} → n ≡ 32 → SameSets plan event group n r → SameSets plan event group 32 r
-sets-end {plan} {event} {group} {r = r} e S = subst (λ (k : ℕ). SameSets plan event group k r) e S
+pub sets-end : {plan : List ℕ} {event n r : ℕ} → n ≡ 32 → SameSets plan event n r → SameSets plan event 32 r
+sets-end {plan} {event} {r = r} e S = subst (λ (k : ℕ). SameSets plan event k r) e S
 
 pub with-yes : {m q r : ℕ} {yes : Bool} → yes ≡ true → With m q r → WithIf m q yes r
 with-yes {m} {q} t W = record { at = λ i. W .at i ∙ ap (λ (b : Bool). bit m i || (b && eqb q i)) (sym t) }
@@ -82,27 +84,27 @@ pub alike-more : {P : ℕ → ℕ → Type 0} {old new : List ℕ} {a i v : ℕ}
 alike-more {P} {old} {new} {a} {i} {v} F l h x =
     subst (λ (k : ℕ). Filled P old (set new k v) 0 a (i + 1)) (let e : 0 + i ≡ i = omega arith in e) (fill-more P F l (omega arith) x)
 
-pub alike-all : {p : Policy} {plan groups alike : List ℕ} {end : ℕ} → end ≤ 1024 → ConstraintGroups p groups
-    → Filled (λ e v. SameSets plan e (getD groups e 0) 32 v) (replicate 1024 0) alike 0 33 end → AlikeTable p plan alike
-alike-all {p} {plan} {groups} {alike} {end} few G F =
+pub alike-all : {plan alike : List ℕ} {end : ℕ} → end ≤ 1024 → Filled (λ e v. SameSets plan e 32 v) (replicate 1024 0) alike 0 33 end → AlikeTable plan alike
+alike-all {plan} {alike} {end} few F =
     record {
-      at = λ c q i lc lq li b. ⊎-elim
+      at = λ p G c q i lc lq li b. ⊎-elim
           (λ (h : end ≤ 32 * c + q). absurd (clash b (ap (λ (v : ℕ). bit v i) (F .above (32 * c + q) (omega arith) ∙ zeros 1024 (32 * c + q)) ∙ bit-zero i)))
           (λ (h : 32 * c + q < end). ⊎-elim
-          (λ (k : 33 ≤ 32 * c + q). like c q i lc lq li k (subst (λ (z : ℕ). SameSets plan (32 * c + q) (getD groups (32 * c + q) 0) 32 (getD alike z 0)) (let z : 0 + (32 * c + q) ≡ 32 * c + q = omega arith in z) (F .here (32 * c + q) k h)) b)
+          (λ (k : 33 ≤ 32 * c + q). like p G c q i lc lq li k (subst (λ (z : ℕ). SameSets plan (32 * c + q) 32 (getD alike z 0)) (let z : 0 + (32 * c + q) ≡ 32 * c + q = omega arith in z) (F .here (32 * c + q) k h)) b)
           (λ (k : 32 * c + q < 33). absurd (clash b (ap (λ (v : ℕ). bit v i) (F .below (32 * c + q) (omega arith) ∙ zeros 1024 (32 * c + q)) ∙ bit-zero i)))
           (split-le 33 (32 * c + q)))
           (split-le end (32 * c + q));
     }
   where
-    like : (c q i : ℕ) → c < 32 → q < 32 → i < 32 → 33 ≤ 32 * c + q → SameSets plan (32 * c + q) (getD groups (32 * c + q) 0) 32 (getD alike (32 * c + q) 0)
+    like : (p : Policy) → Grouped p plan → (c q i : ℕ) → c < 32 → q < 32 → i < 32 → 33 ≤ 32 * c + q → SameSets plan (32 * c + q) 32 (getD alike (32 * c + q) 0)
         → bit (getD alike (32 * c + q) 0) i ≡ true → Alike p plan (32 * c + q) (32 * c + i)
-    like c q i lc lq li k S b =
+    like p G c q i lc lq li k S b =
+        let group : ℕ = groupsAt plan (32 * c + q) in
         let e : 32 * ((32 * c + q) / 32) + i ≡ 32 * c + i = omega arith in
-        let w : (bit (getD groups (32 * c + q) 0) i && (not (eqb (32 * c + i) 32) && eqb (eventsAt plan (32 * c + i)) (eventsAt plan (32 * c + q)))) ≡ true
-        = subst (λ (f : ℕ). (bit (getD groups (32 * c + q) 0) i && (not (eqb f 32) && eqb (eventsAt plan f) (eventsAt plan (32 * c + q)))) ≡ true) e (sym (S .done i li) ∙ b) in
-        let g : bit (getD groups (32 * c + q) 0) i ≡ true = and-first (bit (getD groups (32 * c + q) 0) i) _ w in
-        let r = and-second (bit (getD groups (32 * c + q) 0) i) _ w in
+        let w : (bit group i && (not (eqb (32 * c + i) 32) && eqb (eventsAt plan (32 * c + i)) (eventsAt plan (32 * c + q)))) ≡ true
+        = subst (λ (f : ℕ). (bit group i && (not (eqb f 32) && eqb (eventsAt plan f) (eventsAt plan (32 * c + q)))) ≡ true) e (sym (S .done i li) ∙ b) in
+        let g : bit group i ≡ true = and-first (bit group i) _ w in
+        let r = and-second (bit group i) _ w in
         let n : not (eqb (32 * c + i) 32) ≡ true = and-first (not (eqb (32 * c + i) 32)) _ r in
         let s : eqb (eventsAt plan (32 * c + i)) (eventsAt plan (32 * c + q)) ≡ true = and-second (not (eqb (32 * c + i) 32)) _ r in
         record {
@@ -158,9 +160,9 @@ module _ {alike : List ℕ} {class mask left r : ℕ} (S : Sorting alike class m
       ⊎-elim (λ (e : left′ ≡ left). absurd (clash (ap (λ (v : ℕ). bit v q₀) e ∙ L .has) off)) (λ (d : left′ ≡ left → ⊥). omega (arith, d, W .most)) (split-eq left′ left)
 
 -- ---- the leads of an entry
-module _ (p : Policy) (old plan alike : List ℕ) (A : AlikeTable p old alike) (below : (i : ℕ) → i < 26368 → getD plan i 0 ≡ getD old i 0) where
+module _ (p : Policy) (old plan alike : List ℕ) (G : Grouped p old) (A : AlikeTable old alike) (below : Kept leadsStart old plan) where
   sets-same : (e : ℕ) → e < 1024 → eventsAt plan e ≡ eventsAt old e
-  sets-same e h = below (25344 + e) (omega arith)
+  sets-same e h = below (eventsStart + e) (omega arith)
 
   moved : {e f : ℕ} → e < 1024 → f < 1024 → Alike p old e f → Alike p plan e f
   moved {e} {f} he hf B = record { sets = sets-same e he ∙ B .sets ∙ sym (sets-same f hf); constrained = B .constrained; transition = B .transition }
@@ -179,14 +181,14 @@ module _ (p : Policy) (old plan alike : List ℕ) (A : AlikeTable p old alike) (
         bears = L .among (D .perm) (D .leading);
         leading = into (D .perm) (D .leading);
         alike = ⊎-elim (λ e. same-event (32 * c + D .perm) (32 * c + q) (ap (λ (i : ℕ). 32 * c + i) e))
-            (λ k. moved (omega arith) (omega arith) (A .at c (D .perm) q lc (omega arith) lq k)) (D .like);
+            (λ k. moved (omega arith) (omega arith) (A .at p G c (D .perm) q lc (omega arith) lq k)) (D .like);
       }
 
-  pub leads-of : (j : ℕ) → j < 8192 → keyAt old j / 4096 < 32 → EntryLeads alike old j (leadsAt plan j) → Leads p plan j
+  pub leads-of : (j : ℕ) → j < blockEntries → keyAt old j / 4096 < 32 → EntryLeads alike old j (leadsAt plan j) → Leads p plan j
   leads-of j h small E =
-      let key : keyAt plan j ≡ keyAt old j = below (512 + j) (omega arith) in
-      let outs : outsAt plan j ≡ outsAt old j = below (8704 + j) (omega arith) in
-      let ins : insAt plan j ≡ insAt old j = below (16896 + j) (omega arith) in
+      let key : keyAt plan j ≡ keyAt old j = below (keysStart + j) (omega arith) in
+      let outs : outsAt plan j ≡ outsAt old j = below (outsStart + j) (omega arith) in
+      let ins : insAt plan j ≡ insAt old j = below (insStart + j) (omega arith) in
       let class : keyAt old j / 4096 % 32 ≡ keyAt plan j / 4096 = omega arith in
       let O : Leading alike (keyAt plan j / 4096) (outsAt plan j) (E .outs) = subst (λ (c : ℕ). Leading alike c (outsAt plan j) (E .outs)) class (subst (λ (m : ℕ). Leading alike (keyAt old j / 4096 % 32) m (E .outs)) (sym outs) (E .outs-lead)) in
       let I : Leading alike (keyAt plan j / 4096) (insAt plan j) (E .ins) = subst (λ (c : ℕ). Leading alike c (insAt plan j) (E .ins)) class (subst (λ (m : ℕ). Leading alike (keyAt old j / 4096 % 32) m (E .ins)) (sym ins) (E .ins-lead)) in
@@ -201,25 +203,24 @@ module _ (p : Policy) (old plan alike : List ℕ) (A : AlikeTable p old alike) (
       }
 
 -- the next entry, whose key and masks are those of the list before
-pub entry-more : {alike old new : List ℕ} {j outs ins : ℕ} → Filled (λ i v. EntryLeads alike old i v) old new 26368 0 j → j < 8192
+pub entry-more : {alike old new : List ℕ} {j outs ins : ℕ} → Filled (λ i v. EntryLeads alike old i v) old new leadsStart 0 j → j < blockEntries
     → Leading alike (keyAt new j / 4096 % 32) (outsAt new j) outs → Leading alike (keyAt new j / 4096 % 32) (insAt new j) ins → EntryLeads alike old j (bitOr outs ins)
 entry-more {alike} {old} {new} {j} {outs} {ins} F h O I =
-    let key : keyAt new j ≡ keyAt old j = F .below (512 + j) (omega arith) in
+    let key : keyAt new j ≡ keyAt old j = F .below (keysStart + j) (omega arith) in
     record {
       outs = outs;
       ins = ins;
-      outs-lead = subst (λ (k : ℕ). Leading alike (k / 4096 % 32) (outsAt old j) outs) key (subst (λ (m : ℕ). Leading alike (keyAt new j / 4096 % 32) m outs) (F .below (8704 + j) (omega arith)) O);
-      ins-lead = subst (λ (k : ℕ). Leading alike (k / 4096 % 32) (insAt old j) ins) key (subst (λ (m : ℕ). Leading alike (keyAt new j / 4096 % 32) m ins) (F .below (16896 + j) (omega arith)) I);
+      outs-lead = subst (λ (k : ℕ). Leading alike (k / 4096 % 32) (outsAt old j) outs) key (subst (λ (m : ℕ). Leading alike (keyAt new j / 4096 % 32) m outs) (F .below (outsStart + j) (omega arith)) O);
+      ins-lead = subst (λ (k : ℕ). Leading alike (k / 4096 % 32) (insAt old j) ins) key (subst (λ (m : ℕ). Leading alike (keyAt new j / 4096 % 32) m ins) (F .below (insStart + j) (omega arith)) I);
       both = refl;
     }
 
-pub leads-put : {p : Policy} {old plan alike : List ℕ} {types n : ℕ} → AlikeTable p old alike → n ≤ 8192 → n ≡ firstAt old (types + 1)
-    → Filled (λ j v. EntryLeads alike old j v) old plan 26368 0 n → LeadsPut p types old plan
-leads-put {p} {old} {plan} {alike} A top e F =
+pub leads-put : {old plan alike : List ℕ} {types n : ℕ} → AlikeTable old alike → n ≤ blockEntries → n ≡ firstAt old (types + 1)
+    → Filled (λ j v. EntryLeads alike old j v) old plan leadsStart 0 n → LeadsPut types old plan
+leads-put {old} {plan} {alike} A top e F =
     record {
-      leads = λ j h small. leads-of p old plan alike A (λ i k. F .below i (omega arith)) j (omega arith) small (F .here j (omega arith) (omega arith));
+      leads = λ p G j h small. leads-of p old plan alike G A (λ i k. F .below i (omega arith)) j (omega arith) small (F .here j (omega arith) (omega arith));
       below = λ i h. F .below i (omega arith);
-      above = λ i h. F .above i (omega arith);
     }
 
 -- ---- the block of each type is among the entries

@@ -29,8 +29,11 @@ use Rattle.goal_image.proofs.LegLaws.{flags-no}
 use Rattle.goal_image.proofs.SetLaws.{Iff, chain-iff, set-iff}
 use Rattle.goal_image.proofs.SortLaws.{context-below}
 use Rattle.tables.specs.inner.Tables.{typeEntries}
-use Rattle.plan.specs.inner.Regions.{recordEntries, namedStart, linksStart, marksStart, planEntries, namedAt, linkAt, marksAt}
-use Rattle.plan.specs.inner.Named.{NamesBoth, onChain, MarksOf, Named, Last, Links, AllLinked, Linking, LinksPut, NamedIn, NamedSets}
+use Rattle.plan.specs.inner.Regions.{recordEntries, namedStart, linksStart, marksStart, recordRolesStart, recordUsersStart, leadsStart, planEntries}
+use Rattle.plan.specs.inner.Entries.{namedAt, linkAt, marksAt}
+use Rattle.plan.specs.inner.Sets.{Falls}
+use Rattle.plan.specs.inner.Put.{Kept}
+use Rattle.plan.specs.inner.Named.{NamesBoth, onChain, MarksOf, Named, Last, Noted, Links, AllLinked, Linking, LinksPut, NamedIn, NamedSets}
 
 -- ---- one record
 pub names-user : (r : ContextRecord) → 1 ≤ r .ty → r .ty < typeEntries → r .role ≡ 0 → Decides (not (eqb (r .user) 0)) (NamesBoth r)
@@ -80,12 +83,16 @@ module _ {K : ℕ → Type 0} {k : ℕ} where
   last-here : K k → Last K (k + 1) k
   last-here x = record { low = omega arith; is = λ _. x; none = λ j l u _. absurd (omega arith) }
 
-pub links-begin : {g : Goal} {plan : List ℕ} → ((t : ℕ) → t < typeEntries → namedAt plan t ≡ 0) → Links g plan 1
-links-begin {g} z =
+pub links-begin : {g : Goal} {plan : List ℕ} → ((i : ℕ) → i < typeEntries + recordEntries → getD plan (namedStart + i) 0 ≡ 0) → Links g plan 1
+links-begin {g} {plan} z =
     record {
-      heads = λ t h. subst (Last (Named g t) 1) (sym (z t h)) (record { low = omega arith; is = λ n. absurd (n refl); none = λ j l u _. absurd (omega arith) });
+      heads = λ t h. subst (Last (Named g t) 1) (sym (z t (omega arith))) (record { low = omega arith; is = λ n. absurd (n refl); none = λ j l u _. absurd (omega arith) });
       links = λ t k h N. absurd (let l = N .low in omega arith);
-      marks = λ t k h N. absurd (let l = N .low in omega arith);
+      noted = λ t k h N. absurd (let l = N .low in omega arith);
+      falls = record {
+        heads = λ t h. omega (arith, z t (omega arith));
+        links = λ k l h. let q : linkAt plan k ≡ getD plan (namedStart + (typeEntries + k)) 0 = ap (λ (i : ℕ). getD plan i 0) (let e : linksStart + k ≡ namedStart + (typeEntries + k) = omega arith in e) in omega (arith, z (typeEntries + k) (omega arith));
+      };
     }
 
 pub links-skip : {g : Goal} {plan : List ℕ} {k : ℕ} → Links g plan k → ((t : ℕ) → Named g t k → ⊥) → Linking g plan plan (k + 1)
@@ -94,7 +101,8 @@ links-skip {g} {plan} {k} L n =
       lists = record {
         heads = λ t h. last-skip (n t) (L .heads t h);
         links = λ t j h N. L .links t j (before t j h N) N;
-        marks = λ t j h N. L .marks t j (before t j h N) N;
+        noted = λ t j h N. L .noted t j (before t j h N) N;
+        falls = L .falls;
       };
       below = λ i h. refl;
     }
@@ -126,71 +134,107 @@ named-of q B l h M n =
     }
 
 -- record k is put before the list of its type t
-module _ {g : Goal} {plan : List ℕ} {k t m : ℕ} (L : Links g plan k) (N : Named g t k) (M : MarksOf g k m) (few : k < recordEntries) (size : planEntries ≤ length plan) where
+module _ {g : Goal} {plan : List ℕ} {k t m role user : ℕ} (L : Links g plan k) (N : Named g t k) (M : MarksOf g k m) (R : role ≡ g .context k .role) (U : user ≡ g .context k .user) (few : k < recordEntries)
+    (size : planEntries ≤ length plan) where
   abbrev p1 : List ℕ
   p1 = set plan (marksStart + k) m
 
   abbrev p2 : List ℕ
-  p2 = set p1 (linksStart + k) (getD p1 (namedStart + t) 0)
+  p2 = set p1 (recordRolesStart + k) role
 
   abbrev p3 : List ℕ
-  p3 = set p2 (namedStart + t) k
+  p3 = set p2 (recordUsersStart + k) user
+
+  abbrev p4 : List ℕ
+  p4 = set p3 (linksStart + k) (getD p3 (namedStart + t) 0)
+
+  abbrev p5 : List ℕ
+  p5 = set p4 (namedStart + t) k
 
   small : t < typeEntries
   small = omega (arith, N .type, N .both .few)
 
-  other : (i : ℕ) → (i ≡ marksStart + k → ⊥) → (i ≡ linksStart + k → ⊥) → (i ≡ namedStart + t → ⊥) → getD p3 i 0 ≡ getD plan i 0
-  other i a b d = getD-set-other p2 (namedStart + t) i k 0 d ∙ getD-set-other p1 (linksStart + k) i (getD p1 (namedStart + t) 0) 0 b ∙ getD-set-other plan (marksStart + k) i m 0 a
+  -- what is none of the record's entries is as it was
+  noted-other : (i : ℕ) → (i ≡ marksStart + k → ⊥) → (i ≡ recordRolesStart + k → ⊥) → (i ≡ recordUsersStart + k → ⊥) → getD p3 i 0 ≡ getD plan i 0
+  noted-other i a b d = getD-set-other p2 (recordUsersStart + k) i user 0 d ∙ getD-set-other p1 (recordRolesStart + k) i role 0 b ∙ getD-set-other plan (marksStart + k) i m 0 a
 
-  head-new : namedAt p3 t ≡ k
-  head-new = getD-set-same p2 (namedStart + t) k 0 (let s = small in simp length-set (omega arith))
+  linked-other : (i : ℕ) → (i ≡ linksStart + k → ⊥) → (i ≡ namedStart + t → ⊥) → getD p5 i 0 ≡ getD p3 i 0
+  linked-other i a b = getD-set-other p4 (namedStart + t) i k 0 b ∙ getD-set-other p3 (linksStart + k) i (getD p3 (namedStart + t) 0) 0 a
 
-  link-new : linkAt p3 k ≡ namedAt plan t
+  head-new : namedAt p5 t ≡ k
+  head-new = getD-set-same p4 (namedStart + t) k 0 (let s = small in simp length-set (omega arith))
+
+  link-new : linkAt p5 k ≡ namedAt plan t
   link-new =
       let s = small in
-      getD-set-other p2 (namedStart + t) (linksStart + k) k 0 (λ q. omega arith)
-      ∙ getD-set-same p1 (linksStart + k) (getD p1 (namedStart + t) 0) 0 (simp length-set (omega arith))
-      ∙ getD-set-other plan (marksStart + k) (namedStart + t) m 0 (λ q. omega arith)
+      getD-set-other p4 (namedStart + t) (linksStart + k) k 0 (λ q. omega arith)
+      ∙ getD-set-same p3 (linksStart + k) (getD p3 (namedStart + t) 0) 0 (simp length-set (omega arith))
+      ∙ noted-other (namedStart + t) (λ q. omega arith) (λ q. omega arith) (λ q. omega arith)
 
-  marks-new : marksAt p3 k ≡ m
-  marks-new =
+  noted-new : Noted g p5 k
+  noted-new =
       let s = small in
-      getD-set-other p2 (namedStart + t) (marksStart + k) k 0 (λ q. omega arith)
-      ∙ getD-set-other p1 (linksStart + k) (marksStart + k) (getD p1 (namedStart + t) 0) 0 (λ q. omega arith)
-      ∙ getD-set-same plan (marksStart + k) m 0 (omega arith)
+      record {
+        marks = subst (MarksOf g k) (sym (linked-other (marksStart + k) (λ q. omega arith) (λ q. omega arith)
+            ∙ getD-set-other p2 (recordUsersStart + k) (marksStart + k) user 0 (λ q. omega arith) ∙ getD-set-other p1 (recordRolesStart + k) (marksStart + k) role 0 (λ q. omega arith)
+            ∙ getD-set-same plan (marksStart + k) m 0 (omega arith))) M;
+        role = linked-other (recordRolesStart + k) (λ q. omega arith) (λ q. omega arith) ∙ getD-set-other p2 (recordUsersStart + k) (recordRolesStart + k) user 0 (λ q. omega arith)
+            ∙ getD-set-same p1 (recordRolesStart + k) role 0 (simp length-set (omega arith)) ∙ R;
+        user = linked-other (recordUsersStart + k) (λ q. omega arith) (λ q. omega arith) ∙ getD-set-same p2 (recordUsersStart + k) user 0 (simp length-set (omega arith)) ∙ U;
+      }
 
-  heads-on : (u : ℕ) → u < typeEntries → (u ≡ t) ⊎ (u ≡ t → ⊥) → Last (Named g u) (k + 1) (namedAt p3 u)
-  heads-on u h (inl e) = subst (λ (i : ℕ). Last (Named g i) (k + 1) (namedAt p3 i)) (sym e) (subst (Last (Named g t) (k + 1)) (sym head-new) (last-here N))
-  heads-on u h (inr d) =
+  -- heads and links of other types and records
+  head-other : (u : ℕ) → u < typeEntries → (u ≡ t → ⊥) → namedAt p5 u ≡ namedAt plan u
+  head-other u h d =
       let s = small in
-      subst (Last (Named g u) (k + 1)) (sym (other (namedStart + u) (λ q. omega arith) (λ q. omega arith) (λ q. d (omega arith))))
-      (last-skip (λ x. d (sym (x .type) ∙ N .type)) (L .heads u h))
+      linked-other (namedStart + u) (λ q. omega arith) (λ q. d (omega arith)) ∙ noted-other (namedStart + u) (λ q. omega arith) (λ q. omega arith) (λ q. omega arith)
 
-  links-on : (u j : ℕ) → j < k + 1 → Named g u j → (j ≡ k) ⊎ (j ≡ k → ⊥) → Last (Named g u) j (linkAt p3 j)
+  link-other : (j : ℕ) → j < recordEntries → (j ≡ k → ⊥) → linkAt p5 j ≡ linkAt plan j
+  link-other j h d =
+      let s = small in
+      linked-other (linksStart + j) (λ q. d (omega arith)) (λ q. omega arith) ∙ noted-other (linksStart + j) (λ q. omega arith) (λ q. omega arith) (λ q. omega arith)
+
+  heads-on : (u : ℕ) → u < typeEntries → (u ≡ t) ⊎ (u ≡ t → ⊥) → Last (Named g u) (k + 1) (namedAt p5 u)
+  heads-on u h (inl e) = subst (λ (i : ℕ). Last (Named g i) (k + 1) (namedAt p5 i)) (sym e) (subst (Last (Named g t) (k + 1)) (sym head-new) (last-here N))
+  heads-on u h (inr d) = subst (Last (Named g u) (k + 1)) (sym (head-other u h d)) (last-skip (λ x. d (sym (x .type) ∙ N .type)) (L .heads u h))
+
+  links-on : (u j : ℕ) → j < k + 1 → Named g u j → (j ≡ k) ⊎ (j ≡ k → ⊥) → Last (Named g u) j (linkAt p5 j)
   links-on u j h x (inl e) =
       let q : u ≡ t = sym (x .type) ∙ ap (λ (i : ℕ). g .context i .ty) e ∙ N .type in
-      subst (λ (i : ℕ). Last (Named g u) i (linkAt p3 i)) (sym e)
+      subst (λ (i : ℕ). Last (Named g u) i (linkAt p5 i)) (sym e)
       (subst (Last (Named g u) k) (sym link-new) (subst (λ (i : ℕ). Last (Named g i) k (namedAt plan t)) (sym q) (L .heads t small)))
-  links-on u j h x (inr d) =
-      let s = small in
-      subst (Last (Named g u) j) (sym (other (linksStart + j) (λ q. omega arith) (λ q. d (omega arith)) (λ q. omega arith))) (L .links u j (omega (arith, d)) x)
+  links-on u j h x (inr d) = subst (Last (Named g u) j) (sym (link-other j (omega arith) d)) (L .links u j (omega (arith, d)) x)
 
-  marks-on : (u j : ℕ) → j < k + 1 → Named g u j → (j ≡ k) ⊎ (j ≡ k → ⊥) → MarksOf g j (marksAt p3 j)
-  marks-on u j h x (inl e) = subst (λ (i : ℕ). MarksOf g i (marksAt p3 i)) (sym e) (subst (MarksOf g k) (sym marks-new) M)
-  marks-on u j h x (inr d) =
+  noted-on : (u j : ℕ) → j < k + 1 → Named g u j → (j ≡ k) ⊎ (j ≡ k → ⊥) → Noted g p5 j
+  noted-on u j h x (inl e) = subst (Noted g p5) (sym e) noted-new
+  noted-on u j h x (inr d) =
       let s = small in
-      subst (MarksOf g j) (sym (other (marksStart + j) (λ q. d (omega arith)) (λ q. omega arith) (λ q. omega arith))) (L .marks u j (omega (arith, d)) x)
+      let w = L .noted u j (omega (arith, d)) x in
+      record {
+        marks = subst (MarksOf g j) (sym (linked-other (marksStart + j) (λ q. omega arith) (λ q. omega arith) ∙ noted-other (marksStart + j) (λ q. d (omega arith)) (λ q. omega arith) (λ q. omega arith))) (w .marks);
+        role = linked-other (recordRolesStart + j) (λ q. omega arith) (λ q. omega arith) ∙ noted-other (recordRolesStart + j) (λ q. omega arith) (λ q. d (omega arith)) (λ q. omega arith) ∙ w .role;
+        user = linked-other (recordUsersStart + j) (λ q. omega arith) (λ q. omega arith) ∙ noted-other (recordUsersStart + j) (λ q. omega arith) (λ q. omega arith) (λ q. d (omega arith)) ∙ w .user;
+      }
 
-  pub links-more : Linking g plan p3 (k + 1)
+  falls-on : Falls p5
+  falls-on =
+      record {
+        heads = λ u h. ⊎-elim (λ (e : u ≡ t). let z : namedAt p5 u ≡ k = ap (namedAt p5) e ∙ head-new in omega arith) (λ (d : u ≡ t → ⊥). omega (arith, head-other u h d, L .falls .heads u h)) (split-eq u t);
+        links = λ j l h. ⊎-elim (λ (e : j ≡ k). let z : linkAt p5 j ≡ namedAt plan t = ap (linkAt p5) e ∙ link-new in omega (arith, L .heads t small .low))
+            (λ (d : j ≡ k → ⊥). omega (arith, link-other j h d, L .falls .links j l h)) (split-eq j k);
+      }
+
+  pub links-more : Linking g plan p5 (k + 1)
   links-more =
       let s = small in
       record {
         lists = record {
           heads = λ u h. heads-on u h (split-eq u t);
           links = λ u j h x. links-on u j h x (split-eq j k);
-          marks = λ u j h x. marks-on u j h x (split-eq j k);
+          noted = λ u j h x. noted-on u j h x (split-eq j k);
+          falls = falls-on;
         };
-        below = λ i h. other i (λ q. omega arith) (λ q. omega arith) (λ q. omega arith);
+        below = λ i h. linked-other i (λ q. omega arith) (λ q. omega arith) ∙ noted-other i (λ q. omega arith) (λ q. omega arith) (λ q. omega arith);
       }
 
 pub links-end : {P : ℕ → ℕ → Type 0} {g : Goal} {old mid plan : List ℕ} {a b : ℕ} → Filled P old mid namedStart 0 b → Linking g mid plan a → a ≡ suc (g .size) → LinksPut g old plan
@@ -199,13 +243,21 @@ links-end {g = g} {plan = plan} F L e = record { lists = subst (Links g plan) e 
 pub links-join : {g : Goal} {old mid plan : List ℕ} {a b : ℕ} → Linking g old mid a → Linking g mid plan b → Linking g old plan b
 links-join A B = record { lists = B .lists; below = λ i h. B .below i h ∙ A .below i h }
 
--- lists that are the same from the lists of the types on
-pub links-kept : {g : Goal} {old new : List ℕ} {a : ℕ} → ((i : ℕ) → namedStart ≤ i → getD new i 0 ≡ getD old i 0) → Links g old a → Links g new a
-links-kept {g} {a = a} same L =
+-- what is put above the lists leaves them
+pub links-kept : {g : Goal} {old new : List ℕ} → g .size < recordEntries → Kept leadsStart old new → AllLinked g old → AllLinked g new
+links-kept {g} few same L =
     record {
-      heads = λ t h. subst (Last (Named g t) a) (sym (same (namedStart + t) (omega arith))) (L .heads t h);
+      heads = λ t h. subst (Last (Named g t) (suc (g .size))) (sym (same (namedStart + t) (omega arith))) (L .heads t h);
       links = λ t k h N. subst (Last (Named g t) k) (sym (same (linksStart + k) (omega arith))) (L .links t k h N);
-      marks = λ t k h N. subst (MarksOf g k) (sym (same (marksStart + k) (omega arith))) (L .marks t k h N);
+      noted = λ t k h N. let w = L .noted t k h N in record {
+        marks = subst (MarksOf g k) (sym (same (marksStart + k) (omega arith))) (w .marks);
+        role = same (recordRolesStart + k) (omega arith) ∙ w .role;
+        user = same (recordUsersStart + k) (omega arith) ∙ w .user;
+      };
+      falls = record {
+        heads = λ t h. omega (arith, same (namedStart + t) (omega arith), L .falls .heads t h);
+        links = λ k l h. omega (arith, same (linksStart + k) (omega arith), L .falls .links k l h);
+      };
     }
 
 -- ---- reading them: the records of the type of x above k are asked, and k is the next
@@ -227,15 +279,6 @@ module _ {g : Goal} {plan : List ℕ} (L : AllLinked g plan) {x : Context} where
         all = λ i s I. ⊎-elim (λ a. inr a) (λ a. absurd (H .none (I .record-at) a (let z = I .named .high in omega arith) (I .named))) (split-le (I .record-at) (namedAt plan (x .ty)));
       }
 
-  -- the list is empty
-  pub walk-none : x .ty < typeEntries → namedAt plan (x .ty) ≡ 0 → NamedSets g x 0
-  walk-none h e =
-      let W = walk-begin h in
-      record {
-        only = W .only;
-        all = λ i s I. ⊎-elim (λ t. t) (λ a. absurd (let z = I .named .low in omega arith)) (W .all i s I);
-      }
-
   module _ (O : OneChainEach g) {sets k : ℕ} (W : Walking g x sets k) (n : k ≡ 0 → ⊥) where
     here : Named g (x .ty) k
     here = W .is n
@@ -244,10 +287,7 @@ module _ {g : Goal} {plan : List ℕ} (L : AllLinked g plan) {x : Context} where
     H = L .links (x .ty) k (let z = W .high in omega arith) here
 
     M : MarksOf g k (marksAt plan k)
-    M = L .marks (x .ty) k (let z = W .high in omega arith) here
-
-    pub walk-less : linkAt plan k < k
-    walk-less = H .low
+    M = L .noted (x .ty) k (let z = W .high in omega arith) here .marks
 
     -- of the records up to k, k is asked now, and the others are up to the next
     rest : {next : ℕ} → next ≡ linkAt plan k → {h : ℕ} (I : NamedIn g x h) → I .record-at ≤ k → (I .record-at ≡ k → ⊥) → I .record-at ≤ next
@@ -392,11 +432,3 @@ module _ {g : Goal} (O : OneChainEach g) {x : Context} (role : 1 ≤ x .role) (u
 
   pub sets-joined : ContextSets g x (bitOr (bitOr a b) c)
   sets-joined = record { at = λ h. bit-or (bitOr a b) c h ∙ ap (λ (t : Bool). t || bit c h) (bit-or a b h) ∙ parts h }
-
-  -- where no record names the type and more
-  pub sets-plain : c ≡ 0 → ContextSets g x (bitOr a b)
-  sets-plain e = record { at = λ h. bit-or a b h ∙ sym (or-nothing (bit a h || bit b h)) ∙ ap (λ (t : Bool). (bit a h || bit b h) || t) (sym (ap (λ (m : ℕ). bit m h) e ∙ bit-zero h)) ∙ parts h }
-    where
-      or-nothing : (t : Bool) → (t || false) ≡ t
-      or-nothing true = refl
-      or-nothing false = refl

@@ -14,7 +14,7 @@ use Rattle.plan.specs.inner.Types.{startOf, pairCount, roleAt, userAt, O
 use Rattle.plan.specs.inner.Plan.{PlanCounts}
 
 pub pairs-few : {n : Counts} → PlanCounts n → pairCount n ≤ pairEntries
-pairs-few C = mul-le-mul {n₂ = 15} {m₂ = 15} (C .roles) (C .users)
+pairs-few C = mul-le-mul {n₂ = 15} {m₂ = 15} (omega (arith, C .roles)) (omega (arith, C .users))
 
 -- sums of products, for `omega`
 within-block : (q r u y : ℕ) → q * r * u ≤ y → y < (q + 1) * r * u → y - q * r * u < r * u

@@ -1,34 +1,36 @@
 // Of the permissions of an entry, those that stand for the others: the lowest of those that a search cannot tell apart.
 use crate::regions::EVENTS;
 use crate::regions::FIRST;
+use crate::regions::GROUPS;
 use crate::regions::INS;
 use crate::regions::KEYS;
 use crate::regions::LEADS;
 use crate::regions::OUTS;
+use crate::regions::TYPE_CODES;
 use base::bits::has_bit;
 use base::bits::lowest;
 use base::bits::with_bit;
 use base::bits::without;
 use policy_image::counts::Counts;
-use tables::groups::constraint_groups;
 ghost use mathlib.Core.Path.{_≡_};
 ghost use Prim.Native.Nat.{_≤_, _<_};
 ghost use lib.ListN.{length};
 ghost use Rattle.base.specs.inner.Fill.{Filled};
-ghost use Rattle.policy_image.specs.Policy.{policyOf};
-ghost use Rattle.policy_check.specs.inner.Sound.{Sound};
-ghost use Rattle.plan.specs.inner.Plan.{Ready, Tops, LeadsPut};
+ghost use Rattle.plan.specs.inner.Regions.{classEntries, eventEntries, blockEntries, leadsStart, planEntries};
+ghost use Rattle.plan.specs.inner.Plan.{PlanCounts};
+ghost use Rattle.plan.specs.inner.Put.{Tops, LeadsPut};
 ghost use Rattle.plan.specs.inner.Leads.{likes, WithIf, SameSets, AlikeTable, Leading, EntryLeads};
 
 // The event of process transition, which is like no other.
 const TRANSITION: u32 = 32;
 
-// Whether the permission q of the group is in the same sets of the goal as the event of its class, and is not process transition.
-fn is_like(plan: &[u32], event: u32, group: u32, q: u32) -> bool
-    requires { ⌜ (event < 1024) × (q < 32) × (26368 ≤ length (now plan)) ⌝ }
-    ensures { λ r. ⌜ r ≡ likes (now (plan .entry)) event group q ⌝ }
+// Whether the permission q has the same constraints as the event of its class, is in the same sets of the goal, and is not process
+// transition.
+fn is_like(plan: &[u32], event: u32, q: u32) -> bool
+    requires { ⌜ (event < eventEntries) × (q < 32) × (planEntries ≤ length (now plan)) ⌝ }
+    ensures { λ r. ⌜ r ≡ likes (now (plan .entry)) event q ⌝ }
 {
-    if !has_bit(group, q) {
+    if !has_bit(plan[GROUPS + (event as usize)], q) {
         return false;
     }
     let other = 32 * (event / 32) + q;
@@ -48,32 +50,31 @@ fn with_if(mask: u32, q: u32, yes: bool) -> u32
     if yes { with_bit(mask, q) } else { mask }
 }
 
-// The permissions of the group that are in the same sets of the goal as the event, without process transition.
-fn same_sets(plan: &[u32], event: u32, group: u32) -> u32
-    requires { ⌜ (event < 1024) × (26368 ≤ length (now plan)) ⌝ }
-    ensures { λ r. ⌜ SameSets (now (plan .entry)) event group 32 r ⌝ }
+// All such permissions.
+fn same_sets(plan: &[u32], event: u32) -> u32
+    requires { ⌜ (event < eventEntries) × (planEntries ≤ length (now plan)) ⌝ }
+    ensures { λ r. ⌜ SameSets (now (plan .entry)) event 32 r ⌝ }
 {
     let mut r: u32 = 0;
     let mut q: u32 = 0;
     while q < 32 {
-        r = with_if(r, q, is_like(plan, event, group, q));
+        r = with_if(r, q, is_like(plan, event, q));
         q += 1;
     }
     r
 }
 
 // For each event of the policy's classes, the permissions of its class that a search cannot tell from it.
-fn alike_table(policy: &[u8], classes: u32, plan: &[u32]) -> [u32; 1024]
-    requires { ⌜ Sound (now policy) × (classes ≤ 31) × (26368 ≤ length (now plan)) ⌝ }
-    ensures { λ r. ⌜ AlikeTable (policyOf (now (policy .entry))) (now (plan .entry)) r ⌝ }
+fn alike_table(classes: u32, plan: &[u32]) -> [u32; 1024]
+    requires { ⌜ (classes < classEntries) × (planEntries ≤ length (now plan)) ⌝ }
+    ensures { λ r. ⌜ AlikeTable (now (plan .entry)) r ⌝ }
 {
-    let groups = constraint_groups(policy);
     let mut alike = [0u32; 1024];
     let end = 32 * (classes + 1);
     let mut event = TRANSITION + 1;
     while event < end {
         let at = event as usize;
-        alike[at] = same_sets(plan, event, groups[at]);
+        alike[at] = same_sets(plan, event);
         event += 1;
     }
     alike
@@ -97,12 +98,12 @@ fn leading(alike: &[u32; 1024], class: u32, mask: u32) -> u32
 
 // The leading permissions of the first n entries.
 fn lead_entries(alike: &[u32; 1024], n: usize, plan: &mut [u32])
-    requires { ⌜ (n ≤ 8192) × (34560 ≤ length (now plan)) ⌝ }
-    ensures { λ _. ⌜ Filled (λ j v. EntryLeads (now (alike .entry)) (now (plan .entry)) j v) (now (plan .entry)) (now (plan .exit)) 26368 0 n ⌝ }
+    requires { ⌜ (n ≤ blockEntries) × (planEntries ≤ length (now plan)) ⌝ }
+    ensures { λ _. ⌜ Filled (λ j v. EntryLeads (now (alike .entry)) (now (plan .entry)) j v) (now (plan .entry)) (now (plan .exit)) leadsStart 0 n ⌝ }
 {
     let mut j: usize = 0;
     while j < n {
-        let class = plan[KEYS + j] / 4096 % 32;
+        let class = plan[KEYS + j] / TYPE_CODES % 32;
         let outs = leading(alike, class, plan[OUTS + j]);
         let ins = leading(alike, class, plan[INS + j]);
         plan[LEADS + j] = outs | ins;
@@ -110,12 +111,12 @@ fn lead_entries(alike: &[u32; 1024], n: usize, plan: &mut [u32])
     }
 }
 
-// The leading permissions of all entries. The goal's sets of the events are in the plan.
-pub fn put_leads(policy: &[u8], counts: Counts, plan: &mut [u32])
-    requires { ⌜ Ready (now policy) counts × Tops (counts .types) (now plan) × (34560 ≤ length (now plan)) ⌝ }
-    ensures { λ _. ⌜ LeadsPut (policyOf (now (policy .entry))) (counts .types) (now (plan .entry)) (now (plan .exit)) ⌝ }
+// The leading permissions of all entries. The groups of the events and their sets are in the plan.
+pub fn put_leads(counts: Counts, plan: &mut [u32])
+    requires { ⌜ PlanCounts counts × Tops (counts .types) (now plan) × (planEntries ≤ length (now plan)) ⌝ }
+    ensures { λ _. ⌜ LeadsPut (counts .types) (now (plan .entry)) (now (plan .exit)) ⌝ }
 {
-    let alike = alike_table(policy, counts.classes, plan);
+    let alike = alike_table(counts.classes, plan);
     let last = (counts.types + 1) as usize;
     let n = plan[FIRST + last] as usize;
     lead_entries(&alike, n, plan);

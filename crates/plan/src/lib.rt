@@ -1,7 +1,8 @@
-// The plan of a search: what a call makes of a policy and a goal once, in one slice of numbers, so that a search reads each fact
-// in a few steps.
-pub mod contexts;
+// The plan of a search: what a call makes of a policy, and of a goal over it, once, in one slice of numbers, so that a search reads each
+// fact in a few steps.
 pub mod fill;
+pub mod goal;
+pub mod held;
 pub mod leads;
 pub mod make;
 pub mod named;

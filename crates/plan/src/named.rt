@@ -4,6 +4,9 @@ use crate::fill::put;
 use crate::regions::LINKS;
 use crate::regions::MARKS;
 use crate::regions::NAMED;
+use crate::regions::RECORD_ROLES;
+use crate::regions::RECORD_USERS;
+use crate::regions::RECORDS;
 use goal_image::fields::is_context_chain;
 use goal_image::records::ContextRecord;
 use goal_image::records::context_at;
@@ -86,6 +89,8 @@ fn link(goal: &[u8], k: usize, plan: &mut [u32])
     }
     let head = NAMED + (r.ty as usize);
     plan[MARKS + k] = marks;
+    plan[RECORD_ROLES + k] = r.role;
+    plan[RECORD_USERS + k] = r.user;
     plan[LINKS + k] = plan[head];
     plan[head] = k as u32;
 }
@@ -95,8 +100,9 @@ pub fn put_links(goal: &[u8], plan: &mut [u32])
     requires { ⌜ SoundGoal (now goal) × (planEntries ≤ length (now plan)) ⌝ }
     ensures { λ _. ⌜ LinksPut (goalOf (now (goal .entry))) (now (plan .entry)) (now (plan .exit)) ⌝ }
 {
-    let none = [0u32; TYPES];
-    put(plan, NAMED, TYPES, &none);
+    // no list has a record: the links stand behind the heads
+    let none = [0u32; TYPES + RECORDS];
+    put(plan, NAMED, TYPES + RECORDS, &none);
     let count = (goal.len() - 34) / 8;
     let mut k: usize = 1;
     while k <= count {

@@ -1,35 +1,37 @@
-// The σ sets of a context, by a plan.
+// The σ sets of a context, by the goal's part of a plan.
 use crate::places::first_place;
 use crate::regions::LINKS;
 use crate::regions::MARKS;
 use crate::regions::NAMED;
 use crate::regions::PAIR_SETS;
+use crate::regions::RECORD_ROLES;
+use crate::regions::RECORD_USERS;
 use crate::regions::TYPE_SETS;
 use context::Context;
-use goal_image::records::context_at;
-use goal_image::sets::matches_context;
+use goal_image::sets::fits_field;
 use policy_image::counts::Counts;
+ghost use mathlib.Core.Path.{_≡_};
 ghost use Prim.Native.Nat.{_≤_, _<_};
 ghost use lib.ListN.{length};
 ghost use Rattle.context.specs.inner.Places.{contextAtIndex};
-ghost use Rattle.goal_image.specs.Goal.{goalOf};
-ghost use Rattle.goal_image.specs.inner.Memberships.{ContextSets};
-ghost use Rattle.goal_image.specs.inner.Sound.{SoundGoal};
-ghost use Rattle.plan.specs.inner.Plan.{GoalPlan};
-ghost use Rattle.plan.specs.inner.Regions.{planEntries};
-ghost use Rattle.plan.specs.inner.Types.{OfType};
-ghost use Rattle.plan.specs.inner.Named.{AllLinked, NamedSets};
 ghost use Rattle.tables.specs.inner.Tables.{typeEntries};
+ghost use Rattle.plan.specs.inner.Plan.{PlanCounts};
+ghost use Rattle.plan.specs.inner.Regions.{planEntries};
+ghost use Rattle.plan.specs.inner.Entries.{namedAt};
+ghost use Rattle.plan.specs.inner.Sets.{Falls, listed, setsOf};
+ghost use Rattle.plan.specs.inner.Types.{OfType};
 
 // The sets that x is in by records that name its type together with a role or a user.
-fn named_sets(goal: &[u8], plan: &[u32], x: Context) -> u32
-    requires { ⌜ SoundGoal (now goal) × (planEntries ≤ length (now plan)) × AllLinked (goalOf (now goal)) (now plan) × (1 ≤ x .ty) × (x .ty < typeEntries) ⌝ }
-    ensures { λ r. ⌜ NamedSets (goalOf (now (goal .entry))) x r ⌝ }
+fn named_sets(plan: &[u32], x: Context) -> u32
+    requires { ⌜ Falls (now plan) × (planEntries ≤ length (now plan)) × (x .ty < typeEntries) ⌝ }
+    ensures { λ r. ⌜ r ≡ listed (now (plan .entry)) x (namedAt (now (plan .entry)) (x .ty)) (namedAt (now (plan .entry)) (x .ty)) 0 ⌝ }
 {
     let mut sets: u32 = 0;
     let mut k = plan[NAMED + (x.ty as usize)] as usize;
     while k != 0 {
-        if matches_context(context_at(goal, k), x) {
+        let role = fits_field(plan[RECORD_ROLES + k], x.role);
+        let user = fits_field(plan[RECORD_USERS + k], x.user);
+        if role & user {
             sets = sets | plan[MARKS + k];
         }
         k = plan[LINKS + k] as usize;
@@ -39,9 +41,9 @@ fn named_sets(goal: &[u8], plan: &[u32], x: Context) -> u32
 
 // The sets that the context at place y, of the type, is in. Role and user are worked out only where some record names them with
 // the type.
-pub fn sets_at(goal: &[u8], counts: Counts, plan: &[u32], ty: u32, y: u32) -> u32
-    requires { ⌜ GoalPlan (now goal) counts (now plan) × OfType counts ty y ⌝ }
-    ensures { λ r. ⌜ ContextSets (goalOf (now (goal .entry))) (contextAtIndex counts y) r ⌝ }
+pub fn sets_at(counts: Counts, plan: &[u32], ty: u32, y: u32) -> u32
+    requires { ⌜ PlanCounts counts × Falls (now plan) × (planEntries ≤ length (now plan)) × OfType counts ty y ⌝ }
+    ensures { λ r. ⌜ r ≡ setsOf counts (now (plan .entry)) (contextAtIndex counts y) ⌝ }
 {
     let i = y - first_place(counts, ty);
     let own = ty as usize;
@@ -51,5 +53,5 @@ pub fn sets_at(goal: &[u8], counts: Counts, plan: &[u32], ty: u32, y: u32) -> u3
         return sets;
     }
     let x = Context::new(ty, i / counts.users + 1, i % counts.users + 1);
-    sets | named_sets(goal, plan, x)
+    sets | named_sets(plan, x)
 }

@@ -1,5 +1,4 @@
 pub mod FlowLaws
-pub mod LowestLaws
 pub mod NearestLaws
 pub mod OfferLaws
 pub mod AlikeLaws

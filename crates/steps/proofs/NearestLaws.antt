@@ -1,22 +1,24 @@
 -- The nearest step of a block: entry by entry, up to the first of a class whose steps are all farther.
-use mathlib.Core.Path.{_≡_, refl, sym, _∙_, ap, subst}
+use mathlib.Core.Path.{_≡_, refl, sym, _∙_, ap, ap₂, subst}
 use mathlib.Core.Bool.{Bool, true, false, not, _&&_, _||_}
 use mathlib.Core.List.{List}
 use mathlib.Core.Logic.{_⊎_, inl, inr, ⊎-elim}
 use Prim.Native.Nat.{ℕ, zero, suc, _+_, _*_, _/_, _%_, _^_, _≤_, _<_}
 use native.Mathlib.Nat.{eq-or-lt-of-le}
 use native.Mathlib.Omega.{arith}
-use borrow.Author.Tests.{not-true, not-false}
+use borrow.Author.Tests.{not-true, not-false, eq-eqb, ne-eqb}
 use lib.Bits.{bitAnd, bitOr, and-le-l}
+use lib.Dec.{eqb}
 use lib.ListN.{getD}
 use Rattle.base.specs.Bits.{bit}
-use Rattle.base.proofs.BitLaws.{bit-and, bit-or, bit-ext}
-use Rattle.base.proofs.UptoLaws.{and-true, and-first, or-true, true-or-false}
+use Rattle.base.specs.inner.Masks.{Lowest, With, Without}
+use Rattle.base.proofs.BitLaws.{bit-and, bit-or, bit-ext, bit-zero}
+use Rattle.base.proofs.UptoLaws.{and-true, and-first, or-true, true-or-false, clash}
 use Rattle.base.proofs.Numbers.{split-le, split-eq}
-use Rattle.plan.specs.inner.Plan.{specialAt, keyAt, eventsAt, leadsAt}
+use Rattle.plan.specs.inner.Entries.{specialAt, keyAt, eventsAt, leadsAt}
 use Rattle.steps.specs.declared.nearest.Asker.{Asker}
 use Rattle.steps.specs.declared.nearest.Offer.{Offer}
-use Rattle.steps.specs.inner.Nearest.{firstStep, keyOf, closed, StepBy, EntryStep, OpenStep, AskedMask, Passed, AllPassed, Skipped, Block, Cursor, OfferedAt, Resumes, SameEvent, Nearest}
+use Rattle.steps.specs.inner.Nearest.{firstStep, keyOf, closed, StepBy, OpenStep, AskedMask, Passed, AllPassed, Skipped, Block, Cursor, OfferedAt, Resumes, SameEvent, Nearest}
 
 -- a cursor is one for later steps too
 later : {plan : List ℕ} {lo stop a from to : ℕ} → Cursor plan lo stop a from → from ≤ to → Cursor plan lo stop a to
@@ -76,44 +78,65 @@ all-closed plan a done k mask from few h hb w p t =
           (ap (bit done) (ap (λ (i : ℕ). bitAnd (a .state) (bitOr i (eventsAt plan (32 * (k / 4096) + q) / 2 ^ 7))) w ∙ keeps-all (a .state) (eventsAt plan (32 * (k / 4096) + q) / 2 ^ 7) few) ∙ sym p ∙ t));
     }
 
--- the steps from `from` on and before `at` are closed
-pub record Opening (plan : List ℕ) (a : Asker) (done k mask from at : ℕ) : Type 0 where
-  pub high : at ≤ 4194304
-  pub by : at < 4194304 → StepBy (firstStep k) mask at
-  pub low : from ≤ at
-  pub least : (q : ℕ) → q < 32 → bit mask q ≡ true → from ≤ firstStep k + 4096 * q
-      → (at ≤ firstStep k + 4096 * q) ⊎ (closed a (eventsAt plan (32 * (k / 4096) + q)) done ≡ true)
-
 -- the event of a step
 event-of : (k q : ℕ) → (firstStep k + 4096 * q) / 4096 ≡ 32 * (k / 4096) + q
 event-of k q = omega arith
 
+-- the permissions that are left are of the mask, and the steps from `from` on by the others are closed
+pub record Opening (plan : List ℕ) (a : Asker) (done k mask from left : ℕ) : Type 0 where
+  pub among : (q : ℕ) → bit left q ≡ true → bit mask q ≡ true
+  pub rest : (q : ℕ) → q < 32 → bit mask q ≡ true → from ≤ firstStep k + 4096 * q
+      → (bit left q ≡ true) ⊎ (closed a (eventsAt plan (32 * (k / 4096) + q)) done ≡ true)
+
 module _ {plan : List ℕ} {a : Asker} {done k mask from : ℕ} where
-  pub open-begin : {at : ℕ} → EntryStep k mask from at → Opening plan a done k mask from at
-  open-begin E = record { high = E .high; by = E .by; low = E .low; least = λ q l b f. inl (E .least q l b f) }
+  pub open-begin : Opening plan a done k mask from mask
+  open-begin = record { among = λ q b. b; rest = λ q l b f. inl b }
 
-  pub open-next : {at to : ℕ} {b : Bool} → Opening plan a done k mask from at → b ≡ closed a (eventsAt plan (at / 4096)) done → not b ≡ false
-      → EntryStep k mask (at + 1) to → Opening plan a done k mask from to
-  open-next {at} {to} {b} O p t E =
+  module _ {left p : ℕ} (O : Opening plan a done k mask from left) (L : Lowest left p) where
+    pub open-more : {one left′ : ℕ} → (from ≤ firstStep k + 4096 * p → closed a (eventsAt plan ((firstStep k + 4096 * p) / 4096)) done ≡ true) → With 0 p one
+        → Without left one left′ → Opening plan a done k mask from left′
+    open-more {one} {left′} c I W =
+        record {
+          among = λ q b. O .among q (and-first (bit left q) (not (bit one q)) (sym (W .at q) ∙ b));
+          rest = λ q l b f. ⊎-elim
+              (λ (z : bit left q ≡ true). ⊎-elim
+              (λ (e : p ≡ q). inr (subst (λ (i : ℕ). closed a (eventsAt plan (32 * (k / 4096) + i)) done ≡ true) e
+              (subst (λ (i : ℕ). closed a (eventsAt plan i) done ≡ true) (event-of k p) (c (subst (λ (i : ℕ). from ≤ firstStep k + 4096 * i) (sym e) f)))))
+              (λ (d : p ≡ q → ⊥). inl (W .at q ∙ and-true (bit left q) (not (bit one q)) z (ap not (I .at q ∙ ap₂ (λ (u v : Bool). u || v) (bit-zero q) (ne-eqb p q d)))))
+              (split-eq p q))
+              inr
+              (O .rest q l b f);
+        }
+
+    pub open-less : {one left′ : ℕ} → With 0 p one → Without left one left′ → left′ < left
+    open-less {one} {left′} I W =
+        let off : bit left′ p ≡ false = W .at p ∙ ap₂ (λ (u v : Bool). u && not v) (L .has) (I .at p ∙ or-true (bit 0 p) (eqb p p) (eq-eqb p p refl)) in
+        ⊎-elim (λ (e : left′ ≡ left). absurd (clash (ap (λ (v : ℕ). bit v p) e ∙ L .has) off)) (λ (d : left′ ≡ left → ⊥). omega (arith, d, W .most)) (split-eq left′ left)
+
+    -- the step by the lowest that is left: where it is not below, or not closed, it is the nearest
+    pub open-stop : {below : ℕ} → k < 131072 → from ≤ firstStep k + 4096 * p
+        → (firstStep k + 4096 * p < below → closed a (eventsAt plan ((firstStep k + 4096 * p) / 4096)) done ≡ false) → OpenStep plan a done k mask from below (firstStep k + 4096 * p)
+    open-stop lk f c =
+        record {
+          high = omega (arith, L .small);
+          by = λ _. record { perm = p; small = L .small; bears = O .among p (L .has); is = refl };
+          low = f;
+          unclosed = c;
+          least = λ q l b g. ⊎-elim
+              (λ (z : bit left q ≡ true). inl (⊎-elim (λ (h : p ≤ q). let w : firstStep k + 4096 * p ≤ firstStep k + 4096 * q = omega arith in w) (λ (h : q < p). absurd (L .before q h z)) (split-le p q)))
+              inr
+              (O .rest q l b g);
+        }
+
+  pub open-end : {left below : ℕ} → left ≡ 0 → from ≤ 4194304 → below ≤ 4194304 → Opening plan a done k mask from left → OpenStep plan a done k mask from below 4194304
+  open-end z f g O =
       record {
-        high = E .high;
-        by = E .by;
-        low = omega (arith, O .low, E .low);
-        least = λ q l m f. ⊎-elim
-            (λ (h : at ≤ firstStep k + 4096 * q). ⊎-elim
-            (λ (e : at ≡ firstStep k + 4096 * q). inr (subst (λ (z : ℕ). closed a (eventsAt plan z) done ≡ true) (ap (λ (z : ℕ). z / 4096) e ∙ event-of k q) (sym p ∙ not-false b t)))
-            (λ (g : at < firstStep k + 4096 * q). inl (E .least q l m (omega arith)))
-            (eq-or-lt-of-le h))
-            (λ c. inr c)
-            (O .least q l m f);
+        high = omega arith;
+        by = λ l. absurd (omega arith);
+        low = f;
+        unclosed = λ l. absurd (omega arith);
+        least = λ q l b h. ⊎-elim (λ c. absurd (clash c (ap (λ (v : ℕ). bit v q) z ∙ bit-zero q))) inr (O .rest q l b h);
       }
-
-  pub open-stop : {at : ℕ} {b : Bool} → Opening plan a done k mask from at → b ≡ closed a (eventsAt plan (at / 4096)) done → not b ≡ true
-      → {below : ℕ} → OpenStep plan a done k mask from below at
-  open-stop {b = b} O p t = record { high = O .high; by = O .by; low = O .low; unclosed = λ _. sym p ∙ not-true b t; least = O .least }
-
-  pub open-end : {at below : ℕ} → Opening plan a done k mask from at → below ≤ at → OpenStep plan a done k mask from below at
-  open-end O h = record { high = O .high; by = O .by; low = O .low; unclosed = λ l. absurd (omega arith); least = O .least }
 
 pub asked-all : (plan : List ℕ) (a : Asker) (k mask : ℕ) → AskedMask plan a k mask mask
 asked-all plan a k mask = record { among = λ q b. b; all = λ q b. inl b }

@@ -3,7 +3,7 @@ use Prim.Native.Nat.{ℕ, _+_, _*_, _/_, _%_, _≤_, _<_}
 use mathlib.Core.Bool.{Bool, true, false, not, _&&_, _||_}
 use mathlib.Core.List.{List}
 use mathlib.Core.Logic.{inl, inr, ⊎-elim}
-use mathlib.Core.Path.{_≡_, sym, ap, ap₂, subst, _∙_}
+use mathlib.Core.Path.{_≡_, refl, sym, ap, ap₂, subst, _∙_}
 use native.Mathlib.Omega.{arith}
 use borrow.Author.Tests.{not-true, not-false}
 use lib.Bits.{bitOr}
@@ -15,24 +15,30 @@ use Rattle.base.proofs.BitLaws.{bit-and, bit-or, bit-zero}
 use Rattle.base.proofs.UptoLaws.{or-cases, or-left, or-true, and-true, and-first, and-second, true-or-false, clash}
 use Rattle.policy_image.specs.declared.counts.Counts.{Counts}
 use Rattle.policy_image.specs.Policy.{Policy, policyOf}
+use Rattle.policy_check.specs.inner.Sound.{Sound}
 use Rattle.context.specs.declared.Context.{Context}
 use Rattle.context.specs.declared.Event.{Event}
 use Rattle.context.specs.Codes.{eventAt, eventOf, isTransition}
 use Rattle.context.specs.Ranges.{ContextInRange}
+use Rattle.context.specs.inner.Places.{contextAtIndex}
 use Rattle.relations.specs.Relations.{α, roleChange, writeLike, readLike}
 use Rattle.constraints.specs.Constraints.{constraintsHold}
 use Rattle.access.specs.Authorization.{roleRule, flow}
 use Rattle.goal_model.specs.Images.{meetsρμ}
-use Rattle.plan.specs.inner.Plan.{Ready, specialAt, firstAt, keyAt, outsAt, insAt, guardsAt, leadsAt, special, EntryOf, OfferBlock, Alike, Leader, PolicyPlan}
+use Rattle.plan.specs.inner.Plan.{Ready, special, EntryOf, OfferBlock, Alike, Leader, PolicyPlan, Planned}
+use Rattle.plan.specs.inner.Regions.{blockEntries, eventEntries}
+use Rattle.plan.specs.inner.Types.{OfType}
+use Rattle.plan.proofs.ContextLaws.{meets-at}
+use Rattle.plan.specs.inner.Entries.{specialAt, firstAt, keyAt, outsAt, insAt, guardsAt, leadsAt}
 use Rattle.steps.specs.declared.nearest.Asker.{Asker}
 use Rattle.steps.specs.declared.nearest.Offer.{Offer}
-use Rattle.steps.specs.inner.Nearest.{firstStep, closed, Passed, Block, Cursor, Nearest}
-use Rattle.steps.specs.inner.Steps.{Offering, NextOffer, FirstOffer}
+use Rattle.steps.specs.inner.Nearest.{firstStep, closed, Passed, Block, Nearest, NearestOf, BlockOf}
+use Rattle.steps.specs.inner.Steps.{specialBy, heldBy, Offering, NextOffer, FirstOffer}
 use Rattle.steps.proofs.FlowLaws.{alpha-defined, defined-class, flow-class, flow-held, flow-by, plain-conditions, conditions}
 use Rattle.steps.proofs.NearestLaws.{perm-of, all-passed, none-open}
 use Rattle.steps.proofs.AlikeLaws.{special-same, conditions-same}
 
-module _ {s : List ℕ} {n : Counts} {plan : List ℕ} (R : Ready s n) (P : PolicyPlan s n plan) where
+module _ {s : List ℕ} {n : Counts} {plan : List ℕ} (R : Ready s n) (P : Planned s n plan) where
   abbrev p : Policy
   p = policyOf s
 
@@ -43,10 +49,10 @@ module _ {s : List ℕ} {n : Counts} {plan : List ℕ} (R : Ready s n) (P : Poli
   type-few h = let w = type-in h .high in omega (arith, R .sound .range .types .high)
 
   block-of : {x : Context} → ContextInRange n x → OfferBlock p (x .ty) plan (firstAt plan (x .ty)) (firstAt plan (x .ty + 1))
-  block-of {x} h = P .index .blocks (x .ty) (type-in h)
+  block-of {x} h = P .policy .index .blocks (x .ty) (type-in h)
 
-  pub block-top : {x : Context} → ContextInRange n x → firstAt plan (x .ty + 1) ≤ 8192
-  block-top {x} h = P .index .tops (x .ty) (type-in h)
+  pub block-top : {x : Context} → ContextInRange n x → firstAt plan (x .ty + 1) ≤ blockEntries
+  block-top {x} h = P .policy .index .tops (x .ty) (type-in h)
 
   pub block-order : {x : Context} → ContextInRange n x → firstAt plan (x .ty) ≤ firstAt plan (x .ty + 1)
   block-order h = block-of h .order
@@ -54,15 +60,22 @@ module _ {s : List ℕ} {n : Counts} {plan : List ℕ} (R : Ready s n) (P : Poli
   pub block-law : {x : Context} → ContextInRange n x → Block plan (firstAt plan (x .ty)) (firstAt plan (x .ty + 1))
   block-law {x} h =
       record {
-        size = omega (arith, P .size);
+        size = omega (arith, P .policy .size);
         high = block-top h;
         rising = block-of h .rising;
         small = λ j l k. omega (arith, block-of h .ranged j l k .class .high);
         others = λ j l k. omega (arith, block-of h .ranged j l k .other .high, R .sound .range .types .high);
       }
 
-  pub cursor-start : {x : Context} → ContextInRange n x → Cursor plan (firstAt plan (x .ty)) (firstAt plan (x .ty + 1)) (firstAt plan (x .ty)) 0
-  cursor-start h = record { low = omega arith; high = block-order h; passed = λ j l k. absurd (omega arith) }
+  pub block-of-type : {x : Context} → ContextInRange n x → BlockOf plan (x .ty)
+  block-of-type {x} h =
+      record {
+        type = let z = type-few h in omega arith;
+        order = block-order h;
+        block = block-law h;
+        guards = P .policy .guards (x .ty) (type-in h);
+        among = λ j q l k b. P .leads (x .ty) j (type-in h) l k .among q b;
+      }
 
   module _ {x : Context} (h : ContextInRange n x) where
     h₀ : ContextInRange n x
@@ -216,7 +229,7 @@ module _ {s : List ℕ} {n : Counts} {plan : List ℕ} (R : Ready s n) (P : Poli
       passed-like : (swept : List ℕ) (a : Asker) (e o : ℕ) → e < 1024 → Alike p plan e i → Passed plan swept a e o → Passed plan swept a i o
       passed-like swept a e o le A (inl c) = inl (subst (λ (k : ℕ). closed a k (getD swept o 0) ≡ true) (A .sets) c)
       passed-like swept a e o le A (inr c) =
-          inr (c .0, P .tables .special-at (i / 32) (i % 32) small ∙ sym (special-same A) ∙ sym (P .tables .special-at (e / 32) (e % 32) (omega arith)) ∙ c .1)
+          inr (c .0, P .policy .tables .special-at (i / 32) (i % 32) small ∙ sym (special-same A) ∙ sym (P .policy .tables .special-at (e / 32) (e % 32) (omega arith)) ∙ c .1)
 
     pub next-law : {swept : List ℕ} {a : Asker} {from : ℕ} {r : Offer} → Nearest plan swept a lo hi from r → NextOffer p plan swept a x from r
     next-law {swept} {a} {from} {r} N =
@@ -252,28 +265,34 @@ module _ {s : List ℕ} {n : Counts} {plan : List ℕ} (R : Ready s n) (P : Poli
     pub first-law : {swept : List ℕ} {a : Asker} {r : Offer} → Nearest plan swept a lo hi 0 r → FirstOffer p plan swept a x r
     first-law N = record { next = next-law N; shut = all-passed (block-law h₀) N }
 
-    -- no entry has a special permission, and the others are done
-    pub none-special : {swept : List ℕ} {a : Asker} {group entry : ℕ} → a .spent ≡ true → guardsAt plan (x .ty) ≡ 0
-        → FirstOffer p plan swept a x (record { group = group; entry = entry; at = 4194304 })
-    none-special {swept} {a} {group} {entry} spent z₀ = first-law (none-open group entry (record { each = each }))
-      where
-        each : (j q : ℕ) → lo ≤ j → j < hi → q < 32 → bit (leadsAt plan j) q ≡ true → Passed plan swept a (32 * (keyAt plan j / 4096) + q) (keyAt plan j % 4096)
-        each j q l k lq b =
-            let small = block-law h₀ .small j l k in
-            let class : keyAt plan j / 4096 % 32 ≡ (32 * (keyAt plan j / 4096) + q) / 32 = omega arith in
-            ⊎-elim
-            (λ (t : bit (specialAt plan (keyAt plan j / 4096 % 32)) q ≡ true).
-            absurd (clash (P .guards (x .ty) (type-in h₀) .at j q l k
-            (bit-and (bitOr (outsAt plan j) (insAt plan j)) (specialAt plan (keyAt plan j / 4096 % 32)) q
-            ∙ and-true (bit (bitOr (outsAt plan j) (insAt plan j)) q) (bit (specialAt plan (keyAt plan j / 4096 % 32)) q) (bears j q l k lq b) t))
-            (ap (λ (v : ℕ). bit v q) z₀ ∙ bit-zero q)))
-            (λ (f : bit (specialAt plan (keyAt plan j / 4096 % 32)) q ≡ false).
-            inr (unasked class f))
-            (true-or-false (bit (specialAt plan (keyAt plan j / 4096 % 32)) q))
-          where
-            unasked : keyAt plan j / 4096 % 32 ≡ (32 * (keyAt plan j / 4096) + q) / 32 → bit (specialAt plan (keyAt plan j / 4096 % 32)) q ≡ false
-                → (a .spent ≡ true) × (bit (specialAt plan ((32 * (keyAt plan j / 4096) + q) / 32)) ((32 * (keyAt plan j / 4096) + q) % 32) ≡ false)
-            unasked c f = (spent, ap₂ (λ (u v : ℕ). bit (specialAt plan u) v) (sym c) (sym (perm-of (keyAt plan j / 4096) q lq)) ∙ f)
+-- no entry has a special permission, and the others are done
+pub none-special : {plan swept : List ℕ} {t : ℕ} {a : Asker} {group entry : ℕ} → BlockOf plan t → a .spent ≡ true → guardsAt plan t ≡ 0
+    → NearestOf plan swept a t 0 (record { group = group; entry = entry; at = 4194304 })
+none-special {plan} {swept} {t} {a} {group} {entry} B spent z₀ = none-open group entry (record { each = each })
+  where
+    unasked : (j q : ℕ) → q < 32 → keyAt plan j / 4096 % 32 ≡ (32 * (keyAt plan j / 4096) + q) / 32 → bit (specialAt plan (keyAt plan j / 4096 % 32)) q ≡ false
+        → (a .spent ≡ true) × (bit (specialAt plan ((32 * (keyAt plan j / 4096) + q) / 32)) ((32 * (keyAt plan j / 4096) + q) % 32) ≡ false)
+    unasked j q lq c f = (spent, ap₂ (λ (u v : ℕ). bit (specialAt plan u) v) (sym c) (sym (perm-of (keyAt plan j / 4096) q lq)) ∙ f)
+
+    each : (j q : ℕ) → firstAt plan t ≤ j → j < firstAt plan (t + 1) → q < 32 → bit (leadsAt plan j) q ≡ true → Passed plan swept a (32 * (keyAt plan j / 4096) + q) (keyAt plan j % 4096)
+    each j q l k lq b =
+        let small = B .block .small j l k in
+        let class : keyAt plan j / 4096 % 32 ≡ (32 * (keyAt plan j / 4096) + q) / 32 = omega arith in
+        ⊎-elim
+        (λ (t : bit (specialAt plan (keyAt plan j / 4096 % 32)) q ≡ true).
+        absurd (clash (B .guards .at j q l k
+        (bit-and (bitOr (outsAt plan j) (insAt plan j)) (specialAt plan (keyAt plan j / 4096 % 32)) q
+        ∙ and-true (bit (bitOr (outsAt plan j) (insAt plan j)) q) (bit (specialAt plan (keyAt plan j / 4096 % 32)) q) (B .among j q l k b) t))
+        (ap (λ (v : ℕ). bit v q) z₀ ∙ bit-zero q)))
+        (λ (f : bit (specialAt plan (keyAt plan j / 4096 % 32)) q ≡ false). inr (unasked j q lq class f))
+        (true-or-false (bit (specialAt plan (keyAt plan j / 4096 % 32)) q))
+
+-- what the plan says of special events, of ρ and μ, the policy says
+pub special-is : {s : List ℕ} {n : Counts} {plan : List ℕ} {e : ℕ} → PolicyPlan s n plan → e < eventEntries → specialBy plan e ≡ special (policyOf s) (eventOf e)
+special-is {e = e} P h = P .tables .special-at (e / 32) (e % 32) (omega arith)
+
+pub held-is : {s : List ℕ} {n : Counts} {plan : List ℕ} {o y : ℕ} → PolicyPlan s n plan → OfType n o y → heldBy n plan o y ≡ meetsρμ (policyOf s) (contextAtIndex n y)
+held-is P H = meets-at P H refl
 
 -- ---- whether a step that an entry offers flows
 yes-then : (a b c d : Bool) → c ≡ true → d ≡ true → (a || b) ≡ true → ((a && c) || (b && d)) ≡ true
@@ -323,8 +342,8 @@ roles-few {s} {n} {x} R h =
     let o : n .roles ≤ 15 = subst (λ (k : Counts). k .roles ≤ 15) (sym (R .same)) (R .sound .range .roles .high) in
     omega (arith, h .role .high)
 
-pub event-few : {s : List ℕ} {n : Counts} {plan : List ℕ} {t e o entry : ℕ} → Ready s n → Offering (policyOf s) plan t e o entry → e < 1024
-event-few R O = omega (arith, O .event .high, R .sound .range .classes .high)
+pub event-few : {s : List ℕ} {plan : List ℕ} {t e o entry : ℕ} → Sound s → Offering (policyOf s) plan t e o entry → e < eventEntries
+event-few S O = omega (arith, O .event .high, S .range .classes .high)
 
 module _ {p : Policy} {plan : List ℕ} {e entry : ℕ} (x y : Context) (hx : meetsρμ p x ≡ true) (hy : meetsρμ p y ≡ true) (O : Offering p plan (x .ty) e (y .ty) entry) where
   module _ {m r : Bool} (hm : m ≡ bit (outsAt plan entry) (e % 32)) (h : r ≡ (m && conditions p (eventOf e) x y)) where

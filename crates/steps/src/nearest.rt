@@ -1,19 +1,28 @@
-// The nearest step that a block of a plan offers. A step is an event and the type of its target, as one number, 4096 * event + type,
+// The nearest step that a block of a plan offers. A step is an event and the type of its target, as one number, TYPE_CODES * event + type,
 // so that steps rise by event and then by type.
 use base::bits::has_bit;
 use base::bits::has_member;
 use base::bits::lowest;
+use base::bits::with_bit;
+use base::bits::without;
+use goal_image::sets::EVENT_CHAINS;
+use goal_image::sets::EXCEPTED_EVENTS;
 use plan::regions::EVENTS;
 use plan::regions::KEYS;
 use plan::regions::LEADS;
 use plan::regions::SPECIAL;
+use plan::regions::TYPE_CODES;
 ghost use mathlib.Core.Path.{_≡_};
 ghost use Prim.Native.Nat.{_+_, _≤_, _<_};
 ghost use lib.ListN.{length};
-ghost use Rattle.steps.specs.inner.Nearest.{keyOf, closed, LowestStep, EntryStep, OpenStep, AskedMask, Skipped, Block, Cursor, OfferedAt, Resumes, SameEvent, Nearest};
+ghost use Rattle.plan.specs.inner.Regions.{blockEntries, planEntries};
+ghost use Rattle.steps.specs.inner.Nearest.{noStep, keyCodes, stateCodes, keyOf, closed, OpenStep, AskedMask, Skipped, Block, Cursor, OfferedAt, Resumes, SameEvent, Nearest};
 
 // No step: a number above every step's.
-pub const NONE: u32 = 4194304;
+pub const NONE: u32 = 1024 * TYPE_CODES;
+
+// The steps by the permissions of one class.
+const CLASS_STEPS: u32 = 32 * TYPE_CODES;
 
 // All bits of a state: where every event keeps them, one test closes all steps of an entry.
 const WHOLE: u32 = 63;
@@ -36,55 +45,28 @@ pub struct Asker {
 pub fn key_of(a: Asker, by: u32) -> u32
     ensures { λ r. ⌜ r ≡ keyOf a by ⌝ }
 {
-    a.state & (a.keeps | (by >> 7))
+    a.state & (a.keeps | (by >> EVENT_CHAINS))
 }
 
 // Whether an event in the sets by needs no asking: it is in γe, or what it keeps of the state is in the set of those that are done.
 fn is_closed(a: Asker, by: u32, done: u64) -> bool
-    requires { ⌜ a .state < 64 ⌝ }
+    requires { ⌜ a .state < stateCodes ⌝ }
     ensures { λ r. ⌜ r ≡ closed a by done ⌝ }
 {
-    if has_bit(by, 14) {
+    if has_bit(by, EXCEPTED_EVENTS) {
         return true;
     }
     has_member(done, key_of(a, by))
 }
 
-// The step by the lowest permission of the mask from perm on; first is the step by permission 0.
-fn lowest_step(first: u32, mask: u32, perm: u32) -> u32
-    requires { ⌜ first < 4067328 ⌝ }
-    ensures { λ r. ⌜ LowestStep first mask perm r ⌝ }
-{
-    if 31 < perm {
-        return NONE;
-    }
-    let left = mask >> perm;
-    if left == 0 {
-        return NONE;
-    }
-    first + 4096 * (perm + lowest(left))
-}
-
-// The nearest step of an entry from a step on.
-fn entry_step(key: u32, mask: u32, from: u32) -> u32
-    requires { ⌜ (key < 131072) × (from ≤ 4194304) ⌝ }
-    ensures { λ r. ⌜ EntryStep key mask from r ⌝ }
-{
-    let first = 131072 * (key / 4096) + key % 4096;
-    if from <= first {
-        return lowest_step(first, mask, 0);
-    }
-    lowest_step(first, mask, (from - first + 4095) / 4096)
-}
-
 // The first entry from a on whose class is not below the class.
 fn skip(plan: &[u32], stop: usize, a: usize, class: u32) -> usize
-    requires { ⌜ (a ≤ stop) × (stop ≤ 8192) × (26368 ≤ length (now plan)) ⌝ }
+    requires { ⌜ (a ≤ stop) × (stop ≤ blockEntries) × (planEntries ≤ length (now plan)) ⌝ }
     ensures { λ r. ⌜ Skipped (now (plan .entry)) stop a class r ⌝ }
 {
     let mut j = a;
     while j < stop {
-        if class <= plan[KEYS + j] / 4096 {
+        if class <= plan[KEYS + j] / TYPE_CODES {
             return j;
         }
         j += 1;
@@ -94,7 +76,7 @@ fn skip(plan: &[u32], stop: usize, a: usize, class: u32) -> usize
 
 // The nearest step of an entry from a step on that is not closed. Those not below a step are of no use, and none of them is tested.
 fn open_step(plan: &[u32], a: Asker, done: u64, key: u32, mask: u32, from: u32, below: u32) -> u32
-    requires { ⌜ (a .state < 64) × (26368 ≤ length (now plan)) × (key < 131072) × (from ≤ 4194304) × (below ≤ 4194304) ⌝ }
+    requires { ⌜ (a .state < stateCodes) × (planEntries ≤ length (now plan)) × (key < keyCodes) × (from ≤ noStep) × (below ≤ noStep) ⌝ }
     ensures { λ r. ⌜ OpenStep (now (plan .entry)) a done key mask from below r ⌝ }
 {
     if a.keeps == WHOLE {
@@ -102,25 +84,31 @@ fn open_step(plan: &[u32], a: Asker, done: u64, key: u32, mask: u32, from: u32, 
             return NONE;
         }
     }
-    let first = 131072 * (key / 4096) + key % 4096;
-    let mut at = entry_step(key, mask, from);
-    while at < below {
-        let e = at / 4096;
-        if !is_closed(a, plan[EVENTS + (e as usize)], done) {
-            return at;
+    let first = CLASS_STEPS * (key / TYPE_CODES) + key % TYPE_CODES;
+    let mut left = mask;
+    while left != 0 {
+        let q = lowest(left);
+        let at = first + TYPE_CODES * q;
+        if from <= at {
+            if below <= at {
+                return at;
+            }
+            if !is_closed(a, plan[EVENTS + ((at / TYPE_CODES) as usize)], done) {
+                return at;
+            }
         }
-        at = lowest_step(first, mask, e % 32 + 1);
+        left = without(left, with_bit(0, q));
     }
-    at
+    NONE
 }
 
 // The permissions of an entry that are asked for: only those with conditions where the others are done.
 fn asked_mask(plan: &[u32], a: Asker, key: u32, mask: u32) -> u32
-    requires { ⌜ (26368 ≤ length (now plan)) × (key < 131072) ⌝ }
+    requires { ⌜ (planEntries ≤ length (now plan)) × (key < keyCodes) ⌝ }
     ensures { λ r. ⌜ AskedMask (now (plan .entry)) a key mask r ⌝ }
 {
     if a.spent {
-        let class = (key / 4096) as usize;
+        let class = (key / TYPE_CODES) as usize;
         return mask & plan[SPECIAL + class];
     }
     mask
@@ -136,23 +124,23 @@ pub fn nearest(
     group: usize,
     from: u32,
 ) -> Offer
-    requires { ⌜ (a .state < 64) × Block (now plan) lo stop × Cursor (now plan) lo stop group from × (from ≤ 4194304) ⌝ }
+    requires { ⌜ (a .state < stateCodes) × Block (now plan) lo stop × Cursor (now plan) lo stop group from × (from ≤ noStep) ⌝ }
     ensures { λ r. ⌜ Nearest (now (plan .entry)) (now (swept .entry)) a lo stop from r ⌝ }
 {
-    let start = skip(plan, stop, group, from / 131072);
+    let start = skip(plan, stop, group, from / CLASS_STEPS);
     let mut at = NONE;
     let mut entry = start;
     let mut j = start;
     while j < stop {
         let key = plan[KEYS + j];
-        if at < 131072 * (key / 4096) {
+        if at < CLASS_STEPS * (key / TYPE_CODES) {
             return Offer {
                 group: start,
                 entry: entry,
                 at: at,
             };
         }
-        let other = (key % 4096) as usize;
+        let other = (key % TYPE_CODES) as usize;
         let mask = asked_mask(plan, a, key, plan[LEADS + j]);
         let step = open_step(plan, a, swept[other], key, mask, from, at);
         if step < at {
@@ -179,19 +167,19 @@ fn same_event(
     entry: usize,
     at: u32,
 ) -> usize
-    requires { ⌜ (a .state < 64) × Block (now plan) lo stop × OfferedAt (now plan) lo stop entry at × (at < 4194304) ⌝ }
+    requires { ⌜ (a .state < stateCodes) × Block (now plan) lo stop × OfferedAt (now plan) lo stop entry at × (at < noStep) ⌝ }
     ensures { λ r. ⌜ SameEvent (now (plan .entry)) (now (swept .entry)) a stop entry at r ⌝ }
 {
-    let e = at / 4096;
+    let e = at / TYPE_CODES;
     let by = plan[EVENTS + (e as usize)];
     let mut j = entry + 1;
     while j < stop {
         let key = plan[KEYS + j];
-        if key / 4096 != at / 131072 {
+        if key / TYPE_CODES != at / CLASS_STEPS {
             return stop;
         }
         if has_bit(plan[LEADS + j], e % 32) {
-            let other = (key % 4096) as usize;
+            let other = (key % TYPE_CODES) as usize;
             if !is_closed(a, by, swept[other]) {
                 return j;
             }
@@ -211,17 +199,17 @@ pub fn nearest_after(
     stop: usize,
     offer: Offer,
 ) -> Offer
-    requires { ⌜ (a .state < 64) × Block (now plan) lo stop × Resumes (now plan) lo stop offer ⌝ }
+    requires { ⌜ (a .state < stateCodes) × Block (now plan) lo stop × Resumes (now plan) lo stop offer ⌝ }
     ensures { λ r. ⌜ Nearest (now (plan .entry)) (now (swept .entry)) a lo stop (offer .at + 1) r ⌝ }
 {
-    let e = offer.at / 4096;
+    let e = offer.at / TYPE_CODES;
     let entry = same_event(plan, swept, a, lo, stop, offer.entry, offer.at);
     if entry < stop {
         return Offer {
             group: offer.group,
             entry: entry,
-            at: 4096 * e + plan[KEYS + entry] % 4096,
+            at: TYPE_CODES * e + plan[KEYS + entry] % TYPE_CODES,
         };
     }
-    nearest(plan, swept, a, lo, stop, offer.group, 4096 * (e + 1))
+    nearest(plan, swept, a, lo, stop, offer.group, TYPE_CODES * (e + 1))
 }

@@ -13,7 +13,8 @@ use plan::regions::SPECIAL;
 use policy_image::counts::Counts;
 ghost use mathlib.Core.Path.{_≡_};
 ghost use mathlib.Core.Bool.{true, _&&_};
-ghost use Prim.Native.Nat.{_<_};
+ghost use Prim.Native.Nat.{_≤_, _<_};
+ghost use lib.ListN.{length};
 ghost use Rattle.policy_image.specs.Policy.{policyOf};
 ghost use Rattle.context.specs.Codes.{eventOf};
 ghost use Rattle.context.specs.Ranges.{ContextInRange};
@@ -21,30 +22,24 @@ ghost use Rattle.context.specs.inner.Places.{contextCount, contextAtIndex};
 ghost use Rattle.access.specs.Authorization.{roleRule, flow};
 ghost use Rattle.constraints.specs.Constraints.{constraintsHold};
 ghost use Rattle.goal_model.specs.Images.{meetsρμ};
-ghost use Rattle.plan.specs.inner.Plan.{Ready, PolicyPlan, special};
+ghost use Rattle.policy_check.specs.inner.Sound.{Sound};
+ghost use Rattle.plan.specs.inner.Plan.{Ready, PlanCounts, PolicyPlan};
+ghost use Rattle.plan.specs.inner.Regions.{roleEntries, eventEntries, planEntries};
 ghost use Rattle.plan.specs.inner.Types.{OfType};
-ghost use Rattle.steps.specs.inner.Steps.{Offering, Facing};
+ghost use Rattle.steps.specs.inner.Steps.{specialBy, heldBy, Conditions, Offering, Facing};
 
 // Whether the event is one whose flow depends on more than types, ρ and μ.
-pub fn is_special(policy: &[u8], counts: Counts, plan: &[u32], event: u32) -> bool
-    requires { ⌜ PolicyPlan (now policy) counts (now plan) × (event < 1024) ⌝ }
-    ensures { λ r. ⌜ r ≡ special (policyOf (now (policy .entry))) (eventOf event) ⌝ }
+pub fn is_special(plan: &[u32], event: u32) -> bool
+    requires { ⌜ (planEntries ≤ length (now plan)) × (event < eventEntries) ⌝ }
+    ensures { λ r. ⌜ r ≡ specialBy (now (plan .entry)) event ⌝ }
 {
     let class = (event / 32) as usize;
     has_bit(plan[SPECIAL + class], event % 32)
 }
 
 // Whether the event may be, by types, ρ and μ, and the constraints on it and the role rule hold: x acts, y is acted on.
-fn may_act(
-    policy: &[u8],
-    counts: Counts,
-    plan: &[u32],
-    event: u32,
-    may: bool,
-    x: Context,
-    y: Context,
-) -> bool
-    requires { ⌜ Ready (now policy) counts × PolicyPlan (now policy) counts (now plan) × (event < 1024) × (x .role < 16) × (y .role < 16) ⌝ }
+fn may_act(policy: &[u8], plan: &[u32], event: u32, may: bool, x: Context, y: Context) -> bool
+    requires { ⌜ Sound (now policy) × Conditions (policyOf (now policy)) (now plan) × (event < eventEntries) × (x .role < roleEntries) × (y .role < roleEntries) ⌝ }
     ensures { λ r. ⌜ r ≡ (may && (constraintsHold (policyOf (now (policy .entry))) (eventOf event) x y && roleRule (policyOf (now (policy .entry))) (eventOf event) x y)) ⌝ }
 {
     if !may {
@@ -62,31 +57,23 @@ fn may_act(
 }
 
 // Whether the event flows from x to y, both of which meet ρ and μ: the entry says which way it may.
-fn flows_by(
-    policy: &[u8],
-    counts: Counts,
-    plan: &[u32],
-    event: u32,
-    entry: usize,
-    x: Context,
-    y: Context,
-) -> bool
-    requires { ⌜ Ready (now policy) counts × PolicyPlan (now policy) counts (now plan) × ContextInRange counts x × ContextInRange counts y × (meetsρμ (policyOf (now policy)) x ≡ true) × (meetsρμ (policyOf (now policy)) y ≡ true) × Offering (policyOf (now policy)) (now plan) (x .ty) event (y .ty) entry ⌝ }
+fn flows_by(policy: &[u8], plan: &[u32], event: u32, entry: usize, x: Context, y: Context) -> bool
+    requires { ⌜ Sound (now policy) × Conditions (policyOf (now policy)) (now plan) × (x .role < roleEntries) × (y .role < roleEntries) × (meetsρμ (policyOf (now policy)) x ≡ true) × (meetsρμ (policyOf (now policy)) y ≡ true) × Offering (policyOf (now policy)) (now plan) (x .ty) event (y .ty) entry ⌝ }
     ensures { λ r. ⌜ r ≡ flow (policyOf (now (policy .entry))) (eventOf event) x y ⌝ }
 {
     let perm = event % 32;
     let out = has_bit(plan[OUTS + entry], perm);
-    if may_act(policy, counts, plan, event, out, x, y) {
+    if may_act(policy, plan, event, out, x, y) {
         return true;
     }
     let back = has_bit(plan[INS + entry], perm);
-    may_act(policy, counts, plan, event, back, y, x)
+    may_act(policy, plan, event, back, y, x)
 }
 
 // Whether the context at place y, of the type, meets ρ and μ.
-pub fn is_held(policy: &[u8], counts: Counts, plan: &[u32], ty: u32, y: u32) -> bool
-    requires { ⌜ PolicyPlan (now policy) counts (now plan) × OfType counts ty y ⌝ }
-    ensures { λ r. ⌜ r ≡ meetsρμ (policyOf (now (policy .entry))) (contextAtIndex counts y) ⌝ }
+pub fn is_held(counts: Counts, plan: &[u32], ty: u32, y: u32) -> bool
+    requires { ⌜ PlanCounts counts × (planEntries ≤ length (now plan)) × OfType counts ty y ⌝ }
+    ensures { λ r. ⌜ r ≡ heldBy counts (now (plan .entry)) ty y ⌝ }
 {
     let own = ROLES + (ty as usize);
     let pair = HOLDERS + ((y - first_place(counts, ty)) as usize);
@@ -110,13 +97,5 @@ pub fn is_target(
     if !guarded {
         return true;
     }
-    flows_by(
-        policy,
-        counts,
-        plan,
-        event,
-        entry,
-        x,
-        Context::at(y, counts),
-    )
+    flows_by(policy, plan, event, entry, x, Context::at(y, counts))
 }

@@ -51,7 +51,7 @@ pub sides-at : {l l′ : List ℕ} {mask first at : ℕ} → first ≡ at → Fi
 sides-at {l} {l′} {mask} e F = subst (λ (k : ℕ). Filled (λ q v. OnSide (getD l (k + q) 0) mask q v) l l′ k 0 32) e F
 
 -- every permission is in the mask of all
-all-in : (i : ℕ) → i < 32 → bit 4294967295 i ≡ true
+pub all-in : (i : ℕ) → i < 32 → bit 4294967295 i ≡ true
 unfolding bit
 all-in i h =
     subst (λ (k : ℕ). bit 4294967295 k ≡ true) (let e : i + 1 - 1 ≡ i = omega arith in e) (all-at (λ k. bit 4294967295 (k - 1)) 32 (i + 1) refl (omega arith) (omega arith))

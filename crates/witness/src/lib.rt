@@ -1,4 +1,3 @@
-// The path that is shown for a goal that does not hold, and the verdict that it belongs to.
+// The path to the end that a search found.
 pub mod path;
 pub mod step;
-pub mod verdict;

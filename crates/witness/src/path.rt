@@ -1,19 +1,16 @@
 // The path to the end that a search found, written from that end by the links that the search left.
 use crate::step::least_event;
 use context::Context;
-use goal_image::check::Legs;
-use nodes::arrival::states_of;
-use nodes::monitor::Mode;
+use nodes::task::Task;
+use nodes::task::states_of;
 use policy_image::counts::Counts;
 use search::levels::Found;
 ghost use mathlib.Core.Path.{_≡_};
 ghost use Prim.Native.Nat.{_+_, _*_, _≤_};
 ghost use lib.ListN.{length};
-ghost use Rattle.goal_model.specs.Images.{model};
-ghost use Rattle.plan.specs.inner.Plan.{Planned};
 ghost use Rattle.nodes.specs.inner.Graph.{FoundAt};
 ghost use Rattle.nodes.specs.inner.Nodes.{codeOf};
-ghost use Rattle.nodes.specs.inner.Tasks.{Task, graphOf};
+ghost use Rattle.nodes.specs.inner.Tasks.{Given, modelBy, graphOf};
 ghost use Rattle.witness.specs.inner.Shown.{Shown, FoundEnd, stepsTo, NodeIn};
 
 // The code of a node's context.
@@ -27,11 +24,8 @@ fn code_of(counts: Counts, states: u32, v: u32) -> u32
 // Writes the path that ends with the step from node u by the event to node v, after d steps from a start to u.
 fn write_path(
     policy: &[u8],
-    goal: &[u8],
-    counts: Counts,
     plan: &[u32],
-    legs: Legs,
-    mode: Mode,
+    task: Task,
     u: u32,
     event: u32,
     v: u32,
@@ -39,10 +33,11 @@ fn write_path(
     back: &[u32],
     path: &mut [u32],
 )
-    requires { ⌜ Task (now policy) (now goal) counts legs × Planned (now policy) (now goal) counts (now plan) × FoundAt (graphOf (now policy) (now goal) counts mode) (now back) u event v d × (graphOf (now policy) (now goal) counts mode .k ≤ length (now back)) × (2 * (d + 1) + 1 ≤ length (now path)) ⌝ }
-    ensures { λ _. ⌜ Shown (model (now (policy .entry)) (now (goal .entry))) mode (d + 1) (now (path .entry)) (now (path .exit)) ⌝ }
+    requires { ⌜ Given (now policy) (now plan) task × FoundAt (graphOf (now policy) (now plan) task) (now back) u event v d × (graphOf (now policy) (now plan) task .k ≤ length (now back)) × (2 * (d + 1) + 1 ≤ length (now path)) ⌝ }
+    ensures { λ _. ⌜ Shown (modelBy (now (policy .entry)) (now (plan .entry)) task) (task .mode) (d + 1) (now (path .entry)) (now (path .exit)) ⌝ }
 {
-    let states = states_of(legs);
+    let counts = task.counts;
+    let states = states_of(task);
     let mut i = d as usize + 1;
     path[2 * i] = code_of(counts, states, v);
     let mut w = u;
@@ -57,42 +52,29 @@ fn write_path(
         let next = w;
         let at = next as usize;
         w = back[at] - 1;
-        e = least_event(policy, goal, counts, plan, legs, mode, w, next);
+        e = least_event(policy, plan, task, w, next);
     }
 }
 
 // Writes the path to the end that a search found.
-pub fn show(
-    policy: &[u8],
-    goal: &[u8],
-    counts: Counts,
-    plan: &[u32],
-    legs: Legs,
-    mode: Mode,
-    found: Found,
-    back: &[u32],
-    path: &mut [u32],
-)
-    requires { ⌜ Task (now policy) (now goal) counts legs × Planned (now policy) (now goal) counts (now plan) × FoundEnd (now policy) (now goal) counts mode (now back) found × (graphOf (now policy) (now goal) counts mode .k ≤ length (now back)) × (2 * stepsTo found + 1 ≤ length (now path)) ⌝ }
-    ensures { λ _. ⌜ Shown (model (now (policy .entry)) (now (goal .entry))) mode (stepsTo found) (now (path .entry)) (now (path .exit)) ⌝ }
+pub fn show(policy: &[u8], plan: &[u32], task: Task, found: Found, back: &[u32], path: &mut [u32])
+    requires { ⌜ Given (now policy) (now plan) task × FoundEnd (now policy) (now plan) task (now back) found × (graphOf (now policy) (now plan) task .k ≤ length (now back)) × (2 * stepsTo found + 1 ≤ length (now path)) ⌝ }
+    ensures { λ _. ⌜ Shown (modelBy (now (policy .entry)) (now (plan .entry)) task) (task .mode) (stepsTo found) (now (path .entry)) (now (path .exit)) ⌝ }
 {
     match found {
         Found::Nothing => {}
         Found::Start(x) => {
             path[0] = x;
         }
-        Found::At(u, e, v, d) => {
+        Found::At(last) => {
             write_path(
                 policy,
-                goal,
-                counts,
                 plan,
-                legs,
-                mode,
-                u,
-                e,
-                v,
-                d,
+                task,
+                last.from,
+                last.event,
+                last.to,
+                last.depth,
                 back,
                 path,
             );

@@ -24,6 +24,9 @@ pub struct Declaration {
 
 #[derive(Debug, Default)]
 pub struct RattleFile {
+    /// the modules that it declares with no `pub`, and whether it passes on by `pub use`
+    pub private_modules: Vec<String>,
+    pub passes_on: bool,
     pub functions: Vec<Function>,
     pub declarations: Vec<Declaration>,
     /// paths of `use` lines, with the name that each gets here: `[policy_image, counts, Counts]`
@@ -124,8 +127,14 @@ impl RattleFile {
             let public = words.first() == Some(&"pub");
             let after = |word: &str| words.iter().position(|w| *w == word).and_then(|at| words.get(at + 1).copied());
             match words.get(public as usize).copied() {
-                Some("use") => self.use_line(&head[head.find("use").unwrap_or(0) + 3..]),
+                Some("use") => {
+                    self.passes_on |= public;
+                    self.use_line(&head[head.find("use").unwrap_or(0) + 3..]);
+                }
                 Some("ghost") => self.ghost_uses.push(head.trim_end_matches(';').replacen("ghost ", "", 1)),
+                Some("mod") if !public && item.body.is_empty() => {
+                    self.private_modules.push(after("mod").unwrap_or("").to_string())
+                }
                 Some("impl" | "mod") => self.items(&item.body),
                 Some(kind @ ("struct" | "enum")) => self.declaration(kind, after(kind).unwrap_or(""), &head, &item.body),
                 Some("fn" | "extern") => self.function(after("fn").unwrap_or(""), public, head.clone(), item.clauses),

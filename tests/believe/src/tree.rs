@@ -6,7 +6,7 @@ use std::collections::BTreeMap;
 use std::fs;
 use std::path::Path;
 
-/// The crate whose `pub` functions are the outward calls.
+/// The crate whose `pub` functions are the outward calls, but for those of modules that it keeps to itself.
 pub const OUTWARD: &str = "flowgoal";
 
 pub struct Tree {
@@ -59,10 +59,19 @@ impl Tree {
         Tree { specs, code, page, readme }
     }
 
-    /// The files of the outward crate's code.
+    /// The files of the outward crate's code that another crate can name: all, where some file passes anything on by `pub use`.
     pub fn outward(&self) -> impl Iterator<Item = (&String, &RattleFile)> {
         let folder = format!("crates/{OUTWARD}/src/");
-        self.code.iter().filter(move |(path, _)| path.starts_with(&folder))
+        let own = move |path: &str| path.starts_with(&folder);
+        let of_crate: Vec<_> = self.code.iter().filter(|(path, _)| own(path)).collect();
+        let passes_on = of_crate.iter().any(|(_, file)| file.passes_on);
+        let private: Vec<String> = of_crate
+            .iter()
+            .filter(|(path, _)| path.ends_with("/src/lib.rt"))
+            .flat_map(|(_, file)| &file.private_modules)
+            .flat_map(|name| [format!("/src/{name}.rt"), format!("/src/{name}/")])
+            .collect();
+        of_crate.into_iter().filter(move |(path, _)| passes_on || !private.iter().any(|part| path.contains(part.as_str())))
     }
 
     /// The type that a name stands for in a file of code.

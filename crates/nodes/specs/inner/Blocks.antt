@@ -4,37 +4,38 @@ use mathlib.Core.Bool.{Bool, true, false}
 use mathlib.Core.List.{List}
 use Prim.Native.Nat.{ℕ, _+_, _*_, _/_, _%_, _≤_, _<_}
 use lib.ListN.{getD}
+use Rattle.policy_image.specs.declared.counts.Counts.{Counts}
 use Rattle.policy_image.specs.Policy.{Policy}
 use Rattle.context.specs.declared.Context.{Context}
 use Rattle.context.specs.Codes.{eventOf}
 use Rattle.context.specs.Ranges.{ContextInRange}
 use Rattle.access.specs.Authorization.{flow}
-use Rattle.goal_image.specs.Goal.{Goal, σeChain}
-use Rattle.goal_image.specs.Sets.{contextIn}
 use Rattle.goal_model.specs.Images.{meetsρμ}
-use Rattle.plan.specs.inner.Plan.{eventsAt}
+use Rattle.plan.specs.inner.Entries.{eventsAt}
 use Rattle.steps.specs.declared.nearest.Asker.{Asker}
 use Rattle.steps.specs.declared.nearest.Offer.{Offer}
-use Rattle.steps.specs.inner.Nearest.{closed, Passed}
+use Rattle.steps.specs.inner.Nearest.{closed, Passed, noStep}
 use Rattle.steps.specs.inner.Steps.{Offering, ResumesFrom}
+use Rattle.nodes.specs.inner.Model.{excepted}
+use Rattle.plan.specs.inner.Regions.{typeCodes}
 
 -- whether steps from x are asked: it is not in σe, and meets ρ and μ
-pub record Asks (p : Policy) (g : Goal) (x : Context) (b : Bool) : Type 0 where
-  pub free : b ≡ true → contextIn g σeChain x ≡ false
+pub record Asks (p : Policy) (n : Counts) (plan : List ℕ) (x : Context) (b : Bool) : Type 0 where
+  pub free : b ≡ true → excepted n plan x ≡ false
   pub meets : b ≡ true → meetsρμ p x ≡ true
-  pub never : b ≡ false → contextIn g σeChain x ≡ false → meetsρμ p x ≡ true → ⊥
+  pub never : b ≡ false → excepted n plan x ≡ false → meetsρμ p x ≡ true → ⊥
 
 -- a step from x is ahead: x is not in σe and meets ρ and μ, and an entry offers the step, which is not closed
-pub record Ahead (p : Policy) (g : Goal) (plan swept : List ℕ) (a : Asker) (x : Context) (r : Offer) : Type 0 where
-  pub free : contextIn g σeChain x ≡ false
+pub record Ahead (p : Policy) (n : Counts) (plan swept : List ℕ) (a : Asker) (x : Context) (r : Offer) : Type 0 where
+  pub free : excepted n plan x ≡ false
   pub meets : meetsρμ p x ≡ true
-  pub offering : Offering p plan (x .ty) (r .at / 4096) (r .at % 4096) (r .entry)
-  pub unclosed : closed a (eventsAt plan (r .at / 4096)) (getD swept (r .at % 4096) 0) ≡ false
+  pub offering : Offering p plan (x .ty) (r .at / typeCodes) (r .at % typeCodes) (r .entry)
+  pub unclosed : closed a (eventsAt plan (r .at / typeCodes)) (getD swept (r .at % typeCodes) 0) ≡ false
   pub resumes : ResumesFrom plan x r
 
 -- r is a step ahead of x, or none, and a path that goes by a step before it need not be asked
-pub record FirstStep (p : Policy) (g : Goal) (plan swept : List ℕ) (a : Asker) (x : Context) (r : Offer) : Type 0 where
-  pub high : r .at ≤ 4194304
-  pub ahead : r .at < 4194304 → Ahead p g plan swept a x r
-  pub none : (i : ℕ) (y : Context) → ContextInRange (p .counts) y → 4096 * i + y .ty < r .at → contextIn g σeChain x ≡ false → flow p (eventOf i) x y ≡ true
+pub record FirstStep (p : Policy) (n : Counts) (plan swept : List ℕ) (a : Asker) (x : Context) (r : Offer) : Type 0 where
+  pub high : r .at ≤ noStep
+  pub ahead : r .at < noStep → Ahead p n plan swept a x r
+  pub none : (i : ℕ) (y : Context) → ContextInRange (p .counts) y → typeCodes * i + y .ty < r .at → excepted n plan x ≡ false → flow p (eventOf i) x y ≡ true
       → Passed plan swept a i (y .ty)

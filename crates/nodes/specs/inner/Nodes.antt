@@ -1,12 +1,13 @@
--- The graph that a search goes through: a node is a context in range and a state of a monitor, below 2 ^ n for n legs. Its number
--- is the context's place times 2 ^ n, and the state.
+-- The graph that a search goes through: a node is a context in range and a state of a monitor, of which there are so many. Its number
+-- is the context's place times the number of states, and the state.
 use mathlib.Core.Path.{_≡_}
 use mathlib.Core.Bool.{Bool}
-use Prim.Native.Nat.{ℕ, _*_, _/_, _%_, _^_, _<_}
+use Prim.Native.Nat.{ℕ, _*_, _/_, _%_, _<_}
 use lib.Dec.{T}
 use Rattle.policy_image.specs.declared.counts.Counts.{Counts}
 use Rattle.context.specs.inner.Coding.{contextCode}
 use Rattle.context.specs.inner.Places.{contextCount, contextAtIndex}
+use Rattle.plan.specs.inner.Regions.{eventEntries}
 use Rattle.paths.specs.Model.{Model}
 use Rattle.paths.specs.inner.Monitor.{Monitor, Start, Edge}
 use Rattle.paths.specs.inner.Monitors.{trackerN, stagerN}
@@ -42,11 +43,13 @@ stateOf k v = v % k
 abbrev pub codeOf : Counts → ℕ → ℕ → ℕ
 codeOf n k v = codeAt n (placeOf k v)
 
-module _ (M : Model) (n : Counts) (W : Watch) where
-  -- the number of states
-  abbrev pub states : ℕ
-  states = 2 ^ M .legs
+-- a start that is an end and bad: a path of no steps
+pub record BadStart (M : Model) (W : Watch) (x : ℕ) : Type 0 where
+  pub begins : Start M x
+  pub arrives : T (M .σ (M .legs) x)
+  pub verdict : T (W .bad (W .start x))
 
+module _ (M : Model) (n : Counts) (W : Watch) (states : ℕ) where
   -- a start that is no end, in the monitor's first state
   pub record StartAt (v : ℕ) : Type 0 where
     pub begins : Start M (codeOf n states v)
@@ -66,16 +69,10 @@ module _ (M : Model) (n : Counts) (W : Watch) where
   abbrev pub graph : Graph
   graph = record { k = contextCount n * states; e = 1024; Start = StartAt; Edge = EdgeAt; End = EndAt }
 
-  -- a start that is an end and bad: a path of no steps
-  pub record BadStart (x : ℕ) : Type 0 where
-    pub begins : Start M x
-    pub arrives : T (M .σ (M .legs) x)
-    pub verdict : T (W .bad (W .start x))
-
-  -- the codes of contexts in range have places, flow is by events with codes below 1024, and 2 ^ n states are enough
+  -- the codes of contexts in range have places, flow is by events with codes below 1024, and the states are enough
   pub record Bounded : Type 0 where
     pub placed : (x : ℕ) → T (M .context x) → (y : ℕ) × (y < contextCount n) × (codeAt n y ≡ x)
-    pub events : (x e y : ℕ) → T (M .flowBy x e y) → e < 1024
+    pub events : (x e y : ℕ) → T (M .flowBy x e y) → e < eventEntries
     pub starts : (x : ℕ) → W .start x < states
     pub steps : (s e y : ℕ) → ¬ T (M .σ (M .legs) y) → W .step s e y < states
     pub bads : (s e y : ℕ) → T (W .bad (W .step s e y)) → W .step s e y < states

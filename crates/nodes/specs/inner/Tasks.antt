@@ -1,8 +1,9 @@
--- What the loops of a search keep besides the graph's own records.
+-- What a search is given, and what its loops keep besides the graph's own records.
 use mathlib.Core.Path.{_≡_}
 use mathlib.Core.Bool.{true, false}
 use mathlib.Core.List.{List}
-use Prim.Native.Nat.{ℕ, _^_, _≤_, _<_}
+use Prim.Native.Nat.{ℕ, _*_, _^_, _≤_, _<_}
+use lib.ListN.{length}
 use Rattle.policy_image.specs.declared.counts.Counts.{Counts}
 use Rattle.policy_image.specs.Policy.{Policy}
 use Rattle.context.specs.declared.Context.{Context}
@@ -11,42 +12,74 @@ use Rattle.context.specs.Ranges.{ContextInRange}
 use Rattle.context.specs.inner.Places.{contextCount, contextAtIndex}
 use Rattle.access.specs.Authorization.{flow}
 use Rattle.goal_image.specs.declared.check.Legs.{Legs}
-use Rattle.goal_image.specs.Layout.{legsOf}
-use Rattle.goal_image.specs.Goal.{Goal, σeChain, γeChain}
-use Rattle.goal_image.specs.Sets.{contextIn, eventIn}
-use Rattle.goal_model.specs.Images.{model}
+use Rattle.paths.specs.Model.{Model}
+use Rattle.plan.specs.inner.Regions.{eventEntries, planEntries}
+use Rattle.plan.specs.inner.Plan.{Ready, PlanCounts, Planned}
+use Rattle.plan.specs.inner.Sets.{Falls}
 use Rattle.nodes.specs.declared.monitor.Mode.{Mode}
+use Rattle.nodes.specs.declared.task.Task.{Task}
 use Rattle.nodes.specs.inner.Graph.{Graph}
-use Rattle.nodes.specs.inner.Nodes.{watchOf, placeOf, stateOf, graph}
-use Rattle.nodes.specs.inner.Arrivals.{Given, GivenGoal}
+use Rattle.nodes.specs.inner.Model.{excepted, barred, planModel}
+use Rattle.nodes.specs.inner.Nodes.{Watch, watchOf, placeOf, stateOf, graph}
 
--- all that does not change while a search runs
-pub record Task (s g : List ℕ) (n : Counts) (l : Legs) : Type 0 where
-  pub given : Given s g n
-  pub legs : GivenGoal g n l
+abbrev pub taskFor : Counts → Legs → Mode → Task
+taskFor n l m = record { counts = n; legs = l; mode = m }
 
--- the graph of two images and a mode
-abbrev pub graphOf : List ℕ → List ℕ → Counts → Mode → Graph
-graphOf s g n m = graph (model s g) n (watchOf m (model s g))
+-- the number of states of a context
+unfoldable pub statesOf : Task → ℕ
+statesOf t = 2 ^ (t .legs .count)
+
+pub record States (t : Task) (r : ℕ) : Type 0 where
+  pub same : r ≡ statesOf t
+  pub some : 0 < r
+
+-- the sets of a plan can be read
+pub record ReadablePlan (n : Counts) (plan : List ℕ) : Type 0 where
+  pub counts : PlanCounts n
+  pub falls : Falls plan
+  pub size : planEntries ≤ length plan
+
+-- .. and the nodes can be numbered
+pub record Readable (plan : List ℕ) (t : Task) : Type 0 where
+  pub sets : ReadablePlan (t .counts) plan
+  pub some-leg : 0 < t .legs .count
+  pub few-legs : t .legs .count ≤ 6
+  pub nodes : contextCount (t .counts) * statesOf t < 2 ^ 26
+
+-- all that does not change while a search runs: an accepted policy with its counts, its plan, and nodes that can be numbered
+pub record Given (s plan : List ℕ) (t : Task) : Type 0 where
+  pub ready : Ready s (t .counts)
+  pub planned : Planned s (t .counts) plan
+  pub readable : Readable plan t
+
+-- the model, the monitor and the graph of a policy, a plan and a task
+abbrev pub modelBy : List ℕ → List ℕ → Task → Model
+modelBy s plan t = planModel s plan (t .counts) (t .legs)
+
+abbrev pub watchBy : List ℕ → List ℕ → Task → Watch
+watchBy s plan t = watchOf (t .mode) (modelBy s plan t)
+
+abbrev pub graphOf : List ℕ → List ℕ → Task → Graph
+graphOf s plan t = graph (modelBy s plan t) (t .counts) (watchBy s plan t) (statesOf t)
 
 -- the type of the context at which a node stands
-abbrev pub typeOf : List ℕ → Counts → ℕ → ℕ
-typeOf g n v = contextAtIndex n (placeOf (2 ^ legsOf g) v) .ty
+abbrev pub typeOf : Task → ℕ → ℕ
+typeOf t v = contextAtIndex (t .counts) (placeOf (statesOf t) v) .ty
 
 -- the node u stands at the context x, in the state
-pub record Stands (g : List ℕ) (n : Counts) (u : ℕ) (x : Context) (state : ℕ) : Type 0 where
-  pub below : placeOf (2 ^ legsOf g) u < contextCount n
-  pub place : x ≡ contextAtIndex n (placeOf (2 ^ legsOf g) u)
-  pub range : ContextInRange n x
-  pub at : state ≡ stateOf (2 ^ legsOf g) u
+pub record Stands (t : Task) (u : ℕ) (x : Context) (state : ℕ) : Type 0 where
+  pub below : placeOf (statesOf t) u < contextCount (t .counts)
+  pub place : x ≡ contextAtIndex (t .counts) (placeOf (statesOf t) u)
+  pub range : ContextInRange (t .counts) x
+  pub at : state ≡ stateOf (statesOf t) u
 
 -- the event e is asked from x, which is not in σe
-pub record Asked (g : Goal) (x : Context) (e : ℕ) : Type 0 where
-  pub high : e ≤ 1024
-  pub free : e < 1024 → contextIn g σeChain x ≡ false
+pub record Asked (n : Counts) (plan : List ℕ) (x : Context) (e : ℕ) : Type 0 where
+  pub high : e ≤ eventEntries
+  pub free : e < eventEntries → excepted n plan x ≡ false
 
 -- the context at place y is a target of the event
-pub record Faced (p : Policy) (g : Goal) (n : Counts) (x : Context) (event y : ℕ) : Type 0 where
+pub record Faced (p : Policy) (n : Counts) (plan : List ℕ) (x : Context) (event y : ℕ) : Type 0 where
   pub high : y ≤ contextCount n
-  pub free : y < contextCount n → eventIn g γeChain (eventOf event) ≡ false
+  pub free : y < contextCount n → barred plan event ≡ false
   pub flows : y < contextCount n → flow p (eventOf event) x (contextAtIndex n y) ≡ true

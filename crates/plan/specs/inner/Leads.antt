@@ -9,24 +9,26 @@ use lib.Dec.{eqb}
 use lib.ListN.{getD}
 use Rattle.base.specs.Bits.{bit}
 use Rattle.policy_image.specs.Policy.{Policy}
-use Rattle.plan.specs.inner.Plan.{keyAt, outsAt, insAt, eventsAt, Alike}
+use Rattle.plan.specs.inner.Entries.{keyAt, outsAt, insAt, groupsAt, eventsAt}
+use Rattle.plan.specs.inner.Plan.{Grouped, Alike}
+use Rattle.plan.specs.inner.Regions.{typeCodes}
 
--- whether the permission q of the group is in the same sets as the event of its class, and is not process transition
-abbrev pub likes : List ℕ → ℕ → ℕ → ℕ → Bool
-likes plan event group q = bit group q && (not (eqb (32 * (event / 32) + q) 32) && eqb (eventsAt plan (32 * (event / 32) + q)) (eventsAt plan event))
+-- whether the permission q is in the group of the event of its class and in the same sets, and is not process transition
+abbrev pub likes : List ℕ → ℕ → ℕ → Bool
+likes plan event q = bit (groupsAt plan event) q && (not (eqb (32 * (event / 32) + q) 32) && eqb (eventsAt plan (32 * (event / 32) + q)) (eventsAt plan event))
 
 -- r has the bits of the mask, and bit q where yes
 pub record WithIf (mask q : ℕ) (yes : Bool) (r : ℕ) : Type 0 where
   pub at : (i : ℕ) → bit r i ≡ (bit mask i || (yes && eqb q i))
 
 -- r has the permissions below n of that kind
-pub record SameSets (plan : List ℕ) (event group n r : ℕ) : Type 0 where
-  pub done : (q : ℕ) → q < n → bit r q ≡ likes plan event group q
+pub record SameSets (plan : List ℕ) (event n r : ℕ) : Type 0 where
+  pub done : (q : ℕ) → q < n → bit r q ≡ likes plan event q
   pub rest : (q : ℕ) → n ≤ q → bit r q ≡ false
 
 -- the permissions in the entry of an event are like it
-pub record AlikeTable (p : Policy) (plan l : List ℕ) : Type 0 where
-  pub at : (c q i : ℕ) → c < 32 → q < 32 → i < 32 → bit (getD l (32 * c + q) 0) i ≡ true → Alike p plan (32 * c + q) (32 * c + i)
+pub record AlikeTable (plan l : List ℕ) : Type 0 where
+  pub at : (p : Policy) → Grouped p plan → (c q i : ℕ) → c < 32 → q < 32 → i < 32 → bit (getD l (32 * c + q) 0) i ≡ true → Alike p plan (32 * c + q) (32 * c + i)
 
 -- a permission of r stands for q: q itself, or one below in whose entry q is
 pub record Led (alike : List ℕ) (class r q : ℕ) : Type 0 where
@@ -43,6 +45,6 @@ pub record Leading (alike : List ℕ) (class mask r : ℕ) : Type 0 where
 pub record EntryLeads (alike plan : List ℕ) (j v : ℕ) : Type 0 where
   pub outs : ℕ
   pub ins : ℕ
-  pub outs-lead : Leading alike (keyAt plan j / 4096 % 32) (outsAt plan j) outs
-  pub ins-lead : Leading alike (keyAt plan j / 4096 % 32) (insAt plan j) ins
+  pub outs-lead : Leading alike (keyAt plan j / typeCodes % 32) (outsAt plan j) outs
+  pub ins-lead : Leading alike (keyAt plan j / typeCodes % 32) (insAt plan j) ins
   pub both : v ≡ bitOr outs ins

@@ -12,7 +12,9 @@ use Rattle.goal_image.specs.declared.records.ContextRecord.{ContextRecord}
 use Rattle.goal_image.specs.Goal.{Goal, goalLinks, isContextChain}
 use Rattle.goal_image.specs.Sets.{along, matchesContext}
 use Rattle.tables.specs.inner.Tables.{typeEntries}
-use Rattle.plan.specs.inner.Regions.{namedStart, namedAt, linkAt, marksAt}
+use Rattle.plan.specs.inner.Regions.{namedStart}
+use Rattle.plan.specs.inner.Entries.{namedAt, linkAt, marksAt, recordRoleAt, recordUserAt}
+use Rattle.plan.specs.inner.Sets.{Falls}
 
 -- the record names a type of a plan, and a role or a user with it
 pub record NamesBoth (r : ContextRecord) : Type 0 where
@@ -42,11 +44,18 @@ pub record Last (K : ℕ → Type 0) (a b : ℕ) : Type 0 where
   pub is : (b ≡ 0 → ⊥) → K b
   pub none : (j : ℕ) → b < j → j < a → K j → ⊥
 
+-- the σ chains that record k is on, its role and its user
+pub record Noted (g : Goal) (plan : List ℕ) (k : ℕ) : Type 0 where
+  pub marks : MarksOf g k (marksAt plan k)
+  pub role : recordRoleAt plan k ≡ g .context k .role
+  pub user : recordUserAt plan k ≡ g .context k .user
+
 -- the lists of the types have the records below a, the last first
 pub record Links (g : Goal) (plan : List ℕ) (a : ℕ) : Type 0 where
   pub heads : (t : ℕ) → t < typeEntries → Last (Named g t) a (namedAt plan t)
   pub links : (t k : ℕ) → k < a → Named g t k → Last (Named g t) k (linkAt plan k)
-  pub marks : (t k : ℕ) → k < a → Named g t k → MarksOf g k (marksAt plan k)
+  pub noted : (t k : ℕ) → k < a → Named g t k → Noted g plan k
+  pub falls : Falls plan
 
 abbrev pub AllLinked : Goal → List ℕ → Type 0
 AllLinked g plan = Links g plan (suc (g .size))

@@ -1,24 +1,72 @@
--- Where the regions of a plan start that are behind the entries of blocks: the twins of the constants of src/regions.rt.
+-- Where the regions of a plan start: the twins of the constants of src/regions.rt. Each start is the sum of the start and the size of the
+-- region before it.
 use Prim.Native.Nat.{ℕ, _+_}
-use mathlib.Core.List.{List}
-use lib.ListN.{getD}
 use Rattle.tables.specs.inner.Tables.{typeEntries}
 
--- the most pairs of a role and a user, and one more than the most records of a goal
+-- ---- sizes: by class, by role, by type with one more for the end of the last block, by entry of a block, by event, by pair of a role
+-- and a user, by record of a goal
+abbrev pub classEntries : ℕ
+classEntries = 32
+
+abbrev pub roleEntries : ℕ
+roleEntries = 16
+
+abbrev pub firstEntries : ℕ
+firstEntries = typeEntries + 1
+
+abbrev pub blockEntries : ℕ
+blockEntries = 8192
+
+abbrev pub eventEntries : ℕ
+eventEntries = 1024
+
 abbrev pub pairEntries : ℕ
 pairEntries = 225
 
 abbrev pub recordEntries : ℕ
 recordEntries = 256
 
+-- a key is a class and a type, a step an event and a type: typeCodes times the first and the second
+abbrev pub typeCodes : ℕ
+typeCodes = 4096
+
+-- ---- the part of the policy
+abbrev pub specialStart : ℕ
+specialStart = 0
+
+abbrev pub changesStart : ℕ
+changesStart = specialStart + classEntries
+
+abbrev pub firstStart : ℕ
+firstStart = changesStart + roleEntries
+
+abbrev pub keysStart : ℕ
+keysStart = firstStart + firstEntries
+
+abbrev pub outsStart : ℕ
+outsStart = keysStart + blockEntries
+
+abbrev pub insStart : ℕ
+insStart = outsStart + blockEntries
+
+abbrev pub guardsStart : ℕ
+guardsStart = insStart + blockEntries
+
+abbrev pub groupsStart : ℕ
+groupsStart = guardsStart + typeEntries
+
 abbrev pub rolesStart : ℕ
-rolesStart = 34560
+rolesStart = groupsStart + eventEntries
 
 abbrev pub holdersStart : ℕ
 holdersStart = rolesStart + typeEntries
 
+-- ---- the part of the goal
+abbrev pub eventsStart : ℕ
+eventsStart = holdersStart + pairEntries
+
 abbrev pub typeSetsStart : ℕ
-typeSetsStart = holdersStart + pairEntries
+typeSetsStart = eventsStart + eventEntries
 
 abbrev pub pairSetsStart : ℕ
 pairSetsStart = typeSetsStart + typeEntries
@@ -32,28 +80,15 @@ linksStart = namedStart + typeEntries
 abbrev pub marksStart : ℕ
 marksStart = linksStart + recordEntries
 
+abbrev pub recordRolesStart : ℕ
+recordRolesStart = marksStart + recordEntries
+
+abbrev pub recordUsersStart : ℕ
+recordUsersStart = recordRolesStart + recordEntries
+
+abbrev pub leadsStart : ℕ
+leadsStart = recordUsersStart + recordEntries
+
 -- how many entries a plan has
 abbrev pub planEntries : ℕ
-planEntries = marksStart + recordEntries
-
--- the entries of these regions
-abbrev pub rolesAt : List ℕ → ℕ → ℕ
-rolesAt plan type = getD plan (rolesStart + type) 0
-
-abbrev pub holdersAt : List ℕ → ℕ → ℕ
-holdersAt plan i = getD plan (holdersStart + i) 0
-
-abbrev pub typeSetsAt : List ℕ → ℕ → ℕ
-typeSetsAt plan type = getD plan (typeSetsStart + type) 0
-
-abbrev pub pairSetsAt : List ℕ → ℕ → ℕ
-pairSetsAt plan i = getD plan (pairSetsStart + i) 0
-
-abbrev pub namedAt : List ℕ → ℕ → ℕ
-namedAt plan type = getD plan (namedStart + type) 0
-
-abbrev pub linkAt : List ℕ → ℕ → ℕ
-linkAt plan k = getD plan (linksStart + k) 0
-
-abbrev pub marksAt : List ℕ → ℕ → ℕ
-marksAt plan k = getD plan (marksStart + k) 0
+planEntries = leadsStart + blockEntries

@@ -1,35 +1,38 @@
 -- What a search says by what it finds.
 use mathlib.Core.List.{List}
 use Prim.Native.Nat.{ℕ, suc, _<_}
-use Rattle.policy_image.specs.declared.counts.Counts.{Counts}
 use Rattle.paths.specs.inner.Monitor.{BadNode}
 use Rattle.paths.specs.inner.Verdict.{Least, at}
-use Rattle.goal_model.specs.Images.{model}
 use Rattle.search.specs.declared.levels.Found.{Found}
 use Rattle.search.specs.declared.levels.Found.the-variants.{Nothing, Start, At}
-use Rattle.nodes.specs.declared.monitor.Mode.{Mode}
+use Rattle.search.specs.declared.levels.LastStep.{LastStep}
+use Rattle.nodes.specs.declared.task.Task.{Task}
 use Rattle.nodes.specs.inner.Graph.{Graph, FoundAt, Within, NoneFound}
-use Rattle.nodes.specs.inner.Nodes.{watchOf, monitorOf, BadStart}
-use Rattle.nodes.specs.inner.Tasks.{graphOf}
+use Rattle.nodes.specs.inner.Nodes.{monitorOf, BadStart}
+use Rattle.nodes.specs.inner.Tasks.{modelBy, watchBy, graphOf}
+
+-- the step is one into an end
+abbrev pub FoundBy : Graph → List ℕ → LastStep → Type 0
+FoundBy g back l = FoundAt g back (l .from) (l .event) (l .to) (l .depth)
 
 -- of the graph, from starts that are no ends, up to a bound b on the number of steps
 abbrev pub Searched : Graph → ℕ → List ℕ → Found → Type 0
 Searched g b back Nothing = NoneFound g b
 Searched g b back (Start x) = ⊥
-Searched g b back (At u e v d) = FoundAt g back u e v d × (d < b)
+Searched g b back (At l) = FoundBy g back l × (l .depth < b)
 
 -- a start that is a bad end; or a step into a bad end, and the links that lead back to a start
-pub record FoundStart (s g : List ℕ) (n : Counts) (m : Mode) (x : ℕ) : Type 0 where
-  pub bad : BadStart (model s g) n (watchOf m (model s g)) x
-  pub least : Least (model s g) (monitorOf (watchOf m (model s g))) (at 0)
+pub record FoundStart (s plan : List ℕ) (t : Task) (x : ℕ) : Type 0 where
+  pub bad : BadStart (modelBy s plan t) (watchBy s plan t) x
+  pub least : Least (modelBy s plan t) (monitorOf (watchBy s plan t)) (at 0)
 
-pub record FoundStep (s g : List ℕ) (n : Counts) (m : Mode) (back : List ℕ) (u e v d : ℕ) : Type 0 where
-  pub found : FoundAt (graphOf s g n m) back u e v d
-  pub least : Least (model s g) (monitorOf (watchOf m (model s g))) (at (suc d))
+pub record FoundStep (s plan : List ℕ) (t : Task) (back : List ℕ) (l : LastStep) : Type 0 where
+  pub found : FoundBy (graphOf s plan t) back l
+  pub least : Least (modelBy s plan t) (monitorOf (watchBy s plan t)) (at (suc (l .depth)))
 
--- of the model of the two images: the least number of steps to a bad end, which is at most b; or that no bad end is within the
+-- of the model of the plan: the least number of steps to a bad end, which is at most b; or that no bad end is within the
 -- bound, so none at all where b is at least the number of nodes
-abbrev pub FoundLeast : List ℕ → List ℕ → Counts → Mode → ℕ → List ℕ → Found → Type 0
-FoundLeast s g n m b back Nothing = (k : ℕ) → Within b (graphOf s g n m .k) k → ¬ BadNode (model s g) (monitorOf (watchOf m (model s g))) k
-FoundLeast s g n m b back (Start x) = FoundStart s g n m x
-FoundLeast s g n m b back (At u e v d) = FoundStep s g n m back u e v d × (d < b)
+abbrev pub FoundLeast : List ℕ → List ℕ → Task → ℕ → List ℕ → Found → Type 0
+FoundLeast s plan t b back Nothing = (k : ℕ) → Within b (graphOf s plan t .k) k → ¬ BadNode (modelBy s plan t) (monitorOf (watchBy s plan t)) k
+FoundLeast s plan t b back (Start x) = FoundStart s plan t x
+FoundLeast s plan t b back (At l) = FoundStep s plan t back l × (l .depth < b)

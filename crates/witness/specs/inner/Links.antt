@@ -1,9 +1,9 @@
 -- The links that a search leaves: which event leads from a node to the next is found again.
 use Prim.Native.Nat.{ℕ, _<_}
 use mathlib.Core.List.{List}
-use Rattle.policy_image.specs.declared.counts.Counts.{Counts}
 use Rattle.policy_image.specs.Policy.{policyOf}
 use Rattle.steps.specs.inner.Steps.{Offering}
+use Rattle.nodes.specs.declared.task.Task.{Task}
 use Rattle.nodes.specs.inner.Graph.{Graph}
 use Rattle.nodes.specs.inner.Tasks.{typeOf}
 
@@ -27,5 +27,5 @@ pub record Linked (G : Graph) (u w : ℕ) : Type 0 where
   pub open-end : G .End w → ⊥
 
 -- the entry of a plan offers the event from the type of u's context to that of w's
-abbrev pub OfferedBetween : List ℕ → List ℕ → Counts → List ℕ → ℕ → ℕ → ℕ → ℕ → Type 0
-OfferedBetween s g n plan u e entry w = Offering (policyOf s) plan (typeOf g n u) e (typeOf g n w) entry
+abbrev pub OfferedBetween : List ℕ → List ℕ → Task → ℕ → ℕ → ℕ → ℕ → Type 0
+OfferedBetween s plan t u e entry w = Offering (policyOf s) plan (typeOf t u) e (typeOf t w) entry

@@ -11,10 +11,12 @@ use Rattle.policy_image.specs.declared.counts.Checked.the-variants as policy
 use Rattle.policy_check.specs.inner.Answer.{PolicyAnswer}
 use Rattle.context.specs.inner.Places.{Countable, contextCount}
 use Rattle.goal_image.specs.declared.check.Legs.{Legs}
+use Rattle.nodes.specs.declared.monitor.Mode.the-variants.{Events}
+use Rattle.nodes.specs.inner.Tasks.{statesOf, taskFor}
 use Rattle.goal_image.specs.declared.check.CheckedGoal.{CheckedGoal}
 use Rattle.goal_image.specs.declared.check.CheckedGoal.the-variants as goal
 use Rattle.goal_image.specs.inner.Answer.{GoalAnswer}
-use Rattle.flowgoal.proofs.AskedLaws.{policy-refused, goal-refused, asked-task, first-short, second-short, all-passed}
+use Rattle.flowgoal.proofs.AskedLaws.{policy-refused, goal-refused, asked-sizes, first-short, second-short, all-passed}
 use Rattle.flowgoal.proofs.goal.goal_question.Statement.{statement}
 use Rattle.flowgoal.proofs.goal.goal_question.Tie as tie
 
@@ -48,10 +50,10 @@ module _ (K : tie.After-known-told2) where
   goal-answer = subst (λ (r : CheckedGoal). GoalAnswer counts g r) (K .before .checked-goal .given .1) (goal-asked .check2 .ensures)
 
   -- what work_fits asks for
-  asked : Countable counts × (legs .count ≤ 6) × (contextCount counts * 2 ^ (legs .count) < 2 ^ 26)
+  asked : Countable counts × (legs .count ≤ 6) × (contextCount counts * statesOf (taskFor counts legs Events) < 2 ^ 26)
   asked =
-      let A = asked-task s g 0 0 policy-answer goal-answer in
-      (A .legs .countable, A .legs .few-legs, A .legs .nodes)
+      let Z = asked-sizes s g 0 0 policy-answer goal-answer in
+      (Z .ready .countable, Z .few-legs, Z .nodes Events)
 
 check-requires : tie.Need-check-requires
 check-requires c κs = search needs
@@ -98,7 +100,7 @@ returns-3 : tie.Need-returns-3
 returns-3 c =
     let f = c .before in
     let K = f .before in
-    (first-short (s K) (g K) _ _ (policy-answer K) (goal-answer K) (not-no (f .work-fits .result) (f .work-fits .ensures) (c .if1 .taken)), refl)
+    (first-short (s K) (g K) _ _ (policy-answer K) (goal-answer K) Events (not-no (f .work-fits .result) (f .work-fits .ensures) (c .if1 .taken)), refl)
 
 work-fits-requires-2 : tie.Need-work-fits-requires-2
 work-fits-requires-2 c κs = asked (c .before .before)
@@ -107,7 +109,7 @@ returns-4 : tie.Need-returns-4
 returns-4 c =
     let f = c .before in
     let K = f .before .before .before in
-    (second-short (s K) (g K) _ _ (policy-answer K) (goal-answer K) (not-no (f .work-fits2 .result) (f .work-fits2 .ensures) (c .if2 .taken)), refl)
+    (second-short (s K) (g K) _ _ (policy-answer K) (goal-answer K) Events (not-no (f .work-fits2 .result) (f .work-fits2 .ensures) (c .if2 .taken)), refl)
 
 answer-requires : tie.Need-answer-requires
 answer-requires c κs =
@@ -115,7 +117,7 @@ answer-requires c κs =
     let e1 = e2 .before .before in
     let f = e1 .before in
     let K = f .before in
-    all-passed (s K) (g K) _ _ (policy-answer K) (goal-answer K)
+    all-passed (s K) (g K) _ _ (policy-answer K) (goal-answer K) Events
     (not-yes (f .work-fits .result) (f .work-fits .ensures) (e1 .if1 .left)) (not-yes (e2 .before .work-fits2 .result) (e2 .before .work-fits2 .ensures) (e2 .if2 .left))
 
 same-length : tie.Need-same-length

@@ -1,4 +1,4 @@
--- The rules are the allow records of domains, the blocks say what the rules say, and so what α says.
+-- The rules are the allow records of domains that count, the blocks say what the rules say, and so what α by those records says.
 use mathlib.Core.Path.{_≡_, ap}
 use native.Mathlib.Omega.{arith}
 use borrow.Author.Needs.{needs}
@@ -78,7 +78,7 @@ returns c =
     let B = built c in
     let X = extracted (rules (B .before)) in
     let a = start X in
-    allow-index (policyOf (a .args .image .now)) _ _ _ _ _ _ (X .extract .ensures) (a .pre .1 .0 .1) _ _ _ _ _ (types-of a) (B .build .ensures)
+    allow-index _ (policyOf (a .args .image .now)) _ _ _ _ _ _ (X .extract .ensures) (a .pre .1 .0 .1) _ _ _ _ _ (types-of a) (B .build .ensures)
 
 pub index-spec : {M : Type 1} → statement M
 index-spec =

@@ -4,9 +4,8 @@ use lib.ListN.{length}
 use borrow.Author.Tests.{not-false}
 use Rattle.base.proofs.UptoLaws.{clash}
 use Rattle.base.specs.Ranges.{Within}
-use Rattle.plan.specs.inner.Plan.{Planned}
 use Rattle.plan.specs.inner.Types.{startOf}
-use Rattle.nodes.specs.inner.Tasks.{Task, graphOf}
+use Rattle.nodes.specs.inner.Tasks.{Given, graphOf}
 use Rattle.memory.specs.inner.Memory.{OfEvent, Settled}
 use Rattle.memory.proofs.SettledLaws.{settled-begin, settled-join, settled-end}
 use native.Mathlib.Omega.{arith}
@@ -15,16 +14,16 @@ use Rattle.memory.proofs.settled.all_entered.Statement.{statement}
 use Rattle.memory.proofs.settled.all_entered.Tie as tie
 
 abbrev Inv-loop : tie.InvT-loop
-Inv-loop policy goal counts plan legs mode state by back ty start end y₀ y = (start ≤ y) × Settled policy goal counts mode back state by start y × Task policy goal counts legs × Planned policy goal counts plan × OfEvent goal by × (graphOf policy goal counts mode .k ≤ length back) × Within 1 (counts .types) ty × (start ≡ startOf counts ty) × (end ≡ startOf counts (ty + 1))
+Inv-loop policy plan task state by back ty start end y₀ y = (start ≤ y) × Settled policy plan task back state by start y × Given policy plan task × OfEvent plan by × (graphOf policy plan task .k ≤ length back) × Within 1 (task .counts .types) ty × (start ≡ startOf (task .counts) ty) × (end ≡ startOf (task .counts) (ty + 1))
 
 abbrev μ-loop : tie.MeasureT-loop
-μ-loop policy goal counts plan legs mode state by back ty start end y₀ y = end - y
+μ-loop policy plan task state by back ty start end y₀ y = end - y
 
 loop-holds : tie.Need-loop-holds Inv-loop μ-loop
-loop-holds c = let A = c .before .before .before .before .pre in (omega arith, settled-begin _, A .0, A .1, A .2, A .3, A .4, A .5, A .6)
+loop-holds c = let A = c .before .before .before .pre in (omega arith, settled-begin _, A .0, A .1, A .2, A .3, A .4, A .5)
 
 is-entered-requires : tie.Need-is-entered-requires Inv-loop μ-loop
-is-entered-requires c κs = let v = c .before .loop .inv in (v .2, v .3, v .4, v .5, record { type = v .6; low = omega (arith, v .0, v .7); high = omega (arith, v .8, c .loop-test .taken) })
+is-entered-requires c κs = let v = c .before .loop .inv in (v .2, v .3, v .4, record { type = v .5; low = omega (arith, v .0, v .6); high = omega (arith, v .7, c .loop-test .taken) })
 
 returns : tie.Need-returns Inv-loop μ-loop
 returns c = λ t. absurd (clash t refl)
@@ -36,7 +35,7 @@ loop-less : tie.Need-loop-less Inv-loop μ-loop
 loop-less c = search needs
 
 loop-again : tie.Need-loop-again Inv-loop μ-loop
-loop-again c = let v = c .before .before .before .loop .inv in (omega arith, settled-join (v .1) (c .before .is-entered .ensures (not-false _ (c .if1 .left))), v .2, v .3, v .4, v .5, v .6, v .7, v .8)
+loop-again c = let v = c .before .before .before .loop .inv in (omega arith, settled-join (v .1) (c .before .is-entered .ensures (not-false _ (c .if1 .left))), v .2, v .3, v .4, v .5, v .6, v .7)
 
 returns-2 : tie.Need-returns-2 Inv-loop μ-loop
 returns-2 c = λ _. settled-end (c .loop-test .left) (c .before .loop .inv .1)

@@ -10,16 +10,16 @@ returns : tie.Need-returns
 returns c = λ _. inl (not-true _ (c .if1 .taken))
 
 first-place-requires : tie.Need-first-place-requires
-first-place-requires c κs = let A = c .before .before .before .before .before .pre in (A .0 .legs .countable, A .4 .low, let h = A .4 .high in omega arith)
+first-place-requires c κs = let A = c .before .before .before .before .before .pre in (A .0 .readable .sets .counts .countable, A .3 .low, let h = A .3 .high in omega arith)
 
 add-first-place : tie.Need-add-first-place
-add-first-place c = let A = c .before .before .before .before .before .before .pre in let h = type-few (A .0 .legs .countable) _ (A .4 .high) in omega arith
+add-first-place c = let A = c .before .before .before .before .before .before .pre in let h = type-few (A .0 .readable .sets .counts .countable) _ (A .3 .high) in omega arith
 
 first-place-requires-2 : tie.Need-first-place-requires-2
-first-place-requires-2 c κs = let A = c .before .before .before .before .before .before .pre in (A .0 .legs .countable, omega arith, let h = A .4 .high in omega arith)
+first-place-requires-2 c κs = let A = c .before .before .before .before .before .before .pre in (A .0 .readable .sets .counts .countable, omega arith, let h = A .3 .high in omega arith)
 
 all-entered-requires : tie.Need-all-entered-requires
-all-entered-requires c κs = let A = c .before .before .before .before .before .before .before .pre in (A .0, A .1, A .2, A .3, A .4, c .before .first-place .ensures, c .first-place2 .ensures)
+all-entered-requires c κs = let A = c .before .before .before .before .before .before .before .pre in (A .0, A .1, A .2, A .3, c .before .first-place .ensures, c .first-place2 .ensures)
 
 returns-2 : tie.Need-returns-2
 returns-2 c = λ t. inr (settled-at (c .before .before .first-place .ensures) (c .before .first-place2 .ensures) (c .all-entered .ensures t))

@@ -13,11 +13,11 @@ is-bad-requires c κs = search needs
 states-of-requires : tie.Need-states-of-requires
 states-of-requires c κs = search needs
 
-mul-t9 : tie.Need-mul-t9
-mul-t9 c = let s = c .before .before .before .before .before in omega (arith, node-room (s .args .y) (c .states-of .ensures) (s .pre .0) (s .pre .1) (s .pre .2))
+mul-t8 : tie.Need-mul-t8
+mul-t8 c = let s = c .before .before .before .before .before in omega (arith, node-room (s .args .y) (c .states-of .ensures) (s .pre .0) (s .pre .1) (s .pre .2))
 
-add-t10 : tie.Need-add-t10
-add-t10 c = let s = c .before .before .before .before .before in omega (arith, node-room (s .args .y) (c .states-of .ensures) (s .pre .0) (s .pre .1) (s .pre .2))
+add-t9 : tie.Need-add-t9
+add-t9 c = let s = c .before .before .before .before .before in omega (arith, node-room (s .args .y) (c .states-of .ensures) (s .pre .0) (s .pre .1) (s .pre .2))
 
 returns : tie.Need-returns
 returns c =
@@ -32,11 +32,11 @@ returns-2 c =
 states-of-requires-2 : tie.Need-states-of-requires-2
 states-of-requires-2 c κs = search needs
 
-mul-t12 : tie.Need-mul-t12
-mul-t12 c = let s = c .before .before .before in omega (arith, node-room (s .args .y) (c .states-of2 .ensures) (s .pre .0) (s .pre .1) (s .pre .2))
+mul-t11 : tie.Need-mul-t11
+mul-t11 c = let s = c .before .before .before in omega (arith, node-room (s .args .y) (c .states-of2 .ensures) (s .pre .0) (s .pre .1) (s .pre .2))
 
-add-t13 : tie.Need-add-t13
-add-t13 c = let s = c .before .before .before in omega (arith, node-room (s .args .y) (c .states-of2 .ensures) (s .pre .0) (s .pre .1) (s .pre .2))
+add-t12 : tie.Need-add-t12
+add-t12 c = let s = c .before .before .before in omega (arith, node-room (s .args .y) (c .states-of2 .ensures) (s .pre .0) (s .pre .1) (s .pre .2))
 
 returns-3 : tie.Need-returns-3
 returns-3 c =
@@ -50,11 +50,11 @@ land-spec =
     has-bit-requires
     is-bad-requires
     states-of-requires
-    mul-t9
-    add-t10
+    mul-t8
+    add-t9
     returns
     returns-2
     states-of-requires-2
-    mul-t12
-    add-t13
+    mul-t11
+    add-t12
     returns-3)

@@ -11,13 +11,10 @@ use Rattle.plan.proofs.leads.alike_table.Statement.{statement}
 use Rattle.plan.proofs.leads.alike_table.Tie as tie
 
 abbrev Inv-loop : tie.InvT-loop
-Inv-loop policy classes plan groups alike₀ end event₀ alike event = (33 ≤ event) × (event ≤ 1024) × (end ≡ 32 * (classes + 1)) × (length alike ≡ 1024) × Filled (λ e v. SameSets plan e (getD groups e 0) 32 v) alike₀ alike 0 33 event
+Inv-loop classes plan alike₀ end event₀ alike event = (33 ≤ event) × (event ≤ 1024) × (end ≡ 32 * (classes + 1)) × (length alike ≡ 1024) × Filled (λ e v. SameSets plan e 32 v) alike₀ alike 0 33 event
 
 abbrev μ-loop : tie.MeasureT-loop
-μ-loop policy classes plan groups alike₀ end event₀ alike event = 1024 - event
-
-constraint-groups-requires : tie.Need-constraint-groups-requires Inv-loop μ-loop
-constraint-groups-requires c κs = search needs
+μ-loop classes plan alike₀ end event₀ alike event = 1024 - event
 
 add-end : tie.Need-add-end Inv-loop μ-loop
 add-end c = search needs
@@ -33,12 +30,6 @@ loop-holds c = (omega arith, omega arith, refl, length-replicate {A = ℕ} 1024 
 
 cast-at : tie.Need-cast-at Inv-loop μ-loop
 cast-at c = search needs
-
-mul-same-sets : tie.Need-mul-same-sets Inv-loop μ-loop
-mul-same-sets c = search needs
-
-array-read-same-sets : tie.Need-array-read-same-sets Inv-loop μ-loop
-array-read-same-sets c = search needs
 
 same-sets-requires : tie.Need-same-sets-requires Inv-loop μ-loop
 same-sets-requires c κs = search needs
@@ -59,7 +50,7 @@ loop-again : tie.Need-loop-again Inv-loop μ-loop
 loop-again c = let l = c .before .before .loop in (omega arith, omega arith, l .inv .2, simp length-set (l .inv .3), alike-more (l .inv .4) (omega arith) (omega arith) (c .same-sets .ensures))
 
 returns : tie.Need-returns Inv-loop μ-loop
-returns c = alike-all (c .before .loop .inv .1) (c .before .before .constraint-groups .ensures) (c .before .loop .inv .4)
+returns c = alike-all (c .before .loop .inv .1) (c .before .loop .inv .4)
 
 pub alike-table-spec : {M : Type 1} → statement M
 alike-table-spec =
@@ -67,14 +58,11 @@ alike-table-spec =
     (tie.spec
     Inv-loop
     μ-loop
-    constraint-groups-requires
     add-end
     mul-end
     add-event
     loop-holds
     cast-at
-    mul-same-sets
-    array-read-same-sets
     same-sets-requires
     mul-alike
     array-write-alike

@@ -5,6 +5,15 @@ use borrow.Author.Needs.{needs}
 use Rattle.plan.proofs.leads.is_like.Statement.{statement}
 use Rattle.plan.proofs.leads.is_like.Tie as tie
 
+add-has-bit : tie.Need-add-has-bit
+add-has-bit c = search needs
+
+mul-has-bit : tie.Need-mul-has-bit
+mul-has-bit c = search needs
+
+shared-slice-read-has-bit : tie.Need-shared-slice-read-has-bit
+shared-slice-read-has-bit c = search needs
+
 has-bit-requires : tie.Need-has-bit-requires
 has-bit-requires c κs = search needs
 
@@ -48,6 +57,9 @@ pub is-like-spec : {M : Type 1} → statement M
 is-like-spec =
     tie.close
     (tie.spec
+    add-has-bit
+    mul-has-bit
+    shared-slice-read-has-bit
     has-bit-requires
     returns
     mul-other

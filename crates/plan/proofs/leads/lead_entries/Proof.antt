@@ -1,3 +1,4 @@
+use Rattle.plan.specs.inner.Regions.{leadsStart}
 use Prim.Native.Nat.{_-_, _≤_}
 use mathlib.Core.Path.{_≡_, refl}
 use lib.ListN.{length, length-set}
@@ -11,7 +12,7 @@ use Rattle.plan.proofs.leads.lead_entries.Statement.{statement}
 use Rattle.plan.proofs.leads.lead_entries.Tie as tie
 
 abbrev Inv-loop : tie.InvT-loop
-Inv-loop alike n plan₀ j₀ plan j = (j ≤ n) × (length plan ≡ length plan₀) × Filled (λ i v. EntryLeads alike plan₀ i v) plan₀ plan 26368 0 j
+Inv-loop alike n plan₀ j₀ plan j = (j ≤ n) × (length plan ≡ length plan₀) × Filled (λ i v. EntryLeads alike plan₀ i v) plan₀ plan leadsStart 0 j
 
 abbrev μ-loop : tie.MeasureT-loop
 μ-loop alike n plan₀ j₀ plan j = n - j

@@ -1,5 +1,5 @@
 use mathlib.Core.Path.{refl}
-use Rattle.plan.proofs.BlockLaws.{types-few, classes-few, last-top}
+use Rattle.plan.proofs.BlockLaws.{last-top}
 use Rattle.plan.proofs.LeadLaws.{leads-put}
 use native.Mathlib.Omega.{arith}
 use borrow.Author.Needs.{needs}
@@ -7,10 +7,10 @@ use Rattle.plan.proofs.leads.put_leads.Statement.{statement}
 use Rattle.plan.proofs.leads.put_leads.Tie as tie
 
 alike-table-requires : tie.Need-alike-table-requires
-alike-table-requires c κs = (c .before .before .before .pre .0 .sound, classes-few (c .before .before .before .pre .0), omega (arith, c .before .before .before .pre .2))
+alike-table-requires c κs = (c .before .before .pre .0 .classes, c .before .before .pre .2)
 
 add-last : tie.Need-add-last
-add-last c = let h = types-few (c .before .before .before .before .before .pre .0) in omega arith
+add-last c = let h = c .before .before .before .before .pre .0 .types in omega arith
 
 cast-last : tie.Need-cast-last
 cast-last c = search needs
@@ -22,19 +22,19 @@ mul-n : tie.Need-mul-n
 mul-n c = search needs
 
 slice-read-n : tie.Need-slice-read-n
-slice-read-n c = let h = types-few (c .before .before .before .before .before .before .pre .0) in omega (arith, c .before .before .before .before .before .before .pre .2)
+slice-read-n c = let h = c .before .before .before .before .before .pre .0 .types in omega (arith, c .before .before .before .before .before .pre .2)
 
 cast-n : tie.Need-cast-n
-cast-n c = let h = last-top (c .before .before .before .before .before .before .pre .0) (c .before .before .before .before .before .before .pre .1) in omega arith
+cast-n c = let h = last-top (c .before .before .before .before .before .pre .0) (c .before .before .before .before .before .pre .1) in omega arith
 
 lead-entries-requires : tie.Need-lead-entries-requires
-lead-entries-requires c κs = (last-top (c .before .before .before .before .before .before .before .before .pre .0) (c .before .before .before .before .before .before .before .before .pre .1), omega (arith, c .before .before .before .before .before .before .before .before .pre .2))
+lead-entries-requires c κs = (last-top (c .before .before .before .before .before .before .before .pre .0) (c .before .before .before .before .before .before .before .pre .1), omega (arith, c .before .before .before .before .before .before .before .pre .2))
 
 same-length : tie.Need-same-length
 same-length c = search needs
 
 returns : tie.Need-returns
-returns c = leads-put (c .before .before .before .before .before .before .before .alike-table .ensures) (last-top (c .before .before .before .before .before .before .before .before .before .before .before .pre .0) (c .before .before .before .before .before .before .before .before .before .before .before .pre .1)) refl (c .before .before .lead-entries .ensures)
+returns c = leads-put (c .before .before .before .before .before .before .before .alike-table .ensures) (last-top (c .before .before .before .before .before .before .before .before .before .before .pre .0) (c .before .before .before .before .before .before .before .before .before .before .pre .1)) refl (c .before .before .lead-entries .ensures)
 
 pub put-leads-spec : {M : Type 1} → statement M
 put-leads-spec =

@@ -7,13 +7,13 @@ use Rattle.plan.proofs.leads.same_sets.Statement.{statement}
 use Rattle.plan.proofs.leads.same_sets.Tie as tie
 
 abbrev Inv-loop : tie.InvT-loop
-Inv-loop plan event group r₀ q₀ r q = (q ≤ 32) × SameSets plan event group q r
+Inv-loop plan event r₀ q₀ r q = (q ≤ 32) × SameSets plan event q r
 
 abbrev μ-loop : tie.MeasureT-loop
-μ-loop plan event group r₀ q₀ r q = 32 - q
+μ-loop plan event r₀ q₀ r q = 32 - q
 
 loop-holds : tie.Need-loop-holds Inv-loop μ-loop
-loop-holds c = (omega arith, sets-begin _ _ _)
+loop-holds c = (omega arith, sets-begin _ _)
 
 is-like-requires : tie.Need-is-like-requires Inv-loop μ-loop
 is-like-requires c κs = search needs

@@ -1,6 +1,7 @@
 use Rattle.plan.proofs.BlockLaws.{guards-begin, guards-more, guards-end}
 use Rattle.plan.proofs.KnownLaws.{zero-plus}
-use Rattle.plan.specs.inner.Plan.{outsAt, insAt, GuardsOf}
+use Rattle.plan.specs.inner.Entries.{outsAt, insAt}
+use Rattle.plan.specs.inner.Plan.{GuardsOf}
 use lib.ListN.{getD}
 use lib.Bits.{bitAnd, bitOr}
 use mathlib.Core.Path.{ap}

@@ -20,6 +20,9 @@ shared-slice-read-n c = omega (arith, types-few (c .before .before .before .befo
 cast-n : tie.Need-cast-n
 cast-n c = let n = last-few (c .before .before .before .before .before .before .before .before .pre .0) (c .before .before .before .before .before .before .before .before .pre .1) refl in let w = c .before .before .before .before .before .before .before .before .pre .2 in omega (arith, n, w .keys-size)
 
+add-put : tie.Need-add-put
+add-put c = search needs
+
 put-requires : tie.Need-put-requires
 put-requires c κs = let n = last-few (c .before .before .before .before .before .before .before .before .before .pre .0) (c .before .before .before .before .before .before .before .before .before .pre .1) refl in let w = c .before .before .before .before .before .before .before .before .before .pre .2 in (omega arith, omega arith)
 
@@ -53,6 +56,7 @@ put-blocks-spec =
     mul-n
     shared-slice-read-n
     cast-n
+    add-put
     put-requires
     put-requires-2
     flow-masks-requires

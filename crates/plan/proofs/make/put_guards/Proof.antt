@@ -1,3 +1,4 @@
+use Rattle.plan.specs.inner.Regions.{firstStart}
 use Rattle.plan.proofs.BlockLaws.{Guarding, guarding-begin, guarding-top, guarding-more, guarding-end, place-next, guards-to}
 use lib.ListN.{length, length-set}
 use mathlib.Core.Path.{_≡_, refl}
@@ -14,7 +15,7 @@ abbrev μ-loop : tie.MeasureT-loop
 μ-loop plan₀ types t₀ plan t = types + 1 - t
 
 loop-holds : tie.Need-loop-holds Inv-loop μ-loop
-loop-holds c = (refl, guarding-begin (c .before .pre .0) (c .before .pre .1))
+loop-holds c = (refl, guarding-begin (omega (arith, c .before .pre .0)) (c .before .pre .1))
 
 cast-first : tie.Need-cast-first Inv-loop μ-loop
 cast-first c = omega (arith, c .before .loop .inv .1 .few)
@@ -29,7 +30,7 @@ slice-read-lo : tie.Need-slice-read-lo Inv-loop μ-loop
 slice-read-lo c = omega (arith, c .before .before .loop .inv .1 .few, c .before .before .before .before .pre .2, c .before .before .loop .inv .0)
 
 cast-lo : tie.Need-cast-lo Inv-loop μ-loop
-cast-lo c = omega (arith, c .slice-known2 .given (64 + c .before .before .loop .t))
+cast-lo c = omega (arith, c .slice-known2 .given (firstStart + c .before .before .loop .t))
 
 add-hi : tie.Need-add-hi Inv-loop μ-loop
 add-hi c = omega (arith, c .before .before .loop .inv .1 .few)

@@ -1,3 +1,5 @@
+use mathlib.Core.Path.{ap}
+use Rattle.goal_image.specs.declared.records.ContextRecord.{ContextRecord}
 use lib.ListN.{length-set}
 use Rattle.plan.proofs.NamedLaws.{names-yes, named-of, links-other, links-event, links-more}
 use native.Mathlib.Omega.{arith}
@@ -35,29 +37,47 @@ mul-plan c = search needs
 slice-write-plan : tie.Need-slice-write-plan
 slice-write-plan c = search needs
 
+add-plan-2 : tie.Need-add-plan-2
+add-plan-2 c = search needs
+
 mul-plan-2 : tie.Need-mul-plan-2
 mul-plan-2 c = search needs
 
-slice-read-plan : tie.Need-slice-read-plan
-slice-read-plan c = let s = c .before .before .before .before .before .before .before .before .before in let B = names-yes (c .before .before .before .before .before .names-both .result) (c .before .before .before .before .before .names-both .ensures) (c .before .before .before .before .if1 .left) in simp length-set (omega (arith, B .few, s .pre .3))
+slice-write-plan-2 : tie.Need-slice-write-plan-2
+slice-write-plan-2 c = let s = c .before .before .before .before .before .before .before .before in simp length-set (omega (arith, s .pre .2, s .pre .0 .exact .few, s .pre .3))
 
-add-plan-2 : tie.Need-add-plan-2
-add-plan-2 c = search needs
+add-plan-3 : tie.Need-add-plan-3
+add-plan-3 c = search needs
 
 mul-plan-3 : tie.Need-mul-plan-3
 mul-plan-3 c = search needs
 
-slice-write-plan-2 : tie.Need-slice-write-plan-2
-slice-write-plan-2 c = let s = c .before .before .before .before .before .before .before .before .before in simp length-set (omega (arith, s .pre .2, s .pre .0 .exact .few, s .pre .3))
-
-cast-plan : tie.Need-cast-plan
-cast-plan c = search needs
+slice-write-plan-3 : tie.Need-slice-write-plan-3
+slice-write-plan-3 c = let s = c .before .before .before .before .before .before .before .before in simp length-set (omega (arith, s .pre .2, s .pre .0 .exact .few, s .pre .3))
 
 mul-plan-4 : tie.Need-mul-plan-4
 mul-plan-4 c = search needs
 
-slice-write-plan-3 : tie.Need-slice-write-plan-3
-slice-write-plan-3 c = let s = c .before .before .before .before .before .before .before .before .before in let B = names-yes (c .before .before .before .before .before .names-both .result) (c .before .before .before .before .before .names-both .ensures) (c .before .before .before .before .if1 .left) in simp length-set (omega (arith, B .few, s .pre .3))
+slice-read-plan : tie.Need-slice-read-plan
+slice-read-plan c = let s = c .before .before .before .before .before .before .before .before .before in let B = names-yes (c .before .before .before .before .before .names-both .result) (c .before .before .before .before .before .names-both .ensures) (c .before .before .before .before .if1 .left) in simp length-set (omega (arith, B .few, s .pre .3))
+
+add-plan-4 : tie.Need-add-plan-4
+add-plan-4 c = search needs
+
+mul-plan-5 : tie.Need-mul-plan-5
+mul-plan-5 c = search needs
+
+slice-write-plan-4 : tie.Need-slice-write-plan-4
+slice-write-plan-4 c = let s = c .before .before .before .before .before .before .before .before .before in simp length-set (omega (arith, s .pre .2, s .pre .0 .exact .few, s .pre .3))
+
+cast-plan : tie.Need-cast-plan
+cast-plan c = search needs
+
+mul-plan-6 : tie.Need-mul-plan-6
+mul-plan-6 c = search needs
+
+slice-write-plan-5 : tie.Need-slice-write-plan-5
+slice-write-plan-5 c = let s = c .before .before .before .before .before .before .before .before .before in let B = names-yes (c .before .before .before .before .before .names-both .result) (c .before .before .before .before .before .names-both .ensures) (c .before .before .before .before .if1 .left) in simp length-set (omega (arith, B .few, s .pre .3))
 
 same-length : tie.Need-same-length
 same-length c = search needs
@@ -67,7 +87,8 @@ returns-3 c =
     let s = c .before .before .before .before .before .before .before .before .before in
     let B = names-yes (c .before .before .before .before .before .names-both .result) (c .before .before .before .before .before .names-both .ensures) (c .before .before .before .before .if1 .left) in
     let M = c .before .before .before .marks-of .ensures in
-    links-more (s .pre .4) (named-of (c .before .before .before .before .before .before .context-at .ensures) B (s .pre .1) (s .pre .2) M (c .before .before .if2 .left)) M (omega (arith, s .pre .2, s .pre .0 .exact .few)) (s .pre .3)
+    let R = c .before .before .before .before .before .before .context-at .ensures in
+    links-more (s .pre .4) (named-of R B (s .pre .1) (s .pre .2) M (c .before .before .if2 .left)) M (ap (λ (r : ContextRecord). r .role) R) (ap (λ (r : ContextRecord). r .user) R) (omega (arith, s .pre .2, s .pre .0 .exact .few)) (s .pre .3)
 
 pub link-spec : {M : Type 1} → statement M
 link-spec =
@@ -83,13 +104,19 @@ link-spec =
     add-plan
     mul-plan
     slice-write-plan
-    mul-plan-2
-    slice-read-plan
     add-plan-2
-    mul-plan-3
+    mul-plan-2
     slice-write-plan-2
-    cast-plan
-    mul-plan-4
+    add-plan-3
+    mul-plan-3
     slice-write-plan-3
+    mul-plan-4
+    slice-read-plan
+    add-plan-4
+    mul-plan-5
+    slice-write-plan-4
+    cast-plan
+    mul-plan-6
+    slice-write-plan-5
     same-length
     returns-3)

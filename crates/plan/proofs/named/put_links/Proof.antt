@@ -19,6 +19,9 @@ Inv-loop goal plan₀ count k₀ plan k = SoundGoal goal × (planEntries ≤ len
 abbrev μ-loop : tie.MeasureT-loop
 μ-loop goal plan₀ count k₀ plan k = count + 1 - k
 
+add-put : tie.Need-add-put Inv-loop μ-loop
+add-put c = search needs
+
 slice-aggregate-put : tie.Need-slice-aggregate-put Inv-loop μ-loop
 slice-aggregate-put c = search needs
 
@@ -31,7 +34,7 @@ sub-count c = omega (arith, c .before .before .before .before .before .before .b
 loop-holds : tie.Need-loop-holds Inv-loop μ-loop
 loop-holds c =
     let s = c .before .before .before .before .before .before .before in
-    (s .pre .0, omega (arith, s .pre .1), refl, omega (arith, s .pre .0 .exact), omega arith, omega arith, record { lists = links-begin (λ t h. c .before .before .put .ensures .here t (omega arith) h ∙ zeros 256 t); below = λ i h. refl })
+    (s .pre .0, omega (arith, s .pre .1), refl, omega (arith, s .pre .0 .exact), omega arith, omega arith, record { lists = links-begin (λ i h. c .before .before .put .ensures .here i (omega arith) h ∙ zeros 512 i); below = λ i h. refl })
 
 link-requires : tie.Need-link-requires Inv-loop μ-loop
 link-requires c κs = let v = c .before .before .loop .inv in (v .0, v .4, omega (arith, c .before .loop-test .taken), v .1, v .6 .lists)
@@ -57,6 +60,7 @@ put-links-spec =
     (tie.spec
     Inv-loop
     μ-loop
+    add-put
     slice-aggregate-put
     put-requires
     sub-count

@@ -1,11 +1,7 @@
-use Rattle.steps.proofs.OfferLaws.{type-few, block-top, block-order, block-law, next-law}
 use native.Mathlib.Omega.{arith}
 use borrow.Author.Needs.{needs}
 use Rattle.steps.proofs.offers.next_offer.Statement.{statement}
 use Rattle.steps.proofs.offers.next_offer.Tie as tie
-
-cast-ty : tie.Need-cast-ty
-cast-ty c = search needs
 
 add-lo : tie.Need-add-lo
 add-lo c = search needs
@@ -14,10 +10,10 @@ mul-lo : tie.Need-mul-lo
 mul-lo c = search needs
 
 shared-slice-read-lo : tie.Need-shared-slice-read-lo
-shared-slice-read-lo c = omega (arith, type-few (c .before .before .before .before .pre .1) (c .before .before .before .before .pre .2) (c .before .before .before .before .pre .3), c .before .before .before .before .pre .2 .size)
+shared-slice-read-lo c = omega (arith, c .before .before .pre .1 .type, c .before .before .pre .1 .block .size)
 
 cast-lo : tie.Need-cast-lo
-cast-lo c = omega (arith, block-top (c .before .before .before .before .pre .1) (c .before .before .before .before .pre .2) (c .before .before .before .before .pre .3), block-order (c .before .before .before .before .pre .1) (c .before .before .before .before .pre .2) (c .before .before .before .before .pre .3))
+cast-lo c = omega (arith, c .before .before .pre .1 .block .high, c .before .before .pre .1 .order)
 
 add-stop : tie.Need-add-stop
 add-stop c = search needs
@@ -29,22 +25,21 @@ mul-stop : tie.Need-mul-stop
 mul-stop c = search needs
 
 shared-slice-read-stop : tie.Need-shared-slice-read-stop
-shared-slice-read-stop c = omega (arith, type-few (c .before .before .before .before .before .pre .1) (c .before .before .before .before .before .pre .2) (c .before .before .before .before .before .pre .3), c .before .before .before .before .before .pre .2 .size)
+shared-slice-read-stop c = omega (arith, c .before .before .before .pre .1 .type, c .before .before .before .pre .1 .block .size)
 
 cast-stop : tie.Need-cast-stop
-cast-stop c = omega (arith, block-top (c .before .before .before .before .before .pre .1) (c .before .before .before .before .before .pre .2) (c .before .before .before .before .before .pre .3))
+cast-stop c = omega (arith, c .before .before .before .pre .1 .block .high)
 
 nearest-after-requires : tie.Need-nearest-after-requires
-nearest-after-requires c κs = (c .before .before .before .before .before .pre .0, block-law (c .before .before .before .before .before .pre .1) (c .before .before .before .before .before .pre .2) (c .before .before .before .before .before .pre .3), c .before .before .before .before .before .pre .4)
+nearest-after-requires c κs = (c .before .before .before .pre .0, c .before .before .before .pre .1 .block, c .before .before .before .pre .2)
 
 returns : tie.Need-returns
-returns c = next-law (c .before .before .before .before .before .before .pre .1) (c .before .before .before .before .before .before .pre .2) (c .before .before .before .before .before .before .pre .3) (c .nearest-after .ensures)
+returns c = c .nearest-after .ensures
 
 pub next-offer-spec : {M : Type 1} → statement M
 next-offer-spec =
     tie.close
     (tie.spec
-    cast-ty
     add-lo
     mul-lo
     shared-slice-read-lo

@@ -1,4 +1,4 @@
-use Rattle.steps.proofs.OfferLaws.{ways-yes, ways-rest, roles-few, event-few}
+use Rattle.steps.proofs.OfferLaws.{ways-yes, ways-rest, event-few}
 use native.Mathlib.Omega.{arith}
 use borrow.Author.Needs.{needs}
 use Rattle.steps.proofs.targets.flows_by.Statement.{statement}
@@ -17,7 +17,7 @@ has-bit-requires : tie.Need-has-bit-requires
 has-bit-requires c κs = search needs
 
 may-act-requires : tie.Need-may-act-requires
-may-act-requires c κs = (c .before .before .before .before .pre .0, c .before .before .before .before .pre .1, event-few (c .before .before .before .before .pre .0) (c .before .before .before .before .pre .6), roles-few (c .before .before .before .before .pre .0) (c .before .before .before .before .pre .2), roles-few (c .before .before .before .before .pre .0) (c .before .before .before .before .pre .3))
+may-act-requires c κs = (c .before .before .before .before .pre .0, c .before .before .before .before .pre .1, event-few (c .before .before .before .before .pre .0) (c .before .before .before .before .pre .6), c .before .before .before .before .pre .2, c .before .before .before .before .pre .3)
 
 returns : tie.Need-returns
 returns c = ways-yes (c .before .before .before .before .before .before .args .x) (c .before .before .before .before .before .before .args .y) (c .before .before .before .before .before .before .pre .4) (c .before .before .before .before .before .before .pre .5) (c .before .before .before .before .before .before .pre .6) (c .before .before .has-bit .ensures) (c .before .may-act .ensures) (c .if1 .taken)
@@ -35,7 +35,7 @@ has-bit-requires-2 : tie.Need-has-bit-requires-2
 has-bit-requires-2 c κs = search needs
 
 may-act-requires-2 : tie.Need-may-act-requires-2
-may-act-requires-2 c κs = (c .before .before .before .before .before .before .before .before .pre .0, c .before .before .before .before .before .before .before .before .pre .1, event-few (c .before .before .before .before .before .before .before .before .pre .0) (c .before .before .before .before .before .before .before .before .pre .6), roles-few (c .before .before .before .before .before .before .before .before .pre .0) (c .before .before .before .before .before .before .before .before .pre .3), roles-few (c .before .before .before .before .before .before .before .before .pre .0) (c .before .before .before .before .before .before .before .before .pre .2))
+may-act-requires-2 c κs = (c .before .before .before .before .before .before .before .before .pre .0, c .before .before .before .before .before .before .before .before .pre .1, event-few (c .before .before .before .before .before .before .before .before .pre .0) (c .before .before .before .before .before .before .before .before .pre .6), c .before .before .before .before .before .before .before .before .pre .3, c .before .before .before .before .before .before .before .before .pre .2)
 
 returns-2 : tie.Need-returns-2
 returns-2 c = ways-rest (c .before .before .before .before .before .before .before .before .before .args .x) (c .before .before .before .before .before .before .before .before .before .args .y) (c .before .before .before .before .before .before .before .before .before .pre .4) (c .before .before .before .before .before .before .before .before .before .pre .5) (c .before .before .before .before .before .before .before .before .before .pre .6) (c .before .before .before .before .before .has-bit .ensures) (c .before .before .before .before .may-act .ensures) (c .before .before .before .if1 .left) (c .before .has-bit2 .ensures) (c .may-act2 .ensures)

@@ -1,5 +1,10 @@
+use Prim.Native.Nat.{ℕ, _-_}
+use mathlib.Core.Bool.{not}
+use mathlib.Core.Path.{ap}
+use lib.Bits.{bitAnd}
+use lib.Dec.{eqb}
+use Rattle.plan.specs.inner.Entries.{rolesAt, holdersAt}
 use Rattle.plan.proofs.TypeLaws.{pairs-few, of-pair}
-use Rattle.plan.proofs.ContextLaws.{meets-at}
 use native.Mathlib.Omega.{arith}
 use borrow.Author.Needs.{needs}
 use Rattle.steps.proofs.targets.is_held.Statement.{statement}
@@ -30,10 +35,10 @@ mul-result-2 : tie.Need-mul-result-2
 mul-result-2 c = search needs
 
 shared-slice-read-result-2 : tie.Need-shared-slice-read-result-2
-shared-slice-read-result-2 c = let s = c .before .before .before .before .before in omega (arith, of-pair (s .pre .0 .counts .countable) (s .pre .1) (c .before .before .first-place .ensures), pairs-few (s .pre .0 .counts), s .pre .0 .size)
+shared-slice-read-result-2 c = omega (arith, of-pair (c .before .before .before .before .pre .0 .countable) (c .before .before .before .before .pre .2) (c .before .before .first-place .ensures), pairs-few (c .before .before .before .before .pre .0), c .before .before .before .before .pre .1)
 
 returns : tie.Need-returns
-returns c = let s = c .before .before .before .before .before in meets-at (s .pre .0) (s .pre .1) (c .before .before .first-place .ensures)
+returns c = ap (λ (f : ℕ). not (eqb (bitAnd (rolesAt (c .before .before .before .before .args .plan .now) (c .before .before .before .before .args .ty)) (holdersAt (c .before .before .before .before .args .plan .now) (c .before .before .before .before .args .y - f))) 0)) (c .before .before .first-place .ensures)
 
 pub is-held-spec : {M : Type 1} → statement M
 is-held-spec =

@@ -18,13 +18,13 @@ mul-has-bit : tie.Need-mul-has-bit
 mul-has-bit c = search needs
 
 shared-slice-read-has-bit : tie.Need-shared-slice-read-has-bit
-shared-slice-read-has-bit c = omega (arith, c .before .before .before .pre .0 .size, c .before .before .before .pre .1)
+shared-slice-read-has-bit c = omega (arith, c .before .before .pre .0, c .before .before .pre .1)
 
 has-bit-requires : tie.Need-has-bit-requires
 has-bit-requires c κs = search needs
 
 returns : tie.Need-returns
-returns c = c .has-bit .ensures ∙ ap (λ (k : ℕ). bit (getD (c .before .before .before .before .args .plan .now) k 0) (c .before .before .before .before .args .event % 32)) (zero-plus _) ∙ c .before .before .before .before .pre .0 .tables .special-at (c .before .before .before .before .args .event / 32) (c .before .before .before .before .args .event % 32) (omega (arith, c .before .before .before .before .pre .1))
+returns c = c .has-bit .ensures ∙ ap (λ (k : ℕ). bit (getD (c .before .before .before .args .plan .now) k 0) (c .before .before .before .args .event % 32)) (zero-plus _)
 
 pub is-special-spec : {M : Type 1} → statement M
 is-special-spec =

@@ -1,5 +1,5 @@
 use mathlib.Core.Path.{sym, ap, _∙_}
-use Rattle.steps.proofs.OfferLaws.{plain-flow}
+use Rattle.steps.proofs.OfferLaws.{plain-flow, roles-few}
 use Rattle.access.specs.Authorization.{flow}
 use Rattle.context.proofs.PlaceLaws.{at-in-range}
 use borrow.Author.Tests.{not-true}
@@ -17,11 +17,12 @@ at-requires c κs = (c .before .before .before .pre .0 .countable, c .before .be
 flows-by-requires : tie.Need-flows-by-requires
 flows-by-requires c κs =
     let s = c .before .before .before .before in
+    let h = at-in-range (s .args .counts) (s .args .y) (s .pre .0 .countable .roles) (s .pre .0 .countable .users) (s .pre .3) in
     rw (c .at .ensures) (
-      s .pre .0,
-      s .pre .1,
-      s .pre .2,
-      at-in-range (s .args .counts) (s .args .y) (s .pre .0 .countable .roles) (s .pre .0 .countable .users) (s .pre .3),
+      s .pre .0 .sound,
+      record { size = s .pre .1 .size; tables = s .pre .1 .tables },
+      roles-few (s .pre .0) (s .pre .2),
+      roles-few (s .pre .0) h,
       s .pre .4 .meets,
       s .pre .5,
       s .pre .4 .offering,

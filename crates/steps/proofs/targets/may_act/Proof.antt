@@ -15,7 +15,7 @@ decode-requires : tie.Need-decode-requires
 decode-requires c κs = search needs
 
 constraints-hold-requires : tie.Need-constraints-hold-requires
-constraints-hold-requires c κs = (c .before .before .before .before .pre .0 .sound, rw (c .decode .ensures) (omega arith))
+constraints-hold-requires c κs = (c .before .before .before .before .pre .0, rw (c .decode .ensures) (omega arith))
 
 returns-2 : tie.Need-returns-2
 returns-2 c = not-held (policyOf (c .before .before .before .before .before .before .args .policy .now)) (c .before .before .before .before .before .before .args .x) (c .before .before .before .before .before .before .args .y) (c .before .before .before .before .before .before .args .event) (c .before .before .before .before .before .before .args .may) (c .before .before .decode .ensures) (c .before .before .before .if1 .left) (c .before .constraints-hold .result) (c .before .constraints-hold .ensures) (c .if2 .taken)

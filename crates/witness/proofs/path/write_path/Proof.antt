@@ -9,10 +9,10 @@ use Rattle.witness.proofs.path.write_path.Statement.{statement}
 use Rattle.witness.proofs.path.write_path.Tie as tie
 
 abbrev Inv-loop : tie.InvT-loop
-Inv-loop policy goal counts plan legs mode u event v d back path₀ states i₀ w₀ e₀ path i w e = Writing policy goal counts mode back u v (d + 1) path₀ path i w e
+Inv-loop policy plan task u event v d back path₀ counts states i₀ w₀ e₀ path i w e = Writing policy plan task back u v (d + 1) path₀ path i w e
 
 abbrev μ-loop : tie.MeasureT-loop
-μ-loop policy goal counts plan legs mode u event v d back path₀ states i₀ w₀ e₀ path i w e = i
+μ-loop policy plan task u event v d back path₀ counts states i₀ w₀ e₀ path i w e = i
 
 -- where the loop stands, the start, and that i is one more than the place that is written next
 module _ (c : tie.At-loop Inv-loop μ-loop) where
@@ -20,7 +20,7 @@ module _ (c : tie.At-loop Inv-loop μ-loop) where
   start = c .before .before .before .before .before .before .before .before
 
   room : 2 * (start .args .d + 1) + 1 ≤ length (set (now (start .args .path)) (2 * (start .args .d + 1)) (c .before .code-of .result))
-  room = rw (length-set (now (start .args .path)) (2 * (start .args .d + 1)) (c .before .code-of .result)) (start .pre .4)
+  room = rw (length-set (now (start .args .path)) (2 * (start .args .d + 1)) (c .before .code-of .result)) (start .pre .3)
 
   next : c .loop .i ≡ suc (c .loop .i - 1)
   next = omega (arith, c .loop .inv .some)
@@ -29,13 +29,13 @@ module _ (c : tie.At-loop Inv-loop μ-loop) where
   small = node-small (start .pre .0) (c .before .before .states-of .ensures) (chain-bound (c .loop .inv .chain))
 
 states-of-requires : tie.Need-states-of-requires Inv-loop μ-loop
-states-of-requires c κs = c .before .before .before .before .before .pre .0 .legs .few-legs
+states-of-requires c κs = c .before .before .before .before .before .pre .0 .readable .few-legs
 
 add-i : tie.Need-add-i Inv-loop μ-loop
 add-i c = omega arith
 
 code-of-requires : tie.Need-code-of-requires Inv-loop μ-loop
-code-of-requires c κs = let s = c .before .before .before .before .before .before in node-in (s .pre .0) (c .states-of .ensures) (s .pre .2 .breaks .target)
+code-of-requires c κs = node-in (c .before .before .before .before .before .before .pre .0) (c .states-of .ensures) (c .before .before .before .before .before .before .pre .1 .breaks .target)
 
 mul-path : tie.Need-mul-path Inv-loop μ-loop
 mul-path c = omega arith
@@ -47,7 +47,7 @@ slice-write-path : tie.Need-slice-write-path Inv-loop μ-loop
 slice-write-path c = omega arith
 
 loop-holds : tie.Need-loop-holds Inv-loop μ-loop
-loop-holds c = let s = c .before .before .before .before .before .before .before in write-begin (now (s .args .path)) refl (s .pre .4) (code-at _ (s .pre .0) (c .before .states-of .ensures) (c .code-of .ensures)) (s .pre .2 .breaks .edge) (s .pre .2 .chain)
+loop-holds c = write-begin (now (c .before .before .before .before .before .before .before .args .path)) refl (c .before .before .before .before .before .before .before .pre .3) (code-at (c .before .before .before .before .before .before .before .pre .0) (c .before .states-of .ensures) _ (c .code-of .ensures)) (c .before .before .before .before .before .before .before .pre .1 .breaks .edge) (c .before .before .before .before .before .before .before .pre .1 .chain)
 
 sub-i : tie.Need-sub-i Inv-loop μ-loop
 sub-i c = omega (arith, c .loop .inv .some)
@@ -88,13 +88,13 @@ returns c =
     let a = c .before .before in
     let s = start a in
     let R = a .loop .inv in
-    let p = code-at _ (s .pre .0) (a .before .before .states-of .ensures) (c .before .code-of2 .ensures) in
+    let p = code-at (s .pre .0) (a .before .before .states-of .ensures) _ (c .before .code-of2 .ensures) in
     let W = write-step _ R (room a) (next a) p in
-    let b = s .pre .2 .breaks in
+    let b = s .pre .1 .breaks in
     let o = now (s .args .path) in
     let m = s .args .d + 1 in
     let v = a .before .code-of .result in
-    shown-by (now (s .args .policy)) (now (s .args .goal)) _ (s .args .mode) (omega (arith, s .pre .0 .legs .some-leg, s .pre .0 .legs .count)) (s .pre .4) (W .whole ∙ length-set o (2 * m) v) (rest-of o v W)
+    shown-by _ (s .args .task .mode) (s .pre .0 .readable .some-leg) (s .pre .3) (W .whole ∙ length-set o (2 * m) v) (rest-of o v W)
     (write-end _ R (room a) (next a) p (c .if1 .taken) (b .ends) (b .edge .kept (b .ends .arrives)))
 
 cast-at : tie.Need-cast-at Inv-loop μ-loop
@@ -104,7 +104,7 @@ mul-w : tie.Need-mul-w Inv-loop μ-loop
 mul-w c = let a = c .before .before in omega (arith, small a)
 
 shared-slice-read-w : tie.Need-shared-slice-read-w Inv-loop μ-loop
-shared-slice-read-w c = let a = c .before .before .before in omega (arith, chain-bound (a .loop .inv .chain), start a .pre .3)
+shared-slice-read-w c = let a = c .before .before .before in omega (arith, chain-bound (a .loop .inv .chain), start a .pre .2)
 
 sub-w : tie.Need-sub-w Inv-loop μ-loop
 sub-w c = let a = c .before .before .before in omega (arith, unlink (a .loop .inv .chain) (omega (arith, c .before .if1 .left)) .marked)
@@ -112,7 +112,7 @@ sub-w c = let a = c .before .before .before in omega (arith, unlink (a .loop .in
 least-event-requires : tie.Need-least-event-requires Inv-loop μ-loop
 least-event-requires c κs =
     let a = c .before .before .before in
-    (start a .pre .0, start a .pre .1, unlink (a .loop .inv .chain) (omega (arith, c .before .if1 .left)) .linked)
+    (start a .pre .0, unlink (a .loop .inv .chain) (omega (arith, c .before .if1 .left)) .linked)
 
 loop-less : tie.Need-loop-less Inv-loop μ-loop
 loop-less c = omega arith
@@ -122,7 +122,7 @@ loop-again c =
     let b = c .before .before .before in
     let a = b .before in
     let s = start a in
-    let p = code-at _ (s .pre .0) (a .before .before .states-of .ensures) (b .code-of2 .ensures) in
+    let p = code-at (s .pre .0) (a .before .before .states-of .ensures) _ (b .code-of2 .ensures) in
     write-next _ (a .loop .inv) (room a) (next a) p (omega (arith, c .before .before .if1 .left)) refl (c .least-event .ensures .holds)
 
 pub write-path-spec : {M : Type 1} → statement M

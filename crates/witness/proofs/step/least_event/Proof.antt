@@ -1,6 +1,7 @@
 use Prim.Native.Nat.{ℕ, _-_, _%_}
 use mathlib.Core.Logic.{⊎-elim}
 use mathlib.Core.Bool.{false}
+use mathlib.Core.List.{List}
 use mathlib.Core.Path.{refl, sym, subst, _∙_}
 use native.Mathlib.Omega.{arith}
 use denote.Ref.{now}
@@ -10,20 +11,25 @@ use Rattle.base.proofs.Decide.{yes-of, no-of}
 use Rattle.steps.specs.declared.nearest.Asker.{Asker}
 use Rattle.nodes.specs.inner.Tasks.{graphOf}
 use Rattle.memory.proofs.MemoryLaws.{AskerOf}
-use Rattle.witness.proofs.StepLaws.{Looking, from-below, to-below, from-range, asker, type-is, offered, only-here, look-begin, look-more, look-found, look-end}
+use Rattle.steps.proofs.OfferLaws.{block-of-type, next-law}
+use Rattle.witness.proofs.StepLaws.{Looking, from-below, to-below, from-range, asker, type-is, type-within, type-open, offered, only-here, look-begin, look-more, look-found, look-end}
 use Rattle.witness.proofs.step.least_event.Statement.{statement}
 use Rattle.witness.proofs.step.least_event.Tie as tie
 
 abbrev Inv-loop : tie.InvT-loop
-Inv-loop policy goal counts plan legs mode u w states x y swept a offer₀ offer = Looking policy goal counts plan mode u w x offer
+Inv-loop policy plan task u w states x y swept other a offer₀ offer = Looking policy plan task u w x offer
 
 abbrev μ-loop : tie.MeasureT-loop
-μ-loop policy goal counts plan legs mode u w states x y swept a offer₀ offer = 4194304 - offer .at
+μ-loop policy plan task u w states x y swept other a offer₀ offer = 4194304 - offer .at
+
+-- by type, what is remembered before w's is taken out: every key
+abbrev every-key : List ℕ
+every-key = replicate 256 18446744073709551615
 
 -- where the loop stands
 module _ (L : tie.At-loop Inv-loop μ-loop) where
   abbrev to : tie.After-at2 Inv-loop μ-loop
-  to = L .before .before .before .before
+  to = L .before .before .before .before .before
 
   abbrev from : tie.After-at Inv-loop μ-loop
   from = to .before
@@ -34,14 +40,11 @@ module _ (L : tie.At-loop Inv-loop μ-loop) where
   abbrev who : Asker
   who = record { state = start .args .u % from .before .states-of .result; keeps = L .before .before .before .keeps-of .result; spent = false }
 
-  asks : AskerOf (start .args .mode) (replicate 256 0) (from .at .result) (start .args .u % from .before .states-of .result) who
-  asks = asker (start .pre .0) (start .args .mode) (start .pre .2) (from .before .states-of .ensures) (from .at .ensures) refl (L .before .before .before .keeps-of .ensures) refl
+  asks : AskerOf (start .args .task .mode) (replicate 256 0) (from .at .result) (start .args .u % from .before .states-of .result) who
+  asks = asker (start .pre .0) (start .pre .1) (from .before .states-of .ensures) (from .at .ensures) refl (L .before .before .before .keeps-of .ensures) refl
 
 states-of-requires : tie.Need-states-of-requires Inv-loop μ-loop
-states-of-requires c κs = c .before .before .before .pre .0 .legs .few-legs
-
-rem-t16 : tie.Need-rem-t16 Inv-loop μ-loop
-rem-t16 c = omega (arith, c .before .before .states-of .ensures .some)
+states-of-requires c κs = c .before .before .before .pre .0 .readable .few-legs
 
 keeps-of-requires : tie.Need-keeps-of-requires Inv-loop μ-loop
 keeps-of-requires c κs = search needs
@@ -52,7 +55,7 @@ div-at c = omega (arith, c .states-of .ensures .some)
 at-requires : tie.Need-at-requires Inv-loop μ-loop
 at-requires c κs =
     let s = c .before .before .before .before in
-    (s .pre .0 .legs .countable, from-below (s .pre .0) (s .args .mode) (s .pre .2) (c .states-of .ensures))
+    (s .pre .0 .readable .sets .counts .countable, from-below (s .pre .0) (s .pre .1) (c .states-of .ensures))
 
 div-at-2 : tie.Need-div-at-2 Inv-loop μ-loop
 div-at-2 c = omega (arith, c .before .states-of .ensures .some)
@@ -60,22 +63,37 @@ div-at-2 c = omega (arith, c .before .states-of .ensures .some)
 at-requires-2 : tie.Need-at-requires-2 Inv-loop μ-loop
 at-requires-2 c κs =
     let s = c .before .before .before .before .before in
-    (s .pre .0 .legs .countable, to-below (s .pre .0) (s .args .mode) (s .pre .2) (c .before .states-of .ensures))
+    (s .pre .0 .readable .sets .counts .countable, to-below (s .pre .0) (s .pre .1) (c .before .states-of .ensures))
+
+cast-other : tie.Need-cast-other Inv-loop μ-loop
+cast-other c = search needs
+
+mul-swept : tie.Need-mul-swept Inv-loop μ-loop
+mul-swept c = search needs
+
+array-write-swept : tie.Need-array-write-swept Inv-loop μ-loop
+array-write-swept c =
+    let s = c .before .before .before .before .before .before .before in
+    omega (arith, type-within (s .pre .0) (s .pre .1) (c .before .before .before .states-of .ensures) (c .before .at2 .ensures))
+
+rem-t16 : tie.Need-rem-t16 Inv-loop μ-loop
+rem-t16 c = search needs
 
 first-offer-requires : tie.Need-first-offer-requires Inv-loop μ-loop
 first-offer-requires c κs =
-    let a = c .before .before .before in
+    let a = c .before .before .before .before in
     let s = a .before .before .before .before .before in
-    let k = asker (s .pre .0) (s .args .mode) (s .pre .2) (a .before .states-of .ensures) (a .at .ensures) refl (c .before .keeps-of .ensures) refl in
-    (k .few, s .pre .0 .given .ready, s .pre .1 .policy, from-range (s .pre .0) (s .args .mode) (s .pre .2) (a .before .states-of .ensures) (a .at .ensures))
+    let k = asker (s .pre .0) (s .pre .1) (a .before .states-of .ensures) (a .at .ensures) refl (c .before .keeps-of .ensures) refl in
+    (k .few, block-of-type (s .pre .0 .ready) (s .pre .0 .planned) (from-range (s .pre .0) (s .pre .1) (a .before .states-of .ensures) (a .at .ensures)))
 
 loop-holds : tie.Need-loop-holds Inv-loop μ-loop
 loop-holds c =
     let b = c .before .before in
-    let a = b .before .before in
+    let y = b .before .before in
+    let a = y .before in
     let s = a .before .before .before .before .before in
-    let k = asker (s .pre .0) (s .args .mode) (s .pre .2) (a .before .states-of .ensures) (a .at .ensures) refl (b .keeps-of .ensures) refl in
-    look-begin (s .pre .0) (s .args .mode) (s .pre .2) (a .before .states-of .ensures) (a .at .ensures) (s .pre .1) k (c .first-offer .ensures .next)
+    let k = asker (s .pre .0) (s .pre .1) (a .before .states-of .ensures) (a .at .ensures) refl (b .keeps-of .ensures) refl in
+    look-begin (s .pre .0) (s .pre .1) (a .before .states-of .ensures) (a .at .ensures) k (type-open (s .pre .0) (s .pre .1) (a .before .states-of .ensures) every-key (y .at2 .ensures) refl) (next-law (s .pre .0 .ready) (s .pre .0 .planned) (from-range (s .pre .0) (s .pre .1) (a .before .states-of .ensures) (a .at .ensures)) (c .first-offer .ensures))
 
 is-step-requires : tie.Need-is-step-requires Inv-loop μ-loop
 is-step-requires c κs =
@@ -83,8 +101,7 @@ is-step-requires c κs =
     let s = start L in (
       s .pre .0,
       s .pre .1,
-      s .pre .2,
-      offered (s .pre .0) (s .args .mode) (s .pre .2) (from L .before .states-of .ensures) (from L .at .ensures) (s .pre .1) (asks L) (L .loop .inv) (to L .at2 .ensures) (c .before .before .before .before .if1 .taken) (c .if2 .taken),
+      offered (s .pre .0) (s .pre .1) (from L .before .states-of .ensures) (from L .at .ensures) (asks L) (L .loop .inv) (to L .at2 .ensures) (c .before .before .before .before .if1 .taken) (c .if2 .taken),
     )
 
 returns : tie.Need-returns Inv-loop μ-loop
@@ -93,7 +110,7 @@ returns c =
     let d = b .before .before .before .before .before in
     let L = d .before .before in
     let s = start L in
-    look-found (s .pre .0) (s .args .mode) (s .pre .2) (from L .before .states-of .ensures) (from L .at .ensures) (s .pre .1) (asks L) (L .loop .inv) (d .if1 .taken)
+    look-found (s .pre .0) (s .pre .1) (from L .before .states-of .ensures) (from L .at .ensures) (asks L) (L .loop .inv) (d .if1 .taken)
     (yes-of (b .is-step .result) (b .is-step .ensures) (c .if3 .taken))
 
 next-offer-requires : tie.Need-next-offer-requires Inv-loop μ-loop
@@ -101,7 +118,7 @@ next-offer-requires c κs =
     let d = c .before .before .before .before .before in
     let L = d .before .before in
     let s = start L in
-    (asks L .few, s .pre .0 .given .ready, s .pre .1 .policy, from-range (s .pre .0) (s .args .mode) (s .pre .2) (from L .before .states-of .ensures) (from L .at .ensures), L .loop .inv .resumes (d .if1 .taken))
+    (asks L .few, block-of-type (s .pre .0 .ready) (s .pre .0 .planned) (from-range (s .pre .0) (s .pre .1) (from L .before .states-of .ensures) (from L .at .ensures)), L .loop .inv .resumes (d .if1 .taken))
 
 loop-less : tie.Need-loop-less Inv-loop μ-loop
 loop-less c = omega (arith, c .next-offer .ensures .low)
@@ -111,16 +128,16 @@ loop-again c =
     let j = c .before .before in
     let L = j .before .before .before .before .before .before in
     let s = start L in
-    look-more (s .pre .0) (s .args .mode) (s .pre .2) (from L .before .states-of .ensures) (from L .at .ensures) (s .pre .1) (asks L) (L .loop .inv) (c .next-offer .ensures)
-    (λ i z ed. let k = only-here (s .pre .0) (s .args .mode) (s .pre .2) (from L .before .states-of .ensures) (from L .at .ensures) (s .pre .1) (asks L) (L .loop .inv) i z in
-    ⊎-elim (λ w. no-of (w .1 .result) (w .1 .ensures) (w .2 .left) (subst (λ (e : ℕ). graphOf (now (s .args .policy)) (now (s .args .goal)) (s .args .counts) (s .args .mode) .Edge (s .args .u) e (s .args .w)) (sym (k .0)) ed))
-    (λ w. w .left (k .1 ∙ sym (type-is (s .pre .0) (s .args .mode) (s .pre .2) (from L .before .states-of .ensures) (to L .at2 .ensures)))) (j .if2 .came))
+    look-more (s .pre .0) (s .pre .1) (from L .before .states-of .ensures) (from L .at .ensures) (asks L) (L .loop .inv) (type-open (s .pre .0) (s .pre .1) (from L .before .states-of .ensures) every-key (to L .at2 .ensures) refl) (next-law (s .pre .0 .ready) (s .pre .0 .planned) (from-range (s .pre .0) (s .pre .1) (from L .before .states-of .ensures) (from L .at .ensures)) (c .next-offer .ensures))
+    (λ i z ed. let k = only-here (s .pre .0) (s .pre .1) (from L .before .states-of .ensures) (from L .at .ensures) (asks L) (L .loop .inv) i z in
+    ⊎-elim (λ w. no-of (w .1 .result) (w .1 .ensures) (w .2 .left) (subst (λ (e : ℕ). graphOf (now (s .args .policy)) (now (s .args .plan)) (s .args .task) .Edge (s .args .u) e (s .args .w)) (sym (k .0)) ed))
+    (λ w. w .left (k .1 ∙ sym (type-is (s .pre .0) (s .pre .1) (from L .before .states-of .ensures) (to L .at2 .ensures)))) (j .if2 .came))
 
 returns-2 : tie.Need-returns-2 Inv-loop μ-loop
 returns-2 c =
     let L = c .before .before in
     let s = start L in
-    absurd (look-end (s .pre .0) (s .args .mode) (s .pre .2) (from L .before .states-of .ensures) (from L .at .ensures) (s .pre .1) (asks L) (L .loop .inv) (omega (arith, c .if1 .left)))
+    absurd (look-end (s .pre .0) (s .pre .1) (from L .before .states-of .ensures) (from L .at .ensures) (asks L) (L .loop .inv) (omega (arith, c .if1 .left)))
 
 pub least-event-spec : {M : Type 1} → statement M
 least-event-spec =
@@ -133,6 +150,9 @@ least-event-spec =
     at-requires
     div-at-2
     at-requires-2
+    cast-other
+    mul-swept
+    array-write-swept
     rem-t16
     keeps-of-requires
     first-offer-requires

@@ -1,0 +1,201 @@
+-- The σ sets of a context: how they are read from the goal's part of a plan, and that they are those of the goal.
+use Prim.Native.Nat.{ℕ, zero, suc, _+_, _-_, _*_, _/_, _%_, _≤_, _<_}
+use mathlib.Core.Path.{_≡_, refl, sym, subst, ap, ap₂, _∙_}
+use mathlib.Core.Bool.{Bool, true, false, cond, _&&_}
+use mathlib.Core.List.{List}
+use mathlib.Core.Logic.{⊎-elim}
+use native.Mathlib.Nat.{div-add-mod'}
+use native.Mathlib.Omega.{arith}
+use borrow.Author.Tests.{eq-eqb}
+use lib.Bits.{bitOr, or-zero-r}
+use lib.Arith.{digits-lt, digits-div, digits-mod}
+use lib.Dec.{eqb}
+use Rattle.base.specs.Bits.{bit}
+use Rattle.base.specs.inner.Fill.{Filled}
+use Rattle.base.proofs.UptoLaws.{or-true, true-or-false}
+use Rattle.policy_image.specs.declared.counts.Counts.{Counts}
+use Rattle.policy_image.specs.Policy.{Policy}
+use Rattle.context.specs.declared.Context.{Context}
+use Rattle.context.specs.Codes.{contextAt, eventOf}
+use Rattle.context.specs.Ranges.{ContextInRange}
+use Rattle.context.specs.inner.Places.{contextAtIndex}
+use Rattle.goal_image.specs.Goal.{Goal, goalOf}
+use Rattle.goal_image.specs.Questions.{OneChainEach}
+use Rattle.goal_image.specs.Sets.{fits, matchesContext}
+use Rattle.goal_image.specs.inner.Memberships.{ContextSets, EventSets}
+use Rattle.goal_image.specs.inner.Sound.{SoundGoal}
+use Rattle.tables.specs.inner.Tables.{typeEntries}
+use Rattle.plan.specs.inner.Types.{startOf, pairCount, roleAt, userAt, OfType}
+use Rattle.plan.specs.inner.Regions.{recordEntries, pairEntries, firstStart, keysStart, groupsStart, eventsStart, typeSetsStart, pairSetsStart}
+use Rattle.plan.specs.inner.Entries.{firstAt, keyAt, typeSetsAt, pairSetsAt, namedAt, linkAt, marksAt}
+use Rattle.plan.specs.inner.Sets.{Falls, recordFits, listed, pairOf, setsOf}
+use Rattle.plan.specs.inner.Named.{AllLinked, LinksPut, Named, NamedSets}
+use Rattle.plan.specs.inner.Plan.{PlanCounts, PairSets, Grouped, GoalPlan}
+use Rattle.plan.specs.inner.Put.{Tops, Kept, GoalPut, LeadsPut}
+use Rattle.plan.proofs.TypeLaws.{pairs-few, pair-high, of-pair, of-same}
+use Rattle.plan.proofs.NamedLaws.{Walking, walk-begin, walk-pass, walk-take, walk-end, links-kept, sets-joined}
+
+-- ---- lists: one step, and steps enough are enough
+listed-more : (plan : List ℕ) (x : Context) (steps k sets : ℕ)
+    → listed plan x (suc steps) (suc k) sets ≡ listed plan x steps (linkAt plan (suc k)) (cond (recordFits plan x (suc k)) (bitOr sets (marksAt plan (suc k))) sets)
+unfolding listed
+listed-more plan x steps k sets = refl
+
+module _ {plan : List ℕ} (F : Falls plan) (x : Context) where
+  none-left : (a sets : ℕ) → listed plan x a 0 sets ≡ sets
+  unfolding listed
+  none-left zero sets = refl
+  none-left (suc a) sets = refl
+
+  enough : (a b k sets : ℕ) → k ≤ a → k ≤ b → k < recordEntries → listed plan x a k sets ≡ listed plan x b k sets
+  enough zero b zero sets la lb h = none-left zero sets ∙ sym (none-left b sets)
+  enough zero b (suc k) sets la lb h = absurd (omega arith)
+  enough (suc a) b zero sets la lb h = none-left (suc a) sets ∙ sym (none-left b sets)
+  enough (suc a) zero (suc k) sets la lb h = absurd (omega arith)
+  enough (suc a) (suc b) (suc k) sets la lb h =
+      let l = F .links (suc k) (omega arith) h in
+      listed-more plan x a k sets ∙ enough a b (linkAt plan (suc k)) _ (omega arith) (omega arith) (omega arith) ∙ sym (listed-more plan x b k sets)
+
+  pub listed-step : (k sets : ℕ) → k < recordEntries → (k ≡ 0 → ⊥)
+      → listed plan x k k sets ≡ listed plan x (linkAt plan k) (linkAt plan k) (cond (recordFits plan x k) (bitOr sets (marksAt plan k)) sets)
+  listed-step zero sets h n = absurd (n refl)
+  listed-step (suc k) sets h n =
+      let l = F .links (suc k) (omega arith) h in
+      listed-more plan x k k sets ∙ enough k (linkAt plan (suc k)) (linkAt plan (suc k)) _ (omega arith) (omega arith) (omega arith)
+
+  pub listed-end : {k sets : ℕ} → k ≡ 0 → listed plan x k k sets ≡ sets
+  listed-end {sets = sets} e = ap (λ (i : ℕ). listed plan x i i sets) e ∙ none-left 0 sets
+
+-- ---- the sets of the context at a place of a type; f is the type's first place
+pair-is : (n : Counts) (o i : ℕ) → pairOf n (contextAt o (roleAt n i) (userAt n i)) ≡ i
+pair-is n o i =
+    let a : roleAt n i - 1 ≡ i / n .users = omega arith in
+    let b : userAt n i - 1 ≡ i % n .users = omega arith in
+    ap₂ (λ (d m : ℕ). d * n .users + m) a b ∙ div-add-mod' i (n .users)
+
+module _ {n : Counts} {o y f : ℕ} (C : PlanCounts n) (H : OfType n o y) (first : f ≡ startOf n o) where
+  abbrev i : ℕ
+  i = y - f
+
+  abbrev x : Context
+  x = contextAt o (roleAt n i) (userAt n i)
+
+  -- entries of the type and of the pair
+  pub own-few : o < typeEntries
+  own-few = let a = C .types in let b = H .type .high in omega arith
+
+  pub pair-few : i < pairEntries
+  pair-few = omega (arith, of-pair (C .countable) H first, pairs-few C)
+
+  pub pair-names : (roleAt n i ≤ 15) × (userAt n i ≤ 15)
+  pair-names = pair-high C i (of-pair (C .countable) H first)
+
+  at-place : (plan : List ℕ) → setsOf n plan x ≡ setsOf n plan (contextAtIndex n y)
+  at-place plan = ap (setsOf n plan) (of-same (C .countable) H first)
+
+  pub sets-all : (plan : List ℕ) {x′ : Context} {c : ℕ} → x′ ≡ x → c ≡ listed plan x′ (namedAt plan (x′ .ty)) (namedAt plan (x′ .ty)) 0
+      → bitOr (bitOr (typeSetsAt plan o) (pairSetsAt plan i)) c ≡ setsOf n plan (contextAtIndex n y)
+  unfolding setsOf
+  sets-all plan {x′} {c} e q =
+      ap₂ (λ (k v : ℕ). bitOr (bitOr (typeSetsAt plan o) (pairSetsAt plan k)) v) (sym (pair-is n o i)) (q ∙ ap (λ (z : Context). listed plan z (namedAt plan (z .ty)) (namedAt plan (z .ty)) 0) e)
+      ∙ at-place plan
+
+  pub sets-few : {plan : List ℕ} → Falls plan → namedAt plan o ≡ 0 → bitOr (typeSetsAt plan o) (pairSetsAt plan i) ≡ setsOf n plan (contextAtIndex n y)
+  sets-few {plan} F e = sym (or-zero-r (bitOr (typeSetsAt plan o) (pairSetsAt plan i))) ∙ sets-all plan refl (sym (listed-end F x e))
+
+-- ---- they are the goal's
+module _ {g : Goal} {plan : List ℕ} (L : AllLinked g plan) (O : OneChainEach g) (few : g .size < recordEntries) (x : Context) where
+  -- a record of the list of x's type matches x where its role and its user fit
+  matches : {k : ℕ} → k ≤ g .size → Named g (x .ty) k → matchesContext (g .context k) x ≡ recordFits plan x k
+  matches {k} h N =
+      let d = L .noted (x .ty) k (omega arith) N in
+      ap₂ _&&_ (or-true (eqb (g .context k .ty) 0) (eqb (g .context k .ty) (x .ty)) (eq-eqb (g .context k .ty) (x .ty) (N .type)))
+      (ap₂ (λ (r u : ℕ). fits r (x .role) && fits u (x .user)) (sym (d .role)) (sym (d .user)))
+
+  ended : (steps sets : ℕ) → Walking g x sets 0 → NamedSets g x (listed plan x steps 0 sets)
+  ended steps sets W = subst (NamedSets g x) (sym (none-left (L .falls) x steps sets)) (walk-end W refl)
+
+  walked : (steps k sets : ℕ) → k ≤ steps → Walking g x sets k → NamedSets g x (listed plan x steps k sets)
+  walked zero zero sets h W = ended 0 sets W
+  walked zero (suc k) sets h W = absurd (omega arith)
+  walked (suc steps) zero sets h W = ended (suc steps) sets W
+  walked (suc steps) (suc k) sets h W =
+      let z = W .high in
+      let l : linkAt plan (suc k) < suc k = L .falls .links (suc k) (omega arith) (omega arith) in
+      let n : suc k ≡ 0 → ⊥ = λ e. omega arith in
+      let m = matches z (W .is n) in
+      let v : ℕ = bitOr sets (marksAt plan (suc k)) in
+      subst (NamedSets g x) (sym (listed-more plan x steps k sets))
+      (⊎-elim
+      (λ (t : recordFits plan x (suc k) ≡ true). subst (λ (b : Bool). NamedSets g x (listed plan x steps (linkAt plan (suc k)) (cond b v sets))) (sym t) (walked steps (linkAt plan (suc k)) v (omega arith) (walk-take L O W n (m ∙ t) refl)))
+      (λ (t : recordFits plan x (suc k) ≡ false). subst (λ (b : Bool). NamedSets g x (listed plan x steps (linkAt plan (suc k)) (cond b v sets))) (sym t) (walked steps (linkAt plan (suc k)) sets (omega arith) (walk-pass L O W n (m ∙ t) refl)))
+      (true-or-false (recordFits plan x (suc k))))
+
+  pub named-are : x .ty < typeEntries → NamedSets g x (listed plan x (namedAt plan (x .ty)) (namedAt plan (x .ty)) 0)
+  named-are h = let a : namedAt plan (x .ty) ≤ namedAt plan (x .ty) = omega arith in walked (namedAt plan (x .ty)) (namedAt plan (x .ty)) 0 a (walk-begin L h)
+
+pub goal-sets : {g : List ℕ} {n : Counts} {plan : List ℕ} {x : Context} → PlanCounts n → GoalPlan g n plan → ContextInRange n x → ContextSets (goalOf g) x (setsOf n plan x)
+unfolding setsOf
+goal-sets {g} {n} {plan} {x} C P R =
+    let i : ℕ = pairOf n x in
+    let l = R .role .low in
+    let l′ = R .user .low in
+    let h : i < pairCount n = pair-lt in
+    let t : x .ty < typeEntries = (let a = C .types in let b = R .ty .high in omega arith) in
+    sets-joined (P .sound .chains) l l′ (R .ty .low) t (P .sets .types (x .ty) (R .ty))
+    (subst (λ (z : Context). ContextSets (goalOf g) z (pairSetsAt plan i)) same (P .sets .pairs i h))
+    (named-are (P .sets .lists) (P .sound .chains) (let z = P .sound .exact .few in omega arith) x t)
+  where
+    own-role : x .role - 1 + 1 ≡ x .role
+    own-role = let l = R .role .low in omega arith
+
+    own-user : x .user - 1 + 1 ≡ x .user
+    own-user = let l = R .user .low in omega arith
+
+    user-lt : x .user - 1 < n .users
+    user-lt = let l = R .user .low in let h = R .user .high in omega arith
+
+    pair-lt : pairOf n x < pairCount n
+    pair-lt = digits-lt (let l = R .role .low in let h = R .role .high in let z : x .role - 1 < n .roles = omega arith in z) user-lt
+
+    same : contextAt 0 (roleAt n (pairOf n x)) (userAt n (pairOf n x)) ≡ contextAt 0 (x .role) (x .user)
+    same =
+        ap₂ (contextAt 0) (ap (λ (k : ℕ). k + 1) (digits-div (x .role - 1) user-lt) ∙ own-role) (ap (λ (k : ℕ). k + 1) (digits-mod (x .role - 1) user-lt) ∙ own-user)
+
+-- ---- making: what the leads are put over is the policy's part as it was
+pub goal-before : {P Q R : ℕ → ℕ → Type 0} {g : Goal} {old p1 p2 p3 p4 : List ℕ} {a b d : ℕ} → Filled P old p1 eventsStart 32 a → Filled Q p1 p2 typeSetsStart 1 b → Filled R p2 p3 pairSetsStart 0 d → LinksPut g p3 p4
+    → Kept eventsStart old p4
+goal-before E A B K i h = K .below i (omega arith) ∙ B .below i (omega arith) ∙ A .below i (omega arith) ∙ E .below i (omega arith)
+
+module _ {g old p1 p2 p3 p4 plan : List ℕ} {n : Counts} {classes types : ℕ} (S : SoundGoal g) (C : PlanCounts n) (T : Tops (n .types) old) (ec : classes ≡ n .classes) (et : types ≡ n .types)
+    (E : Filled (λ e v. EventSets (goalOf g) (eventOf e) v) old p1 eventsStart 32 (32 * (classes + 1)))
+    (A : Filled (λ t v. ContextSets (goalOf g) (contextAt t 0 0) v) p1 p2 typeSetsStart 1 (types + 1))
+    (B : Filled (λ i v. PairSets (goalOf g) n i v) p2 p3 pairSetsStart 0 (pairCount n)) (K : LinksPut (goalOf g) p3 p4) (L : LeadsPut (n .types) p4 plan) where
+  before : Kept eventsStart old p4
+  before = goal-before E A B K
+
+  pub goal-put : GoalPut g n old plan
+  goal-put =
+      let k = pairs-few C in
+      let few = C .classes in
+      let tf = C .types in
+      record {
+        goal = record {
+          sound = S;
+          events = λ e l h. subst (EventSets (goalOf g) (eventOf e)) (sym (L .below (eventsStart + e) (omega arith) ∙ K .below (eventsStart + e) (omega arith) ∙ B .below (eventsStart + e) (omega arith) ∙ A .below (eventsStart + e) (omega arith))) (E .here e l (omega arith));
+          sets = record {
+            types = λ t w. let h = w .high in subst (ContextSets (goalOf g) (contextAt t 0 0)) (sym (L .below (typeSetsStart + t) (omega arith) ∙ K .below (typeSetsStart + t) (omega arith) ∙ B .below (typeSetsStart + t) (omega arith))) (A .here t (w .low) (omega arith));
+            pairs = λ i h. subst (PairSets (goalOf g) n i) (sym (L .below (pairSetsStart + i) (omega arith) ∙ K .below (pairSetsStart + i) (omega arith))) (B .here i (omega arith) h);
+            lists = links-kept (let z = S .exact .few in omega arith) (L .below) (K .lists);
+          };
+        };
+        leads = λ p G j h small.
+            let top = T .at (n .types) (record { low = C .some-type; high = omega arith }) in
+            let f : firstAt p4 (n .types + 1) ≡ firstAt old (n .types + 1) = before (firstStart + (n .types + 1)) (omega arith) in
+            let q : keyAt p4 j ≡ keyAt old j = before (keysStart + j) (omega arith) in
+            L .leads p (grouped p G) j (omega arith) (omega arith);
+        below = λ i h. L .below i (omega arith) ∙ before i h;
+      }
+    where
+      grouped : (p : Policy) → Grouped p old → Grouped p p4
+      grouped p G = record { sound = λ c q i lc lq li b. G .sound c q i lc lq li (subst (λ (v : ℕ). bit v i ≡ true) (before (groupsStart + (32 * c + q)) (omega arith)) b) }

@@ -1,0 +1,78 @@
+// The goal's part of a plan: the sets of its events and contexts, and the permissions that stand for others where the sets do not tell them
+// apart.
+use crate::leads::put_leads;
+use crate::named::put_links;
+use crate::regions::EVENTS;
+use crate::regions::PAIR_SETS;
+use crate::regions::TYPE_SETS;
+use context::Context;
+use context::Event;
+use goal_image::sets::context_sets;
+use goal_image::sets::event_sets;
+use policy_image::counts::Counts;
+ghost use Prim.Native.Nat.{_+_, _*_, _≤_, _<_};
+ghost use lib.ListN.{length};
+ghost use Rattle.base.specs.inner.Fill.{Filled};
+ghost use Rattle.context.specs.Codes.{contextAt, eventOf};
+ghost use Rattle.goal_image.specs.Goal.{goalOf};
+ghost use Rattle.goal_image.specs.inner.Memberships.{ContextSets, EventSets};
+ghost use Rattle.goal_image.specs.inner.Sound.{SoundGoal};
+ghost use Rattle.tables.specs.inner.Tables.{typeEntries};
+ghost use Rattle.plan.specs.inner.Plan.{PlanCounts, PairSets};
+ghost use Rattle.plan.specs.inner.Put.{Tops, GoalPut};
+ghost use Rattle.plan.specs.inner.Regions.{classEntries, eventsStart, typeSetsStart, pairSetsStart, planEntries};
+ghost use Rattle.plan.specs.inner.Types.{pairCount};
+
+// The sets of the events of the policy's classes.
+fn put_events(goal: &[u8], classes: u32, plan: &mut [u32])
+    requires { ⌜ SoundGoal (now goal) × (classes < classEntries) × (planEntries ≤ length (now plan)) ⌝ }
+    ensures { λ _. ⌜ Filled (λ e v. EventSets (goalOf (now (goal .entry))) (eventOf e) v) (now (plan .entry)) (now (plan .exit)) eventsStart 32 (32 * (classes + 1)) ⌝ }
+{
+    let end = 32 * (classes + 1);
+    let mut e: u32 = 32;
+    while e < end {
+        let at = EVENTS + (e as usize);
+        plan[at] = event_sets(goal, Event::decode(e));
+        e += 1;
+    }
+}
+
+// The sets that each type gives its contexts.
+fn put_type_sets(goal: &[u8], types: u32, plan: &mut [u32])
+    requires { ⌜ SoundGoal (now goal) × (types < typeEntries) × (planEntries ≤ length (now plan)) ⌝ }
+    ensures { λ _. ⌜ Filled (λ t v. ContextSets (goalOf (now (goal .entry))) (contextAt t 0 0) v) (now (plan .entry)) (now (plan .exit)) typeSetsStart 1 (types + 1) ⌝ }
+{
+    let mut t: u32 = 1;
+    while t <= types {
+        let at = TYPE_SETS + (t as usize);
+        plan[at] = context_sets(goal, Context::new(t, 0, 0));
+        t += 1;
+    }
+}
+
+// The sets that each pair gives its contexts.
+fn put_pair_sets(goal: &[u8], counts: Counts, plan: &mut [u32])
+    requires { ⌜ SoundGoal (now goal) × PlanCounts counts × (planEntries ≤ length (now plan)) ⌝ }
+    ensures { λ _. ⌜ Filled (λ i v. PairSets (goalOf (now (goal .entry))) counts i v) (now (plan .entry)) (now (plan .exit)) pairSetsStart 0 (pairCount counts) ⌝ }
+{
+    let pairs = counts.roles * counts.users;
+    let mut i: u32 = 0;
+    while i < pairs {
+        let x = Context::new(0, i / counts.users + 1, i % counts.users + 1);
+        let at = PAIR_SETS + (i as usize);
+        plan[at] = context_sets(goal, x);
+        i += 1;
+    }
+}
+
+// Puts the part of the goal over that of a policy with the counts.
+pub fn put_goal(goal: &[u8], counts: Counts, plan: &mut [u32])
+    requires { ⌜ SoundGoal (now goal) × PlanCounts counts × Tops (counts .types) (now plan) × (planEntries ≤ length (now plan)) ⌝ }
+    ensures { λ _. ⌜ GoalPut (now (goal .entry)) counts (now (plan .entry)) (now (plan .exit)) ⌝ }
+{
+    put_events(goal, counts.classes, plan);
+    put_type_sets(goal, counts.types, plan);
+    put_pair_sets(goal, counts, plan);
+    put_links(goal, plan);
+    put_leads(counts, plan);
+}
