@@ -6,7 +6,7 @@ use std::collections::BTreeMap;
 use std::fs;
 use std::path::Path;
 
-/// The crate whose `pub` functions are the outward calls, but for those of modules that it keeps to itself.
+/// The crate whose `pub` functions are the outward calls, but for those of modules that it keeps to itself and has no C call in.
 pub const OUTWARD: &str = "flowgoal";
 
 pub struct Tree {
@@ -59,7 +59,8 @@ impl Tree {
         Tree { specs, code, page, readme }
     }
 
-    /// The files of the outward crate's code that another crate can name: all, where some file passes anything on by `pub use`.
+    /// The files of the outward crate's code that have something to call: for another crate, which is all of them where some file passes
+    /// anything on by `pub use`, or for C, which asks no module.
     pub fn outward(&self) -> impl Iterator<Item = (&String, &RattleFile)> {
         let folder = format!("crates/{OUTWARD}/src/");
         let own = move |path: &str| path.starts_with(&folder);
@@ -71,7 +72,9 @@ impl Tree {
             .flat_map(|(_, file)| &file.private_modules)
             .flat_map(|name| [format!("/src/{name}.rt"), format!("/src/{name}/")])
             .collect();
-        of_crate.into_iter().filter(move |(path, _)| passes_on || !private.iter().any(|part| path.contains(part.as_str())))
+        let is_private = move |path: &str| private.iter().any(|part| path.contains(part.as_str()));
+        let for_c = |file: &RattleFile| file.functions.iter().any(|f| f.signature.contains("extern "));
+        of_crate.into_iter().filter(move |(path, file)| passes_on || for_c(file) || !is_private(path))
     }
 
     /// The type that a name stands for in a file of code.
