@@ -3,7 +3,7 @@ use Prim.Native.Nat.{ℕ, suc, _+_, _*_, _^_, _≤_, _<_}
 use mathlib.Core.Bool.{true, false}
 use mathlib.Core.List.{List}
 use mathlib.Core.Logic.{_⊎_, inl, inr, ⊎-elim}
-use mathlib.Core.Path.{_≡_, refl, sym, subst}
+use mathlib.Core.Path.{_≡_, refl, sym, subst, _∙_}
 use native.Mathlib.Omega.{arith}
 use Rattle.base.proofs.UptoLaws.{clash}
 use Rattle.policy_image.specs.declared.counts.Counts.{Counts}
@@ -108,7 +108,18 @@ module _ {s plan : List ℕ} {n : Counts} {l : Legs} (A : (m : Mode) → Given s
       right-holds (Start x) g z y = absurd (clash z refl)
       right-holds (At e) g z y = absurd (clash z refl)
 
-      -- events alone: they are found again, up to as many steps
+      -- events alone: the bound is their number of steps
+      pub right-bound : (o : Found) → FoundLeast s plan (taskFor n l Order) b back′ o → isNothing o ≡ true → isNothing v ≡ false → EventsAt M b
+      right-bound Nothing g z y = go v f q y
+        where
+          go : (v : Found) → FoundLeast s plan (taskFor n l Events) 67108864 back v → b ≡ boundOf v → isNothing v ≡ false → EventsAt M b
+          go Nothing f q y = absurd (clash refl y)
+          go (Start x) f q y = subst (EventsAt M) (sym q) (events-right M some-leg 0 (f .least) (λ k h. g k (inl (omega arith))))
+          go (At e) f q y = subst (EventsAt M) (one-more ∙ sym q) (events-right M some-leg (suc (e .depth)) (f .0 .least) (λ k h. g k (inl (omega arith))))
+      right-bound (Start x) g z y = absurd (clash z refl)
+      right-bound (At e) g z y = absurd (clash z refl)
+
+      -- .. and they are found again, up to as many
       pub right-events : (o : Found) → FoundLeast s plan (taskFor n l Order) b back′ o → isNothing o ≡ true → isNothing v ≡ false
           → (back″ : List ℕ) (r : Found) → FoundLeast s plan (taskFor n l Events) b back″ r → RightFound M Events r
       right-events Nothing g z y back″ r p = go r p

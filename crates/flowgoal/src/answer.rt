@@ -119,7 +119,11 @@ pub fn answer_by(
     if is_nothing(events) {
         return Outcome::Holds;
     }
-    // the search for order has overwritten the links
+    // where there is no room for the path, its links are not needed
+    if path.len() < 2 * (bound as usize) + 1 {
+        return Outcome::NoRoom(bound);
+    }
+    // the search for order has overwritten them
     let again = search(policy, plan, by_events, bound, work1, work2);
     outcome_of(policy, plan, by_events, again, work2, path)
 }
