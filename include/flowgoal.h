@@ -36,9 +36,9 @@
  * overlap, nor a slice and an image. A null pointer with length 0 is an empty image or slice; a null pointer with any other
  * length is not allowed.
  *
- * Stack. A call needs FLOWGOAL_STACK bytes of stack at the most: what the goal question makes of the images stands there, and
- * constraints are evaluated by recursion, where the deepest constraint of an accepted policy has 4,093 nested nodes below a
- * permission that can be asked about.
+ * Stack. A call needs FLOWGOAL_STACK bytes of stack at the most: what the goal question and least steps make of the images
+ * stands there, and constraints are evaluated by recursion, where the deepest constraint of an accepted policy has 4,093 nested
+ * nodes below a permission that can be asked about.
  */
 #ifndef FLOWGOAL_H
 #define FLOWGOAL_H
@@ -59,7 +59,8 @@ extern "C" {
 
 /* The entries that each work slice needs, for counts in range: T types, R roles and U users stand in bytes 0, 1 and 2 of the
  * policy and n legs in byte 0 of the goal. They may be relied on where a call with work slices of length 0 is refused with 11:
- * then both images are accepted. FLOWGOAL_LARGEST_WORK entries, 3,672,000, are enough for all. */
+ * then both images are accepted. Least steps has no goal: it needs those of 0 legs. FLOWGOAL_LARGEST_WORK entries, 3,672,000,
+ * are enough for all. */
 #define FLOWGOAL_WORK_ENTRIES(types, roles, users, legs) \
     ((size_t)(types) * (size_t)(roles) * (size_t)(users) * ((size_t)1 << (legs)))
 #define FLOWGOAL_LARGEST_WORK FLOWGOAL_WORK_ENTRIES(255, 15, 15, 6)
@@ -68,7 +69,7 @@ extern "C" {
 #define FLOWGOAL_PATH_ENTRIES(steps) (2 * (size_t)(steps) + 1)
 
 /* A result is 256 * steps + 4 * number + answer. The number is that of the refusal, and 0 for every other answer. Steps are
- * those of a shortest path that breaks a goal, and 0 where there is none to tell of. */
+ * those of a shortest path that breaks a goal, or leads from one context to another, and 0 where there is none to tell of. */
 #define FLOWGOAL_ANSWER(result) ((unsigned)((result) % 4))
 #define FLOWGOAL_NUMBER(result) ((unsigned)((result) / 4 % 64))
 #define FLOWGOAL_STEPS(result) ((uint64_t)((result) / 256))
@@ -81,6 +82,10 @@ extern "C" {
 /* The answers to the two questions about one event. */
 #define FLOWGOAL_NO 0
 #define FLOWGOAL_YES 1
+
+/* The answers to least steps. */
+#define FLOWGOAL_NONE 0
+#define FLOWGOAL_SHOWN 1
 
 /* An answer to all of them: refused, with its number. */
 #define FLOWGOAL_REFUSED 3
@@ -96,7 +101,7 @@ extern "C" {
  * entry 2 * j + 1 is the event of the next step, as 32 * class + permission. Later entries are left as they are, and all of
  * them where the goal holds or the question is refused. The work slices are overwritten; what they hold does not matter.
  *
- * The call refuses with 1 to 6 as below, or with
+ * The call refuses with 1 to 6 and 14 as below, or with
  *   7   the goal is shorter than 34 bytes, has more than 255 records, or its length does not fit the number of records
  *   8   the number of legs is out of range, or a flag or a head of a leg that is not there is not 0
  *   9   a head or a next is out of range, a next is not above its record, or a record lies on no chain or on two
@@ -117,8 +122,9 @@ uint64_t flowgoal_check(const uint8_t *policy, size_t policy_length, const uint8
  *   2   a count of types, roles, users or classes is out of range
  *   3   a head or a next is out of range, or a next is not above its record
  *   4   a chain does not hold exactly the records of its kind
- *   5   a field of a record is out of range
+ *   5   a field of a record is out of range, or one that is not used is not 0
  *   6   a constraint's root or a node's child is no node, stands too high, or is used twice
+ *   14  the source of an allow record is no domain
  *   13  a context, the class or the permission is out of range
  * and these are asked in this order: the first that applies is the number.
  */
@@ -130,6 +136,27 @@ uint64_t flowgoal_authorized(const uint8_t *policy, size_t policy_length, uint32
  * first. It refuses as flowgoal_authorized does. */
 uint64_t flowgoal_flows(const uint8_t *policy, size_t policy_length, uint32_t t1, uint32_t r1, uint32_t u1, uint32_t t2,
                         uint32_t r2, uint32_t u2, uint32_t class_number, uint32_t permission);
+
+/* By how many steps of flow does the context (t1, r1, u1) reach (t2, r2, u2) at the least?
+ *
+ * FLOWGOAL_NONE   no path, of any length, leads from the first to the second. That is so, too, where the role of one of them
+ *                 may not hold its type or its user may not hold its role: such a context does not even reach itself.
+ * FLOWGOAL_SHOWN  a path of FLOWGOAL_STEPS steps leads there, and none of fewer: it stands in the path slice, in the form of
+ *                 flowgoal_check. Every other context reaches itself by 0 steps.
+ *
+ * Entries after the path are left as they are, and all of them where there is none or the question is refused. The work slices
+ * are overwritten; what they hold does not matter.
+ *
+ * The call refuses with 1 to 6 and 14 as flowgoal_authorized does, or with
+ *   13  a context is out of range
+ *   11  a work slice has fewer than T * R * U entries, for T types, R roles and U users
+ *   12  there is a path, and the path slice has fewer than 2 * m + 1 entries for a shortest one of m steps, which are
+ *       FLOWGOAL_STEPS of the result
+ * and these are asked in this order, after those of the policy: the first that applies is the number.
+ */
+uint64_t flowgoal_least_steps(const uint8_t *policy, size_t policy_length, uint32_t t1, uint32_t r1, uint32_t u1,
+                              uint32_t t2, uint32_t r2, uint32_t u2, uint32_t *work1, size_t work1_length, uint32_t *work2,
+                              size_t work2_length, uint32_t *path, size_t path_length);
 
 #ifdef __cplusplus
 }

@@ -1,4 +1,5 @@
 #include "images.h"
+#include "flowgoal.h"
 
 #include <pthread.h>
 #include <stdio.h>
@@ -56,6 +57,22 @@ void policy_weir(struct policy *policy)
     policy_add(policy, 5, 2, 2, 0, 0, 0);
     policy_add(policy, 5, 2, 4, 0, 0, 0);
     policy_add(policy, 6, 1, 2, 0, 0, 0);
+}
+
+void policy_deep(struct policy *policy, int allowed, unsigned last)
+{
+    policy_start(policy, 2, 1, 1, 2);
+    policy_add(policy, 2, 2, 0, 0, 0, 1);
+    policy_add(policy, 3, 2, 1, 0, 0, 1);
+    policy_add(policy, 8, 2, 0, 0, last, 1);
+    if (allowed) {
+        policy_add(policy, 1, 1, 0, 0, 0, 0);
+        policy_add(policy, 4, 1, 2, 2, 0, 1);
+        policy_add(policy, 5, 1, 1, 0, 0, 0);
+    }
+    policy_add(policy, 9, 4, 0, 0, 0, 0);
+    while (policy->records < last)
+        policy_add(policy, 9, 1, 0, 0, 0, policy->records);
 }
 
 void goal_start(struct goal *goal, unsigned legs, unsigned repeated)
@@ -119,6 +136,18 @@ size_t read_image(const char *folder, const char *name, uint8_t *bytes, size_t m
     return length;
 }
 
+void *lent(const void *source, size_t length)
+{
+    void *copy = malloc(length == 0 ? 1 : length);
+    if (copy == NULL) {
+        printf("no memory\n");
+        exit(1);
+    }
+    if (source != NULL)
+        memcpy(copy, source, length);
+    return copy;
+}
+
 void expect(const char *what, uint64_t got, uint64_t wanted)
 {
     if (got == wanted) {
@@ -126,6 +155,18 @@ void expect(const char *what, uint64_t got, uint64_t wanted)
     } else {
         failed++;
         printf("%s: %llu, expected %llu\n", what, (unsigned long long)got, (unsigned long long)wanted);
+    }
+}
+
+void expect_result(const char *what, uint64_t got, uint64_t steps, unsigned number, unsigned answer)
+{
+    expect(what, got, 256 * steps + 4 * number + answer);
+    if (FLOWGOAL_STEPS(got) == steps && FLOWGOAL_NUMBER(got) == number && FLOWGOAL_ANSWER(got) == answer) {
+        passed++;
+    } else {
+        failed++;
+        printf("%s: the header takes steps %llu, number %u and answer %u out of %llu\n", what,
+               (unsigned long long)FLOWGOAL_STEPS(got), FLOWGOAL_NUMBER(got), FLOWGOAL_ANSWER(got), (unsigned long long)got);
     }
 }
 

@@ -1,4 +1,4 @@
-/* Policy and goal images for the C tests, built record by record. */
+/* What the C tests share: policy and goal images, built record by record, and how results are held to what is wanted. */
 #ifndef IMAGES_H
 #define IMAGES_H
 
@@ -31,6 +31,10 @@ void policy_start(struct policy *policy, unsigned types, unsigned roles, unsigne
 void policy_add(struct policy *policy, unsigned kind, unsigned a, unsigned b, unsigned c, unsigned root, uint32_t mask);
 /* The weir policy of the specification. */
 void policy_weir(struct policy *policy);
+/* The deepest constraints that a search can come to: a class, its way of flow, a constraint, and nodes up to the record named,
+ * each `not` of the one before, above "same type". The records that let type 1 write to type 2, where it is allowed, make it
+ * come to flow, where an odd number of negations makes the constraint true for them. */
+void policy_deep(struct policy *policy, int allowed, unsigned last);
 
 void goal_start(struct goal *goal, unsigned legs, unsigned repeated);
 void goal_sigma(struct goal *goal, unsigned chain, unsigned type, unsigned role, unsigned user);
@@ -41,8 +45,14 @@ void goal_g(struct goal *goal);
 /* The file of at most so many bytes, read as a loader does; gives its length. The run ends where it cannot be opened. */
 size_t read_image(const char *folder, const char *name, uint8_t *bytes, size_t most);
 
+/* A copy of so many bytes on the heap, with nothing behind it, so that valgrind sees every byte that is touched beyond; of no
+ * source, bytes that nobody set, so that it sees where an answer hangs on what they are. To be freed. */
+void *lent(const void *source, size_t length);
+
 /* Counts one check, and prints what it got where that is not what was wanted. */
 void expect(const char *what, uint64_t got, uint64_t wanted);
+/* Holds the result of a call to the number of the specification, and what the header's macros take out of it to its parts. */
+void expect_result(const char *what, uint64_t got, uint64_t steps, unsigned number, unsigned answer);
 /* Prints 'N passed, M failed'; gives the exit status. */
 int results(void);
 

@@ -7,27 +7,51 @@
 
 static struct policy policy;
 
+static uint64_t authorized(unsigned t1, unsigned r1, unsigned t2, unsigned r2, unsigned permission)
+{
+    return flowgoal_authorized(policy.bytes, policy.length, t1, r1, 1, t2, r2, 1, 2, permission);
+}
+
+static uint64_t flows(unsigned t1, unsigned r1, unsigned t2, unsigned r2, unsigned permission)
+{
+    return flowgoal_flows(policy.bytes, policy.length, t1, r1, 1, t2, r2, 1, 2, permission);
+}
+
 static void answers(void)
 {
     const uint8_t *image = policy.bytes;
     policy_weir(&policy);
-    expect("2 reads 1", flowgoal_authorized(image, policy.length, 2, 2, 1, 1, 1, 1, 2, 0), FLOWGOAL_YES);
-    expect("2 writes no 1", flowgoal_authorized(image, policy.length, 2, 2, 1, 1, 1, 1, 2, 1), FLOWGOAL_NO);
-    expect("a read flows in", flowgoal_flows(image, policy.length, 1, 1, 1, 2, 2, 1, 2, 0), FLOWGOAL_YES);
-    expect("and not out", flowgoal_flows(image, policy.length, 2, 2, 1, 1, 1, 1, 2, 0), FLOWGOAL_NO);
-    expect("permission 32", flowgoal_authorized(image, policy.length, 2, 2, 1, 1, 1, 1, 2, 32), 4 * 13 + FLOWGOAL_REFUSED);
-    expect("its number", FLOWGOAL_NUMBER(flowgoal_authorized(image, policy.length, 2, 2, 1, 1, 1, 1, 2, 32)), 13);
-    expect("its answer", FLOWGOAL_ANSWER(flowgoal_authorized(image, policy.length, 2, 2, 1, 1, 1, 1, 2, 32)), FLOWGOAL_REFUSED);
-    expect("type 257", flowgoal_flows(image, policy.length, 257, 1, 1, 2, 2, 1, 2, 0), 4 * 13 + FLOWGOAL_REFUSED);
-    expect("the largest numbers",
-           flowgoal_authorized(image, policy.length, UINT32_MAX, UINT32_MAX, UINT32_MAX, UINT32_MAX, UINT32_MAX, UINT32_MAX,
-                               UINT32_MAX, UINT32_MAX),
-           4 * 13 + FLOWGOAL_REFUSED);
-    expect("a null image", flowgoal_authorized(NULL, 0, 2, 2, 1, 1, 1, 1, 2, 0), 4 * 1 + FLOWGOAL_REFUSED);
-    expect("a byte short", flowgoal_flows(image, policy.length - 1, 2, 2, 1, 1, 1, 1, 2, 0), 4 * 1 + FLOWGOAL_REFUSED);
+    expect_result("2 reads 1", authorized(2, 2, 1, 1, 0), 0, 0, FLOWGOAL_YES);
+    expect_result("2 writes no 1", authorized(2, 2, 1, 1, 1), 0, 0, FLOWGOAL_NO);
+    expect_result("a read flows in", flows(1, 1, 2, 2, 0), 0, 0, FLOWGOAL_YES);
+    expect_result("and not out", flows(2, 2, 1, 1, 0), 0, 0, FLOWGOAL_NO);
+    expect_result("permission 32", authorized(2, 2, 1, 1, 32), 0, 13, FLOWGOAL_REFUSED);
+    expect_result("type 257", flows(257, 1, 2, 2, 0), 0, 13, FLOWGOAL_REFUSED);
+    expect_result("the largest numbers",
+                  flowgoal_authorized(image, policy.length, UINT32_MAX, UINT32_MAX, UINT32_MAX, UINT32_MAX, UINT32_MAX,
+                                      UINT32_MAX, UINT32_MAX, UINT32_MAX),
+                  0, 13, FLOWGOAL_REFUSED);
+    expect_result("a null image", flowgoal_authorized(NULL, 0, 2, 2, 1, 1, 1, 1, 2, 0), 0, 1, FLOWGOAL_REFUSED);
+    expect_result("a byte short", flowgoal_flows(image, policy.length - 1, 2, 2, 1, 1, 1, 1, 2, 0), 0, 1, FLOWGOAL_REFUSED);
     put16(policy.bytes + POLICY_HEADER, 1);
-    expect("a next equal to its own number", flowgoal_flows(image, policy.length, 2, 2, 1, 1, 1, 1, 2, 0),
-           4 * 3 + FLOWGOAL_REFUSED);
+    expect_result("a next equal to its own number", flows(2, 2, 1, 1, 0), 0, 3, FLOWGOAL_REFUSED);
+}
+
+/* W9: an added allow from a type that is no domain is refused with 14, whatever is asked, in range or not. */
+static void weir_9(void)
+{
+    unsigned refused = 1;
+    policy_weir(&policy);
+    policy_add(&policy, 4, 3, 1, 2, 0, 1);
+    for (unsigned i = 0; i < 6 * 2 * 6 * 2 * 34; i++) {
+        unsigned t1 = i % 6, r1 = i / 6 % 2 + 1, t2 = i / 12 % 6, r2 = i / 72 % 2 + 1, permission = i / 144;
+        refused &= authorized(t1, r1, t2, r2, permission) == 4 * 14 + 3 && flows(t1, r1, t2, r2, permission) == 4 * 14 + 3;
+    }
+    expect("W9: every question is refused", refused, 1);
+    policy_add(&policy, 1, 3, 0, 0, 0, 0);
+    policy_add(&policy, 5, 2, 3, 0, 0, 0);
+    expect_result("W9 with type 3 a domain: 3 reads 1", authorized(3, 2, 1, 1, 0), 0, 0, FLOWGOAL_YES);
+    expect_result("and permission 32 is out of range", authorized(3, 2, 1, 1, 32), 0, 13, FLOWGOAL_REFUSED);
 }
 
 /* The deepest constraint that can be asked about: a class with its permission, a constraint on it, and the rest nodes, each
@@ -40,13 +64,13 @@ static void ask_deep(void)
     deep_result = flowgoal_authorized(policy.bytes, policy.length, 1, 1, 1, 1, 1, 1, 1, 0);
 }
 
-static void deepest(int authorized)
+static void deepest(int yes)
 {
     size_t used;
     policy_start(&policy, 1, 1, 1, 1);
     policy_add(&policy, 2, 1, 0, 0, 0, 1);
     policy_add(&policy, 8, 1, 0, 0, POLICY_MOST, 1);
-    if (authorized) {
+    if (yes) {
         policy_add(&policy, 1, 1, 0, 0, 0, 0);
         policy_add(&policy, 4, 1, 0, 1, 0, 1);
         policy_add(&policy, 5, 1, 1, 0, 0, 0);
@@ -57,14 +81,15 @@ static void deepest(int authorized)
         policy_add(&policy, 9, 1, 0, 0, 0, policy.records);
     used = stack_of(ask_deep);
     printf("a constraint of %u nested nodes took %zu bytes of stack; the header says %d at the most\n",
-           authorized ? POLICY_MOST - 6 : POLICY_MOST - 2, used, FLOWGOAL_STACK);
-    expect("the deepest constraint", deep_result, authorized ? FLOWGOAL_YES : FLOWGOAL_NO);
+           yes ? POLICY_MOST - 6 : POLICY_MOST - 2, used, FLOWGOAL_STACK);
+    expect_result("the deepest constraint", deep_result, 0, 0, yes ? FLOWGOAL_YES : FLOWGOAL_NO);
     expect("its stack", used <= FLOWGOAL_STACK, 1);
 }
 
 int main(void)
 {
     answers();
+    weir_9();
     deepest(1);
     deepest(0);
     return results();

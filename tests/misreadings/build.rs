@@ -1,11 +1,12 @@
 //! Writes the copy of the second search in which each misreading can be switched on: its sources as they are, with every
-//! place of `src/places.rs` replaced. A place that does not stand in its file exactly once stops the build.
+//! place of `places.rs` replaced. A place that does not stand in its file exactly once stops the build.
+mod places;
+
+use places::PLACES;
 use std::{env, fs, path::Path};
 
-include!("src/places.rs");
-
 const SOURCE: &str = "../second-search/src";
-const FILES: [&str; 5] = ["policy.rs", "goal.rs", "paths.rs", "layers.rs", "answer.rs"];
+const FILES: [&str; 7] = ["landed.rs", "policy.rs", "goal.rs", "paths.rs", "layers.rs", "answer.rs", "steps.rs"];
 
 /// Inner doc comments may not stand in an included file.
 fn without_inner_docs(text: &str) -> String {
@@ -30,5 +31,5 @@ fn main() {
         let text = switched(file, without_inner_docs(&text));
         fs::write(Path::new(&out).join(file), text).unwrap_or_else(|e| panic!("{file}: {e}"));
     }
-    println!("cargo:rerun-if-changed=src/places.rs");
+    println!("cargo:rerun-if-changed=places.rs");
 }

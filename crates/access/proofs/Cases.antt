@@ -6,11 +6,12 @@ use Rattle.base.specs.Bits.{bit}
 use Rattle.policy_image.specs.Layout.{countsOf, recordCount, recordOf, policyHead, payloadOf, decoded}
 use Rattle.policy_image.specs.Policy.{policyOf}
 use Rattle.policy_image.specs.OfKind.{some, every}
-use Rattle.policy_image.specs.cases.Weir.{weir}
-use Rattle.policy_nodes.specs.Nodes.{useOf}
+use Rattle.policy_image.specs.cases.Weir.{weir, weirAllow31}
+use Rattle.policy_expressions.specs.Nodes.{useOf}
 use Rattle.policy_check.proofs.Tests.{Accepted, accepted}
 use Rattle.context.specs.Codes.{contextAt as at, eventAt as event}
-use Rattle.relations.specs.Relations.{domain, Γ, writeLike, readLike, allowed, α, ρ, μ, roleChange}
+use Rattle.policy_sources.specs.Sources.{domain}
+use Rattle.relations.specs.Relations.{Γ, writeLike, readLike, allowed, α, ρ, μ, roleChange}
 use Rattle.constraints.specs.Eval.{evalAt, evalNode}
 use Rattle.constraints.specs.Constraints.{constraintsHold}
 use Rattle.access.specs.Authorization.{χ, roleRule, authorized, flow}
@@ -19,11 +20,11 @@ use Rattle.access.specs.cases.Readers.{readers}
 
 pub readers-accepted : Accepted readers
 unfolding countsOf recordCount recordOf policyHead payloadOf decoded useOf
-readers-accepted = accepted refl refl refl refl refl refl
+readers-accepted = accepted refl refl refl refl refl refl refl
 
 pub gate-accepted : Accepted gate
 unfolding countsOf recordCount recordOf policyHead payloadOf decoded useOf
-gate-accepted = accepted refl refl refl refl refl refl
+gate-accepted = accepted refl refl refl refl refl refl refl
 
 -- ---- the weir policy: who may do what
 pub weir-2-reads-1 : authorized (policyOf weir) (event 2 0) (at 2 2 1) (at 1 1 1) ≡ true
@@ -69,8 +70,8 @@ pub write-by-domain : authorized (policyOf gate) (event 2 1) (at 2 2 1) (at 1 1 
 unfolding authorized flow χ roleRule constraintsHold evalNode evalAt domain Γ writeLike readLike allowed α ρ μ roleChange some every bit countsOf recordCount recordOf policyHead payloadOf decoded
 write-by-domain = refl
 
--- an allow whose source is no domain
-pub source-no-domain : authorized (policyOf gate) (event 2 0) (at 4 1 1) (at 1 1 1) ≡ false
+-- an allow whose source is no domain: of the formula alone, since question 14 refuses such a policy
+pub source-no-domain : authorized (policyOf weirAllow31) (event 2 0) (at 3 1 1) (at 1 1 1) ≡ false
 unfolding authorized flow χ roleRule constraintsHold evalNode evalAt domain Γ writeLike readLike allowed α ρ μ roleChange some every bit countsOf recordCount recordOf policyHead payloadOf decoded
 source-no-domain = refl
 

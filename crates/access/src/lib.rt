@@ -2,12 +2,14 @@
 use constraints::constraints_hold;
 use context::Context;
 use context::Event;
-use relations::relations::alpha;
-use relations::relations::flows_as;
-use relations::relations::gamma;
-use relations::relations::mu;
-use relations::relations::rho;
-use relations::relations::role_change;
+use policy_image::kinds::READ_LIKE;
+use policy_image::kinds::WRITE_LIKE;
+use relations::alpha;
+use relations::flows_as;
+use relations::gamma;
+use relations::mu;
+use relations::rho;
+use relations::role_change;
 ghost use mathlib.Core.Path.{_≡_};
 ghost use mathlib.Core.Bool.{_&&_};
 ghost use Prim.Native.Nat.{_<_};
@@ -37,69 +39,69 @@ pub fn decide(k: Clauses) -> bool
 }
 
 // Whether the event is in Γ and every constraint on it is true.
-fn chi(image: &[u8], e: Event, x: Context, y: Context) -> bool
-    requires { ⌜ Sound (now image) × (e .perm < 32) ⌝ }
-    ensures { λ r. ⌜ r ≡ χ (policyOf (now (image .entry))) e x y ⌝ }
+fn chi(policy: &[u8], e: Event, x: Context, y: Context) -> bool
+    requires { ⌜ Sound (now policy) × (e .perm < 32) ⌝ }
+    ensures { λ r. ⌜ r ≡ χ (policyOf (now (policy .entry))) e x y ⌝ }
 {
-    if !gamma(image, e) {
+    if !gamma(policy, e) {
         return false;
     }
-    constraints_hold(image, e, x, y)
+    constraints_hold(policy, e, x, y)
 }
 
 // Whether the role may change, where the event is process transition.
-fn role_rule(image: &[u8], e: Event, x: Context, y: Context) -> bool
-    requires { ⌜ Sound (now image) × Coded e ⌝ }
-    ensures { λ r. ⌜ r ≡ roleRule (policyOf (now (image .entry))) e x y ⌝ }
+fn role_rule(policy: &[u8], e: Event, x: Context, y: Context) -> bool
+    requires { ⌜ Sound (now policy) × Coded e ⌝ }
+    ensures { λ r. ⌜ r ≡ roleRule (policyOf (now (policy .entry))) e x y ⌝ }
 {
     if !e.is_transition() {
         return true;
     }
-    role_change(image, x.role, y.role)
+    role_change(policy, x.role, y.role)
 }
 
 // The value of each clause for the action e of x on y.
-fn values(image: &[u8], e: Event, x: Context, y: Context) -> Clauses
-    requires { ⌜ Sound (now image) × Coded e ⌝ }
-    ensures { λ r. ⌜ r ≡ clausesOf (policyOf (now (image .entry))) e x y ⌝ }
+fn values(policy: &[u8], e: Event, x: Context, y: Context) -> Clauses
+    requires { ⌜ Sound (now policy) × Coded e ⌝ }
+    ensures { λ r. ⌜ r ≡ clausesOf (policyOf (now (policy .entry))) e x y ⌝ }
 {
     Clauses {
-        alpha: alpha(image, x.ty, y.ty, e),
-        rho1: rho(image, x.role, x.ty),
-        rho2: rho(image, y.role, y.ty),
-        mu1: mu(image, x.user, x.role),
-        mu2: mu(image, y.user, y.role),
-        chi: chi(image, e, x, y),
-        rule: role_rule(image, e, x, y),
+        alpha: alpha(policy, x.ty, y.ty, e),
+        rho1: rho(policy, x.role, x.ty),
+        rho2: rho(policy, y.role, y.ty),
+        mu1: mu(policy, x.user, x.role),
+        mu2: mu(policy, y.user, y.role),
+        chi: chi(policy, e, x, y),
+        rule: role_rule(policy, e, x, y),
     }
 }
 
 // Whether the event is authorized from x on y.
-pub fn authorized(image: &[u8], event: u32, x: Context, y: Context) -> bool
-    requires { ⌜ Sound (now image) × (event < 2097152) ⌝ }
-    ensures { λ r. ⌜ r ≡ authorizedOf (policyOf (now (image .entry))) (eventOf event) x y ⌝ }
+pub fn authorized(policy: &[u8], event: u32, x: Context, y: Context) -> bool
+    requires { ⌜ Sound (now policy) × (event < 2097152) ⌝ }
+    ensures { λ r. ⌜ r ≡ authorizedOf (policyOf (now (policy .entry))) (eventOf event) x y ⌝ }
 {
-    decide(values(image, Event::decode(event), x, y))
+    decide(values(policy, Event::decode(event), x, y))
 }
 
 // Whether the event flows the given way, 1 write-like or 2 read-like, and is authorized from x on y.
-fn acts(image: &[u8], way: u32, event: u32, x: Context, y: Context) -> bool
-    requires { ⌜ Sound (now image) × (event < 2097152) ⌝ }
-    ensures { λ r. ⌜ r ≡ (flowsAs (policyOf (now (image .entry))) way (eventOf event) && authorizedOf (policyOf (now (image .entry))) (eventOf event) x y) ⌝ }
+fn acts(policy: &[u8], way: u32, event: u32, x: Context, y: Context) -> bool
+    requires { ⌜ Sound (now policy) × (event < 2097152) ⌝ }
+    ensures { λ r. ⌜ r ≡ (flowsAs (policyOf (now (policy .entry))) way (eventOf event) && authorizedOf (policyOf (now (policy .entry))) (eventOf event) x y) ⌝ }
 {
-    if !flows_as(image, way, Event::decode(event)) {
+    if !flows_as(policy, way, Event::decode(event)) {
         return false;
     }
-    authorized(image, event, x, y)
+    authorized(policy, event, x, y)
 }
 
 // Whether there is flow from x to y by the event.
-pub fn flows(image: &[u8], event: u32, x: Context, y: Context) -> bool
-    requires { ⌜ Sound (now image) × (event < 2097152) ⌝ }
-    ensures { λ r. ⌜ r ≡ flow (policyOf (now (image .entry))) (eventOf event) x y ⌝ }
+pub fn flows(policy: &[u8], event: u32, x: Context, y: Context) -> bool
+    requires { ⌜ Sound (now policy) × (event < 2097152) ⌝ }
+    ensures { λ r. ⌜ r ≡ flow (policyOf (now (policy .entry))) (eventOf event) x y ⌝ }
 {
-    if acts(image, 1, event, x, y) {
+    if acts(policy, WRITE_LIKE, event, x, y) {
         return true;
     }
-    acts(image, 2, event, y, x)
+    acts(policy, READ_LIKE, event, y, x)
 }

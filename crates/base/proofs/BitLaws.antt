@@ -148,6 +148,14 @@ bit-ext (suc k) a b ha hb e =
     (λ p h. bit-shr a 1 p ∙ rw one-add (e (suc p) (omega arith)) ∙ sym (bit-shr b 1 p)) in
     omega arith
 
+below-pow : (n : ℕ) → n < 2 ^ n
+below-pow zero = omega arith
+below-pow (suc n) = omega (arith, below-pow n, pow-suc 2 n)
+
+-- numbers with the same bits are equal
+pub bits-all : (a b : ℕ) → ((p : ℕ) → bit a p ≡ bit b p) → a ≡ b
+bits-all a b e = bit-ext (a + b) a b (omega (arith, below-pow (a + b))) (omega (arith, below-pow (a + b))) (λ p h. e p)
+
 digit-test : (d p : ℕ) → d < 2 → not (eqb (d * 2 ^ p) 0) ≡ eqb d 1
 digit-test zero p h = rw (zero-mul (2 ^ p))
 digit-test (suc zero) p h = rw (ne-eqb (1 * 2 ^ p) 0 (omega (arith, pow-pos p)))

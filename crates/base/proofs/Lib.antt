@@ -4,5 +4,7 @@ pub mod Decide
 pub mod QuestionLaws
 pub mod ChainLaws
 pub mod BitLaws
+pub mod BoolLaws
 pub mod LowestLaws
 pub mod FillLaws
+pub mod WritingLaws

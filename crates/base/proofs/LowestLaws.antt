@@ -1,16 +1,19 @@
 -- The lowest bit of a mask.
-use mathlib.Core.Path.{_≡_, refl, sym, _∙_, ap, subst}
-use mathlib.Core.Bool.{true, false}
+use mathlib.Core.Path.{_≡_, refl, sym, _∙_, ap, ap₂, subst}
+use mathlib.Core.Bool.{Bool, true, false, not, _&&_}
+use mathlib.Core.Logic.{⊎-elim}
 use Prim.Native.Nat.{ℕ, zero, suc, _*_, _/_, _%_, _^_, _<_}
 use native.Mathlib.Nat.{pow-suc, pow-succ', div-lt-iff-lt-mul, zero-lt-suc, div-div-eq-div-mul, div-one, mul-one, mul-left-comm}
 use native.Mathlib.Decide.{decLt}
 use native.Mathlib.Omega.{arith}
 use lib.Count.{trailingZeros, under}
+use lib.Dec.{eqb}
 use borrow.Author.Tests.{eq-eqb}
 use Rattle.base.specs.Bits.{bit}
-use Rattle.base.specs.inner.Masks.{Lowest}
+use Rattle.base.specs.inner.Masks.{Lowest, With, Without}
 use Rattle.base.proofs.BitLaws.{bit-above, bit-shl-low}
-use Rattle.base.proofs.UptoLaws.{clash}
+use Rattle.base.proofs.BoolLaws.{or-true, clash}
+use Rattle.base.proofs.Numbers.{split-eq}
 
 tz-odd : (d q : ℕ) → 0 < q → q < 2 ^ d → q / 2 ^ trailingZeros d q % 2 ≡ 1
 unfolding trailingZeros
@@ -54,3 +57,9 @@ lowest-law m h l =
     small : Dec (trailingZeros 32 m < 32) → trailingZeros 32 m < 32
     small (yes a) = a
     small (no n) = absurd (clash has (bit-above {m = m} {k = 32} (trailingZeros 32 m) l (omega arith)))
+
+-- without its lowest bit, and whatever else, a mask is less: a loop that takes bits out ends
+pub less-without : {m p x one rest : ℕ} → Lowest m p → With x p one → Without m one rest → rest < m
+less-without {m} {p} {x} {rest = rest} L I W =
+    let off : bit rest p ≡ false = W .at p ∙ ap₂ (λ (u v : Bool). u && not v) (L .has) (I .at p ∙ or-true (bit x p) (eqb p p) (eq-eqb p p refl)) in
+    ⊎-elim (λ (e : rest ≡ m). absurd (clash (ap (λ (v : ℕ). bit v p) e ∙ L .has) off)) (λ (d : rest ≡ m → ⊥). omega (arith, d, W .most)) (split-eq rest m)

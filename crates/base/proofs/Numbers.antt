@@ -21,19 +21,28 @@ split-eq a b = either (ℕ-discrete a b)
 pub split-le : (a b : ℕ) → (a ≤ b) ⊎ (b < a)
 split-le a b = ⊎-elim (λ h. inl h) (λ h. inr (omega (arith, h))) (either (decLe a b))
 
+-- below n + 1 is below n or n itself
+pub below-or : {i n : ℕ} → i < n + 1 → (i ≡ n) ⊎ (i < n)
+below-or l = eq-or-lt-of-le (omega arith)
+
 -- a number from k on that is not k is from k + 1 on
 pub skip : {n : ℕ} (k : ℕ) → k ≤ n → (n ≡ k → ⊥) → k < n
 skip k h d = omega arith
 
--- what holds of every number from 1 to below i
-module _ (P : ℕ → Type 0) where
-  pub upto-none : (k : ℕ) → 1 ≤ k → k < 1 → P k
-  upto-none k a b = let z : ⊥ = omega arith in absurd z
+-- what holds of every number from a to below i, and from 1
+module _ (P : ℕ → Type 0) (a : ℕ) where
+  pub from-none : (k : ℕ) → a ≤ k → k < a → P k
+  from-none k l h = let z : ⊥ = omega arith in absurd z
 
-  pub upto-more : (i : ℕ) → ((k : ℕ) → 1 ≤ k → k < i → P k) → P i → (k : ℕ) → 1 ≤ k → k < i + 1 → P k
-  upto-more i all here k a b =
-      let l : k ≤ i = omega arith in
-      ⊎-elim (λ e. subst P (sym e) here) (λ h. all k a h) (eq-or-lt-of-le l)
+  pub from-more : (i : ℕ) → ((k : ℕ) → a ≤ k → k < i → P k) → P i → (k : ℕ) → a ≤ k → k < i + 1 → P k
+  from-more i all here k l h =
+      ⊎-elim (λ e. subst P (sym e) here) (λ t. all k l t) (below-or h)
+
+pub upto-none : (P : ℕ → Type 0) (k : ℕ) → 1 ≤ k → k < 1 → P k
+upto-none P = from-none P 1
+
+pub upto-more : (P : ℕ → Type 0) (i : ℕ) → ((k : ℕ) → 1 ≤ k → k < i → P k) → P i → (k : ℕ) → 1 ≤ k → k < i + 1 → P k
+upto-more P = from-more P 1
 
 -- a number between two neighbours is one of them; of three likewise
 pub two-of : (P : ℕ → Type 0) (k n : ℕ) → k ≤ n → n ≤ k + 1 → P k → P (k + 1) → P n

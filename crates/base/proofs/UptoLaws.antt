@@ -1,57 +1,12 @@
 -- Laws of the tests of the numbers from 1 to n.
 use Prim.Native.Nat.{ℕ, zero, suc, _≤_}
 use mathlib.Core.Path.{_≡_, refl, sym, subst}
-use mathlib.Core.Bool.{Bool, true, false, _&&_, _||_}
-use mathlib.Core.Logic.{_⊎_, inl, inr, ⊎-elim}
+use mathlib.Core.Bool.{Bool, true, false}
+use mathlib.Core.Logic.{_⊎_, ⊎-elim}
 use native.Mathlib.Nat.{eq-or-lt-of-le}
 use native.Mathlib.Omega.{arith}
 use Rattle.base.specs.Upto.{anyUpto, allUpto}
-
--- ---- truth values
-pub or-true : (a b : Bool) → b ≡ true → (a || b) ≡ true
-or-true true b e = refl
-or-true false b e = e
-
-pub or-left : (a b : Bool) → a ≡ true → (a || b) ≡ true
-or-left true b e = refl
-or-left false b e = let z : _≡_ {A = ℕ} 0 1 = cc in absurd (omega arith)
-
-pub clash : {b : Bool} → b ≡ true → b ≡ false → ⊥
-clash p q = let z : _≡_ {A = ℕ} 0 1 = cc in omega arith
-
-pub first-false : (b c : Bool) → (b || c) ≡ false → b ≡ false
-first-false true c h = h
-first-false false c h = refl
-
-pub or-false : (a b : Bool) → a ≡ false → b ≡ false → (a || b) ≡ false
-or-false true b e f = e
-or-false false b e f = f
-
-pub or-cases : (a b : Bool) → (a || b) ≡ true → (a ≡ true) ⊎ (b ≡ true)
-or-cases true b e = inl refl
-or-cases false b e = inr e
-
-pub and-true : (a b : Bool) → a ≡ true → b ≡ true → (a && b) ≡ true
-and-true true b e f = f
-and-true false b e f = e
-
-pub and-first : (a b : Bool) → (a && b) ≡ true → a ≡ true
-and-first true b e = refl
-and-first false b e = e
-
-pub and-second : (a b : Bool) → (a && b) ≡ true → b ≡ true
-and-second true b e = e
-and-second false b e = let z : _≡_ {A = ℕ} 0 1 = cc in absurd (omega arith)
-
-pub true-or-false : (a : Bool) → (a ≡ true) ⊎ (a ≡ false)
-true-or-false true = inl refl
-true-or-false false = inr refl
-
--- two truth values, each of which is true where the other is
-pub same-truth : (a b : Bool) → (a ≡ true → b ≡ true) → (b ≡ true → a ≡ true) → a ≡ b
-same-truth true b f g = sym (f refl)
-same-truth false true f g = g refl
-same-truth false false f g = refl
+use Rattle.base.proofs.BoolLaws.{clash, or-true, or-left, or-false, or-cases, and-true, and-first, and-second, true-or-false}
 
 -- ---- some
 pub any-yes : (f : ℕ → Bool) (n i : ℕ) → 1 ≤ i → i ≤ n → f i ≡ true → anyUpto f n ≡ true
@@ -72,7 +27,7 @@ pub record Found (f : ℕ → Bool) (n : ℕ) : Type 0 where
   pub holds : f at ≡ true
 
 pub any-found : (f : ℕ → Bool) (n : ℕ) → anyUpto f n ≡ true → Found f n
-any-found f zero e = let z : _≡_ {A = ℕ} 0 1 = cc in absurd (omega arith)
+any-found f zero e = absurd (clash e refl)
 any-found f (suc n) e =
     ⊎-elim
     (λ h. let r = any-found f n h in let b = r .high in record { at = r .at; low = r .low; high = omega arith; holds = r .holds })
@@ -92,5 +47,4 @@ all-at f (suc n) i e a b =
 
 pub all-no : (f : ℕ → Bool) (n i : ℕ) → 1 ≤ i → i ≤ n → f i ≡ false → allUpto f n ≡ false
 all-no f n i a b e =
-    ⊎-elim (λ h. let t : f i ≡ true = all-at f n i h a b in let z : _≡_ {A = ℕ} 0 1 = cc in absurd (omega arith)) (λ h. h)
-    (true-or-false (allUpto f n))
+    ⊎-elim (λ h. absurd (clash (all-at f n i h a b) e)) (λ h. h) (true-or-false (allUpto f n))

@@ -8,8 +8,8 @@ use native.Mathlib.Nat.{le-refl}
 use Rattle.base.proofs.Numbers.{table-other}
 use Rattle.policy_image.specs.Layout.{leftOf, rightOf}
 use Rattle.policy_image.specs.Policy.{Policy}
-use Rattle.policy_nodes.specs.Nodes.{IsNode, NodesInOrder}
-use Rattle.policy_nodes.proofs.UseLaws.{left-child, right-child}
+use Rattle.policy_expressions.specs.Nodes.{IsNode, NodesInOrder}
+use Rattle.policy_expressions.proofs.UseLaws.{left-child, right-child}
 use Rattle.context.specs.declared.Context.{Context}
 use Rattle.constraints.specs.Eval.{Value, never, operators, valueOf, evalAt, evalNode}
 

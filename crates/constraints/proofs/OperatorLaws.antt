@@ -5,7 +5,7 @@ use mathlib.Core.Bool.{false, not, _&&_, _||_}
 use lib.Dec.{eqb}
 use Rattle.policy_image.specs.Layout.{leftOf, rightOf}
 use Rattle.policy_image.specs.Policy.{Policy}
-use Rattle.policy_nodes.specs.Nodes.{IsNode, NodesInOrder}
+use Rattle.policy_expressions.specs.Nodes.{IsNode, NodesInOrder}
 use Rattle.context.specs.declared.Context.{Context}
 use Rattle.constraints.specs.Eval.{evalNode}
 use Rattle.constraints.proofs.EvalLaws.{eval-by, op-other}

@@ -24,36 +24,36 @@ ghost use Prim.Native.Nat.{_<_};
 ghost use Rattle.policy_image.specs.Layout.{PolicyExact, rootOf};
 ghost use Rattle.policy_image.specs.Policy.{policyOf};
 ghost use Rattle.policy_image.specs.inner.Reading.{Bytes};
-ghost use Rattle.policy_nodes.specs.Nodes.{NodesInOrder, IsNode};
+ghost use Rattle.policy_expressions.specs.Nodes.{NodesInOrder, IsNode};
 ghost use Rattle.policy_check.specs.inner.Sound.{Sound};
 ghost use Rattle.constraints.specs.Eval.{evalNode};
 ghost use Rattle.constraints.specs.Constraints.{constrains, constraintsHold};
 
 // The value of a node: x is the process's context, y the resource's.
 // A tree of 4,095 nodes in a row has as many calls on the stack at once.
-pub fn eval(image: &[u8], node: usize, x: Context, y: Context) -> bool
-    requires { ⌜ PolicyExact (now image) × NodesInOrder (policyOf (now image)) × IsNode (policyOf (now image)) node ⌝ }
-    ensures { λ r. ⌜ r ≡ evalNode (policyOf (now (image .entry))) x y node ⌝ }
+fn eval(policy: &[u8], node: usize, x: Context, y: Context) -> bool
+    requires { ⌜ PolicyExact (now policy) × NodesInOrder (policyOf (now policy)) × IsNode (policyOf (now policy)) node ⌝ }
+    ensures { λ r. ⌜ r ≡ evalNode (policyOf (now (policy .entry))) x y node ⌝ }
 {
-    let r = record_at(image, node);
+    let r = record_at(policy, node);
     let op = r.a;
     let b = r.b;
     let left = (r.mask % 65536) as usize;
     let right = (r.mask / 65536) as usize;
     match op {
-        NOT => !eval(image, left, x, y),
+        NOT => !eval(policy, left, x, y),
         AND => {
-            if eval(image, left, x, y) {
-                eval(image, right, x, y)
+            if eval(policy, left, x, y) {
+                eval(policy, right, x, y)
             } else {
                 false
             }
         }
         OR => {
-            if eval(image, left, x, y) {
+            if eval(policy, left, x, y) {
                 true
             } else {
-                eval(image, right, x, y)
+                eval(policy, right, x, y)
             }
         }
         SAME_TYPE => x.ty == y.ty,
@@ -70,10 +70,10 @@ pub fn eval(image: &[u8], node: usize, x: Context, y: Context) -> bool
 }
 
 // Whether the constraint r is true, or is not on the event: x acts, y is acted on.
-fn constraint_holds(image: &[u8], r: Record, e: Event, x: Context, y: Context) -> bool
-    requires { ⌜ PolicyExact (now image) × NodesInOrder (policyOf (now image)) × IsNode (policyOf (now image)) (rootOf r) ⌝ }
+fn constraint_holds(policy: &[u8], r: Record, e: Event, x: Context, y: Context) -> bool
+    requires { ⌜ PolicyExact (now policy) × NodesInOrder (policyOf (now policy)) × IsNode (policyOf (now policy)) (rootOf r) ⌝ }
     requires { ⌜ Bytes r × (e .perm < 32) ⌝ }
-    ensures { λ t. ⌜ t ≡ (not (constrains r e) || evalNode (policyOf (now (image .entry))) x y (rootOf r)) ⌝ }
+    ensures { λ t. ⌜ t ≡ (not (constrains r e) || evalNode (policyOf (now (policy .entry))) x y (rootOf r)) ⌝ }
 {
     if r.a != e.class {
         return true;
@@ -81,18 +81,18 @@ fn constraint_holds(image: &[u8], r: Record, e: Event, x: Context, y: Context) -
     if !has_bit(r.mask, e.perm) {
         return true;
     }
-    eval(image, (r.d + 256 * r.e) as usize, x, y)
+    eval(policy, (r.d + 256 * r.e) as usize, x, y)
 }
 
 // Whether all constraints on the event are true: x acts, y is acted on.
-pub fn constraints_hold(image: &[u8], e: Event, x: Context, y: Context) -> bool
-    requires { ⌜ Sound (now image) × (e .perm < 32) ⌝ }
-    ensures { λ r. ⌜ r ≡ constraintsHold (policyOf (now (image .entry))) e x y ⌝ }
+pub fn constraints_hold(policy: &[u8], e: Event, x: Context, y: Context) -> bool
+    requires { ⌜ Sound (now policy) × (e .perm < 32) ⌝ }
+    ensures { λ r. ⌜ r ≡ constraintsHold (policyOf (now (policy .entry))) e x y ⌝ }
 {
-    let mut i = head_at(image, CONSTRAINTS);
+    let mut i = head_at(policy, CONSTRAINTS);
     while i != 0 {
-        let r = record_at(image, i);
-        if !constraint_holds(image, r, e, x, y) {
+        let r = record_at(policy, i);
+        if !constraint_holds(policy, r, e, x, y) {
             return false;
         }
         i = r.next;

@@ -8,7 +8,7 @@ use borrow.Author.Tests.{eq-eqb, ne-eqb}
 use Rattle.base.proofs.Numbers.{split-eq}
 use Rattle.context.specs.declared.Context.{Context}
 use Rattle.context.specs.declared.Event.{Event}
-use Rattle.context.specs.inner.Coding.{Coded, contextCode, eventCode}
+use Rattle.context.specs.inner.Coding.{Coded, contextCode, eventCode, transitionCode}
 use Rattle.context.specs.Codes.{contextOf, eventOf, isTransition}
 
 pub context-code-of : (n : ℕ) → contextCode (contextOf n) ≡ n
@@ -31,13 +31,13 @@ event-of-code e a =
     λ i. record { class = p i; perm = q i }
 
 -- an event is process transition exactly when its code is that of process transition
-pub transition-code : (e : Event) → e .perm < 32 → eqb (eventCode e) 32 ≡ isTransition e
+pub transition-code : (e : Event) → e .perm < 32 → eqb (eventCode e) transitionCode ≡ isTransition e
 transition-code e h =
     ⊎-elim
     (λ a.
-    ⊎-elim (λ b. eq-eqb (eventCode e) 32 (omega arith) ∙ sym (simp (eq-eqb (e .class) 1 a, eq-eqb (e .perm) 0 b)))
-    (λ b. ne-eqb (eventCode e) 32 (omega arith) ∙ sym (simp (eq-eqb (e .class) 1 a, ne-eqb (e .perm) 0 b))) (split-eq (e .perm) 0))
-    (λ a. ne-eqb (eventCode e) 32 (omega arith) ∙ sym (simp (ne-eqb (e .class) 1 a)))
+    ⊎-elim (λ b. eq-eqb (eventCode e) transitionCode (omega arith) ∙ sym (simp (eq-eqb (e .class) 1 a, eq-eqb (e .perm) 0 b)))
+    (λ b. ne-eqb (eventCode e) transitionCode (omega arith) ∙ sym (simp (eq-eqb (e .class) 1 a, ne-eqb (e .perm) 0 b))) (split-eq (e .perm) 0))
+    (λ a. ne-eqb (eventCode e) transitionCode (omega arith) ∙ sym (simp (ne-eqb (e .class) 1 a)))
     (split-eq (e .class) 1)
 
 pub coded-of : (n : ℕ) → n < 2097152 → Coded (eventOf n)

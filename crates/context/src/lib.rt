@@ -1,4 +1,6 @@
 // Contexts and events, and the numbers that stand for them.
+pub mod places;
+
 use base::ranges::within;
 use policy_image::counts::Counts;
 ghost use mathlib.Core.Path.{_≡_};
@@ -93,6 +95,9 @@ pub struct Event {
 impl Event {
     // Process transition.
     pub const TRANSITION: Event = Event { class: 1, perm: 0 };
+
+    // The number that stands for it, as `code` gives it.
+    pub const TRANSITION_CODE: u32 = 32 * Event::TRANSITION.class + Event::TRANSITION.perm;
 
     pub fn new(class: u32, perm: u32) -> Event
         ensures { λ r. ⌜ r ≡ eventAt class perm ⌝ }

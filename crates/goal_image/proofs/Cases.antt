@@ -2,7 +2,7 @@
 -- each way to misread a question a goal on which the misreading would answer otherwise. An answer is one (`one-answer`), so
 -- each theorem here rules out every other answer to its goal. The goals are put to a policy with T 4, R 2, U 1, C 2.
 use Prim.Native.Nat.{ℕ, _+_, _*_, _≤_, _<_}
-use mathlib.Core.Bool.{Bool, true, false, _&&_, _||_}
+use mathlib.Core.Bool.{Bool, true, false, _&&_, _||_, or-false}
 use mathlib.Core.Path.{_≡_, refl, ap, ap₂, _∙_}
 use mathlib.Core.List.{List, [], _∷_, _++_}
 use mathlib.Core.Logic.{inl, inr, ⊎-elim}
@@ -269,10 +269,6 @@ one-of : (a : Bool) → ((a && true) || false) ≡ a
 one-of true = refl
 one-of false = refl
 
-only : (a : Bool) → (a || false) ≡ a
-only true = refl
-only false = refl
-
 -- bit 0 is read, bit 1 write
 read-bit : (p : ℕ) → bit 1 p ≡ eqb 0 p
 read-bit p = bit-pow 0 p
@@ -296,11 +292,11 @@ g-σ2 x = one-of (eqb 4 (x .ty))
 -- "leg 0 one step, read; leg 1 repeated, read or write", in class 2
 pub g-γ0 : (e : Event) → eventIn (goalOf goalG) (γChain 0) e ≡ (eqb 2 (e .class) && eqb 0 (e .perm))
 unfolding legsOf flagsOf goalCount goalHead nextOf contextRecordOf eventRecordOf eventIn
-g-γ0 e = only (eqb 2 (e .class) && bit 1 (e .perm)) ∙ ap (λ (b : Bool). eqb 2 (e .class) && b) (read-bit (e .perm))
+g-γ0 e = or-false (eqb 2 (e .class) && bit 1 (e .perm)) ∙ ap (λ (b : Bool). eqb 2 (e .class) && b) (read-bit (e .perm))
 
 pub g-γ1 : (e : Event) → eventIn (goalOf goalG) (γChain 1) e ≡ (eqb 2 (e .class) && (eqb 0 (e .perm) || eqb 1 (e .perm)))
 unfolding legsOf flagsOf goalCount goalHead nextOf contextRecordOf eventRecordOf eventIn
-g-γ1 e = only (eqb 2 (e .class) && bit 3 (e .perm)) ∙ ap (λ (b : Bool). eqb 2 (e .class) && b) (both-bits (e .perm))
+g-γ1 e = or-false (eqb 2 (e .class) && bit 3 (e .perm)) ∙ ap (λ (b : Bool). eqb 2 (e .class) && b) (both-bits (e .perm))
 
 pub g-repeated : (flagsOf goalG ≡ 2) × (legsOf goalG ≡ 2)
 unfolding legsOf flagsOf goalCount goalHead nextOf contextRecordOf eventRecordOf
@@ -327,7 +323,7 @@ any-context-in x = refl
 -- any class, and the permissions of the mask alone
 pub any-class-in : (e : Event) → eventIn (goalOf anyGoal) (γChain 0) e ≡ eqb 0 (e .perm)
 unfolding legsOf flagsOf goalCount goalHead nextOf contextRecordOf eventRecordOf eventIn
-any-class-in e = only (bit 1 (e .perm)) ∙ read-bit (e .perm)
+any-class-in e = or-false (bit 1 (e .perm)) ∙ read-bit (e .perm)
 
 -- "an empty chain is the empty set"
 pub empty-context-set : (x : Context) → contextIn (goalOf anyGoal) (σChain 1) x ≡ false
@@ -348,4 +344,4 @@ union-in x = join (eqb 1 (x .ty)) (eqb 3 (x .ty))
 pub all-fields-in : (x : Context)
     → contextIn (goalOf (goal 1 0 (chains (1 ∷ []) [] 0 0) (context 0 1 2 1 ∷ []))) (σChain 0) x ≡ (eqb 1 (x .ty) && (eqb 2 (x .role) && eqb 1 (x .user)))
 unfolding legsOf flagsOf goalCount goalHead nextOf contextRecordOf eventRecordOf contextIn
-all-fields-in x = only (eqb 1 (x .ty) && (eqb 2 (x .role) && eqb 1 (x .user)))
+all-fields-in x = or-false (eqb 1 (x .ty) && (eqb 2 (x .role) && eqb 1 (x .user)))

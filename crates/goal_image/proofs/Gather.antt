@@ -1,18 +1,16 @@
 -- The loop that gathers the answers of the fifteen chains as bits: bit h for chain h.
-use Prim.Native.Nat.{ℕ, _+_, _*_, _^_, _%_, _<_}
+use Prim.Native.Nat.{ℕ, _+_, _*_, _^_, _%_, _≤_, _<_}
 use mathlib.Core.Bool.{Bool, true, false, _&&_, _||_}
 use mathlib.Core.Logic.{⊎-elim}
 use mathlib.Core.Path.{_≡_, refl, sym, ap, ap₂, subst, _∙_}
 use native.Mathlib.Omega.{arith}
-use native.Mathlib.Nat.{one-mul}
-use lib.Pow.{shl-exact}
-use lib.Dec.{eqb, ltb, lit<}
+use lib.Dec.{eqb, ltb}
 use lib.Bits.{bitOr}
 use borrow.Author.Tests.{lt-ltb, le-ltb, eq-eqb, ne-eqb}
 use Rattle.base.specs.Bits.{bit}
-use Rattle.base.proofs.BitLaws.{bit-or, bit-zero, bit-pow}
+use Rattle.base.proofs.BitLaws.{bit-zero, with-law}
 use Rattle.base.proofs.Numbers.{split-eq, split-le}
-use Rattle.base.proofs.UptoLaws.{true-or-false}
+use Rattle.base.proofs.BoolLaws.{true-or-false, or-none, and-yes, and-no}
 
 -- the mask has the answers of the chains below h
 abbrev pub Gathered : (ℕ → Bool) → ℕ → ℕ → Type 0
@@ -22,7 +20,7 @@ module _ (f : ℕ → Bool) where
   pub gathered-start : Gathered f 0 0
   gathered-start j = bit-zero j ∙ sym (rw (le-ltb j 0 (omega arith)))
 
-  module _ (h m : ℕ) (w : Gathered f h m) where
+  module _ (h m : ℕ) (w : Gathered f h m) (m′ : ℕ) where
     -- below h + 1 is below h or h itself
     more : (j : ℕ) → (ltb j (h + 1) && f j) ≡ ((ltb j h && f j) || (eqb h j && f h))
     more j =
@@ -32,45 +30,24 @@ module _ (f : ℕ → Bool) where
         (λ n. rw (ne-eqb h j n)
         (⊎-elim
         (λ a. rw (le-ltb j h (omega arith), le-ltb j (h + 1) (omega arith)))
-        (λ a. rw (lt-ltb j h (omega arith), lt-ltb j (h + 1) (omega arith)) (or-no (f j)))
+        (λ a. rw (lt-ltb j h (omega arith), lt-ltb j (h + 1) (omega arith)) (sym (or-none (f j) false refl)))
         (split-le h j)))
         (split-eq h j)
-      where
-        or-no : (a : Bool) → a ≡ (a || false)
-        or-no true = refl
-        or-no false = refl
 
-    pub gathered-join : f h ≡ true → Gathered f (h + 1) (bitOr m (2 ^ h))
-    gathered-join e j = bit-or m (2 ^ h) j ∙ ap₂ _||_ (w j) (bit-pow h j ∙ sym (ap (λ (t : Bool). eqb h j && t) e ∙ and-yes (eqb h j))) ∙ sym (more j)
-      where
-        and-yes : (a : Bool) → (a && true) ≡ a
-        and-yes true = refl
-        and-yes false = refl
+    -- with the bit of chain h, as the code writes it, `1 << h`
+    pub gathered-join : h < 32 → f h ≡ true → m′ ≡ bitOr m (1 * 2 ^ h % 2 ^ 32) → Gathered f (h + 1) m′
+    gathered-join b e q j =
+        ap (λ (x : ℕ). bit x j) q ∙ with-law m h b .at j
+        ∙ ap₂ _||_ (w j) (sym (and-yes (eqb h j) (f h) e)) ∙ sym (more j)
 
-    -- .. with the bit as the code writes it, `1 << h`
-    pub gathered-shift : h < 32 → f h ≡ true → Gathered f (h + 1) (bitOr m (1 * 2 ^ h % 2 ^ 32))
-    gathered-shift b e =
-        let q : 1 * 2 ^ h % 2 ^ 32 ≡ 2 ^ h = shl-exact 1 h 32 (lit< tt) (omega arith) ∙ one-mul (2 ^ h) in
-        subst (λ (x : ℕ). Gathered f (h + 1) (bitOr m x)) (sym q) (gathered-join e)
-
-    pub gathered-pass : f h ≡ false → Gathered f (h + 1) m
-    gathered-pass e j = w j ∙ or-no (ltb j h && f j) (eqb h j && f h) (ap (λ (t : Bool). eqb h j && t) e ∙ and-no (eqb h j)) ∙ sym (more j)
-      where
-        and-no : (a : Bool) → (a && false) ≡ false
-        and-no true = refl
-        and-no false = refl
-
-        or-no : (a b : Bool) → b ≡ false → a ≡ (a || b)
-        or-no true b q = refl
-        or-no false b q = sym q
+    pub gathered-pass : f h ≡ false → m′ ≡ m → Gathered f (h + 1) m′
+    gathered-pass e q j =
+        ap (λ (x : ℕ). bit x j) q ∙ w j
+        ∙ sym (or-none (ltb j h && f j) (eqb h j && f h) (and-no (eqb h j) (f h) e)) ∙ sym (more j)
 
   -- all chains asked
-  pub gathered-end : (n m : ℕ) → Gathered f n m → ((j : ℕ) → f j ≡ true → j < n) → (j : ℕ) → bit m j ≡ f j
-  gathered-end n m w below j =
-      ⊎-elim (λ e. w j ∙ ap (λ (t : Bool). t && f j) (lt-ltb j n (below j e)))
-      (λ e. w j ∙ ap (λ (t : Bool). ltb j n && t) e ∙ and-no (ltb j n) ∙ sym e)
+  pub gathered-end : (h m : ℕ) → 15 ≤ h → Gathered f h m → ((j : ℕ) → f j ≡ true → j < 15) → (j : ℕ) → bit m j ≡ f j
+  gathered-end h m l w below j =
+      ⊎-elim (λ e. let b = below j e in w j ∙ ap (λ (t : Bool). t && f j) (lt-ltb j h (omega arith)))
+      (λ e. w j ∙ and-no (ltb j h) (f j) e ∙ sym e)
       (true-or-false (f j))
-    where
-      and-no : (a : Bool) → (a && false) ≡ false
-      and-no true = refl
-      and-no false = refl

@@ -1,3 +1,4 @@
+pub mod LayoutLaws
 pub mod LegLaws
 pub mod Pass
 pub mod SortLaws

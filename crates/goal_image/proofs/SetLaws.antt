@@ -10,19 +10,22 @@ use Rattle.base.specs.Bits.{bit}
 use Rattle.base.specs.Chain.{Linked, Rises, Meets, OnChain}
 use Rattle.base.specs.Chain.Meets.{here, later}
 use Rattle.base.proofs.ChainLaws.{meets-zero, meets-step}
-use Rattle.base.proofs.UptoLaws.{or-true, or-left, or-cases, and-true, true-or-false}
+use Rattle.base.proofs.BoolLaws.{or-true, or-left, or-cases, and-true, true-or-false, clash}
 use Rattle.context.specs.declared.Context.{Context}
 use Rattle.context.specs.declared.Event.{Event}
+use Rattle.goal_image.specs.declared.sets.Asked.{Asked}
+use Rattle.goal_image.specs.declared.sets.Asked.the-variants as asked
 use Rattle.goal_image.specs.Goal.{Goal, goalLinks}
 use Rattle.goal_image.specs.Questions.{OneChainEach}
 use Rattle.goal_image.specs.Sets.{fits, matchesContext, matchesEvent, along, contextIn, eventIn}
+use Rattle.goal_image.specs.inner.Memberships.{matchesAsked, onChain, askedIn}
 
 -- ---- following the links from record k on
 module _ (l : Linked) (f : ℕ → Bool) where
   -- what is found is met ..
   pub along-found : (steps k : ℕ) → along l f steps k ≡ true → (i : ℕ) × Meets l k i × (f i ≡ true)
-  along-found zero k e = let z : _≡_ {A = ℕ} 0 1 = cc in absurd (omega arith)
-  along-found (suc steps) zero e = let z : _≡_ {A = ℕ} 0 1 = cc in absurd (omega arith)
+  along-found zero k e = absurd (clash e refl)
+  along-found (suc steps) zero e = absurd (clash e refl)
   along-found (suc steps) (suc k) e =
       ⊎-elim (λ a. (suc k, here (λ z. let o : ⊥ = omega arith in o), a))
       (λ a. let r = along-found steps (l .next (suc k)) a in (r .0, later (λ z. let o : ⊥ = omega arith in o) (r .1), r .2))
@@ -47,6 +50,10 @@ Some g f h = (i : ℕ) × OnChain (goalLinks g) h i × (f i ≡ true)
 abbrev pub Iff : Type 0 → Type 0 → Type 0
 Iff P Q = (P → Q) × (Q → P)
 
+-- "0 in a field means any"
+pub any-field : (a v : ℕ) → a ≡ 0 → fits a v ≡ true
+any-field a v e = or-left (eqb a 0) (eqb a v) (eq-eqb a 0 e)
+
 -- ---- the set of chain h of a goal that passes question 9
 module _ (g : Goal) (O : OneChainEach g) (h : ℕ) (low : h < 15) where
   -- M steps are enough
@@ -58,49 +65,26 @@ module _ (g : Goal) (O : OneChainEach g) (h : ℕ) (low : h < 15) where
           let n : g .head h ≡ 0 → ⊥ = meets-zero (goalLinks g) (r .1) in
           along-meets (goalLinks g) f (O .nexts) (g .size) (g .head h) (O .heads h low) (omega arith) (r .0) (r .1) (r .2)
 
-  -- a context, or an event, is in the set exactly when some record of the chain matches it
-  pub set-iff : (x : Context) → Iff (contextIn g h x ≡ true) (Some g (λ i. matchesContext (g .context i) x) h)
-  unfolding contextIn
-  set-iff x = chain-iff (λ i. matchesContext (g .context i) x)
-
-  pub set-iff-event : (e : Event) → Iff (eventIn g h e ≡ true) (Some g (λ i. matchesEvent (g .event i) e) h)
-  unfolding eventIn
-  set-iff-event e = chain-iff (λ i. matchesEvent (g .event i) e)
+  -- what is asked is in the set exactly when some record of the chain matches it
+  pub set-iff : (a : Asked) → Iff (askedIn g h a ≡ true) (Some g (matchesAsked g a) h)
+  unfolding contextIn eventIn onChain
+  set-iff (asked.Context x) = chain-iff (λ i. matchesContext (g .context i) x)
+  set-iff (asked.Event e) = chain-iff (λ i. matchesEvent (g .event i) e)
+  set-iff (asked.Record k) = chain-iff (λ i. eqb i k)
 
   -- and is not, exactly when none does
-  none-of : (b : Bool) (f : ℕ → Bool) → Iff (b ≡ true) (Some g f h) → ((i : ℕ) → OnChain (goalLinks g) h i → f i ≡ false) → b ≡ false
-  none-of b f q n =
-      ⊎-elim
-      (λ t.
-      let r = q .0 t in
-      let a : f (r .0) ≡ true = r .2 in
-      let c : f (r .0) ≡ false = n (r .0) (r .1) in
-      let z : _≡_ {A = ℕ} 0 1 = cc in
-      absurd (omega arith))
-      (λ t. t)
-      (true-or-false b)
-
-  pub set-none : (x : Context) → ((i : ℕ) → OnChain (goalLinks g) h i → matchesContext (g .context i) x ≡ false) → contextIn g h x ≡ false
-  set-none x n = none-of (contextIn g h x) (λ i. matchesContext (g .context i) x) (set-iff x) n
-
-  pub set-none-event : (e : Event) → ((i : ℕ) → OnChain (goalLinks g) h i → matchesEvent (g .event i) e ≡ false) → eventIn g h e ≡ false
-  set-none-event e n = none-of (eventIn g h e) (λ i. matchesEvent (g .event i) e) (set-iff-event e) n
+  pub set-none : (a : Asked) → ((i : ℕ) → OnChain (goalLinks g) h i → matchesAsked g a i ≡ false) → askedIn g h a ≡ false
+  set-none a n = ⊎-elim (λ t. let r = set-iff a .0 t in absurd (clash (r .2) (n (r .0) (r .1)))) (λ f. f) (true-or-false (askedIn g h a))
 
   -- "an empty chain is the empty set"
-  pub empty-chain : g .head h ≡ 0 → (x : Context) → contextIn g h x ≡ false
-  empty-chain z x = set-none x (λ i r. absurd (meets-zero (goalLinks g) r z))
+  pub empty-chain : g .head h ≡ 0 → (a : Asked) → askedIn g h a ≡ false
+  empty-chain z a = set-none a (λ i r. absurd (meets-zero (goalLinks g) r z))
 
-  pub empty-chain-event : g .head h ≡ 0 → (e : Event) → eventIn g h e ≡ false
-  empty-chain-event z e = set-none-event e (λ i r. absurd (meets-zero (goalLinks g) r z))
-
-  -- "0 in a field means any": a record of zeros makes the set everything
-  any-field : (a v : ℕ) → a ≡ 0 → fits a v ≡ true
-  any-field a v e = or-left (eqb a 0) (eqb a v) (eq-eqb a 0 e)
-
+  -- a record of zeros makes the set everything
   pub any-context : (i : ℕ) → OnChain (goalLinks g) h i → g .context i .ty ≡ 0 → g .context i .role ≡ 0 → g .context i .user ≡ 0 → (x : Context)
       → contextIn g h x ≡ true
   any-context i r a b c x =
-      set-iff x .1 (
+      set-iff (asked.Context x) .1 (
         i,
         r,
         and-true (fits (g .context i .ty) (x .ty)) (fits (g .context i .role) (x .role) && fits (g .context i .user) (x .user)) (any-field _ _ a)
@@ -110,4 +94,4 @@ module _ (g : Goal) (O : OneChainEach g) (h : ℕ) (low : h < 15) where
   -- a record of class 0 holds the permissions of its mask in every class
   pub any-class : (i : ℕ) → OnChain (goalLinks g) h i → g .event i .class ≡ 0 → (e : Event) → bit (g .event i .mask) (e .perm) ≡ true → eventIn g h e ≡ true
   any-class i r a e b =
-      set-iff-event e .1 (i, r, and-true (fits (g .event i .class) (e .class)) (bit (g .event i .mask) (e .perm)) (any-field _ _ a) b)
+      set-iff (asked.Event e) .1 (i, r, and-true (fits (g .event i .class) (e .class)) (bit (g .event i .mask) (e .perm)) (any-field _ _ a) b)

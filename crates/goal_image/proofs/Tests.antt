@@ -15,18 +15,19 @@ use Rattle.base.specs.Chain.{Linked, OnChain}
 use Rattle.base.specs.Upto.{allUpto}
 use Rattle.base.specs.Questions.{AllYes, RefusedWith}
 use Rattle.base.proofs.Numbers.{split-le, moved, moved-at, moved-off}
-use Rattle.base.proofs.UptoLaws.{true-or-false}
+use Rattle.base.proofs.BoolLaws.{true-or-false, clash}
 use Rattle.base.proofs.Decide.{Says, says-yes, says-no, says-iff, dec-le, dec-eq, _both_, _or_, withinB, dec-within, dec-all}
+use Rattle.chains.specs.inner.Links.{LinksRising}
 use Rattle.policy_image.specs.declared.counts.Counts.{Counts}
 use Rattle.goal_image.specs.declared.records.ContextRecord.{ContextRecord}
 use Rattle.goal_image.specs.declared.records.EventRecord.{EventRecord}
 use Rattle.goal_image.specs.Layout.{GoalExact, goalCount}
 use Rattle.goal_image.specs.Goal.{Goal, goalOf, goalLinks, σChain, γChain, isContextChain}
 use Rattle.goal_image.specs.Questions.{LegsInRange, OneChainEach, ContextFits, EventFits, FieldsFit, goalQuestions}
-use Rattle.goal_image.specs.inner.Reading.{First, LinksRise, EachOnce, RecordFits}
+use Rattle.goal_image.specs.inner.Reading.{First, RecordFits}
 use Rattle.goal_image.specs.Sets.{along}
 use Rattle.goal_image.proofs.LegLaws.{flags-yes, flags-no}
-use Rattle.goal_image.proofs.Pass.{Pass, pass-start, pass-none, pass-two, pass-step, pass-end, only-one}
+use Rattle.goal_image.proofs.Pass.{Pass, pass-start, pass-none, pass-two, pass-step, pass-end, only-one, links-part}
 use Rattle.goal_image.proofs.SortLaws.{context-below, event-below, some-sort, fits-context, fits-event}
 use Rattle.goal_image.proofs.SetLaws.{chain-iff}
 
@@ -103,9 +104,9 @@ risesB l i = eqb (l .next i) 0 || (leb (suc i) (l .next i) && leb (l .next i) (l
 abbrev pub linksB : Linked → Bool
 linksB l = allBelow (λ h. leb (l .head h) (l .size)) 15 && allUpto (λ i. risesB l i) (l .size)
 
-dec-links : (l : Linked) → Says (linksB l) (LinksRise l)
+dec-links : (l : Linked) → Says (linksB l) (LinksRising l 0 15)
 dec-links l =
-    says-iff (λ h. record { heads = h .0; nexts = h .1 }) (λ h. (h .heads, h .nexts))
+    says-iff (λ x. record { heads = λ h a b. x .0 h b; nexts = x .1 }) (λ x. (λ h b. x .heads h (omega arith) b, x .nexts))
     (dec-below 15 (λ h b. dec-le (l .head h) (l .size))
     both dec-all (λ i. dec-eq (l .next i) 0 or (dec-le (suc i) (l .next i) both dec-le (l .next i) (l .size))) (l .size))
 
@@ -150,17 +151,17 @@ abbrev pub passB : Linked → ℕ → ℕ → (ℕ → ℕ) → Bool
 passB l zero i cur = true
 passB l (suc m) i cur = (leb (suc (first cur i)) 15 && leb 15 (second cur i)) && passB l m (i + 1) (moved cur (first cur i) (l .next i))
 
-dec-pass : (l : Linked) → LinksRise l → (m i : ℕ) (cur : ℕ → ℕ) → 1 ≤ i → i + m ≡ l .size + 1 → Pass l i cur → Says (passB l m i cur) (EachOnce l)
-dec-pass l L zero i cur low e w =
-    let z : i ≡ l .size + 1 = omega arith in
-    record { it = pass-end l L cur (subst (λ (j : ℕ). Pass l j cur) z w) }
-dec-pass l L (suc m) i cur low e w =
-    says-iff (λ x. x .1) (λ O. (here O, O)) (next-says test (λ t. dec-pass l L m (i + 1) (moved cur κ (l .next i)) (omega arith) (omega arith) (step t)))
+dec-pass : (g : Goal) → LinksRising (goalLinks g) 0 15 → (m i : ℕ) (cur : ℕ → ℕ) → 1 ≤ i → i + m ≡ g .size + 1 → Pass g i cur → Says (passB (goalLinks g) m i cur) (OneChainEach g)
+dec-pass g L zero i cur low e w =
+    let z : i ≡ g .size + 1 = omega arith in
+    record { it = pass-end g L cur (subst (λ (j : ℕ). Pass g j cur) z w) }
+dec-pass g L (suc m) i cur low e w =
+    says-iff (λ x. x .1) (λ O. (here O, O)) (next-says test (λ t. dec-pass g L m (i + 1) (moved cur κ (g .next i)) (omega arith) (omega arith) (step t)))
   where
     κ : ℕ
     κ = first cur i
 
-    high : i ≤ l .size
+    high : i ≤ g .size
     high = omega arith
 
     f : First cur 0 i κ
@@ -172,42 +173,30 @@ dec-pass l L (suc m) i cur low e w =
     test : Says (leb (suc κ) 15 && leb 15 (second cur i)) ((κ < 15) × (15 ≤ second cur i))
     test = dec-le (suc κ) 15 both dec-le 15 (second cur i)
 
-    here : EachOnce l → (κ < 15) × (15 ≤ second cur i)
+    here : OneChainEach g → (κ < 15) × (15 ≤ second cur i)
     here O =
         ⊎-elim
         (λ b. (
           b,
-          ⊎-elim (λ c. c) (λ c. absurd (pass-two l L i cur w low high κ (second cur i) b c (let a = s b .low in λ q. omega arith) (f .at b) (s b .at c) O))
+          ⊎-elim (λ c. c) (λ c. absurd (pass-two g L i cur w low high κ (second cur i) b c (let a = s b .low in λ q. omega arith) (f .at b) (s b .at c) O))
               (split-le 15 (second cur i)),
         ))
-        (λ b. absurd (pass-none l L i cur w low high (λ h c q. f .none h (omega arith) (omega arith) q) O))
+        (λ b. absurd (pass-none g L i cur w low high (λ h c q. f .none h (omega arith) (omega arith) q) O))
         (split-le (suc κ) 15)
 
-    step : (κ < 15) × (15 ≤ second cur i) → Pass l (i + 1) (moved cur κ (l .next i))
+    step : (κ < 15) × (15 ≤ second cur i) → Pass g (i + 1) (moved cur κ (g .next i))
     step t =
-        pass-step l L i cur w low high κ (t .0) (f .at (t .0)) (only-one cur i κ (second cur i) f (s (t .0)) (t .1)) (moved cur κ (l .next i))
-        (moved-at cur κ (l .next i)) (λ h n. moved-off cur κ (l .next i) h n)
+        pass-step g L i cur w low high κ (t .0) (f .at (t .0)) (only-one cur i κ (second cur i) f (s (t .0)) (t .1)) (moved cur κ (g .next i))
+        (moved-at cur κ (g .next i)) (λ h n. moved-off cur κ (g .next i) h n)
 
 abbrev pub onesB : Goal → Bool
 onesB g = linksB (goalLinks g) && passB (goalLinks g) (g .size) 1 (g .head)
 
 pub dec-ones : (g : Goal) → Says (onesB g) (OneChainEach g)
 dec-ones g =
-    says-iff (λ x. record {
-      heads = x .0 .heads;
-      nexts = x .0 .nexts;
-      on = λ i a b. x .1 .on i (omega arith) (omega arith);
-      once = λ h k i a b. x .1 .once h k i (omega arith) (omega arith);
-    })
-    (λ o. (
-      record { heads = o .heads; nexts = o .nexts },
-      record {
-        on = λ i a b. o .on i (omega arith) (omega arith);
-        once = λ h k i a b. o .once h k i (omega arith) (omega arith);
-      },
-    ))
+    says-iff (λ x. x .1) (λ o. (links-part g o, o))
     (next-says (dec-links (goalLinks g))
-    (λ L. dec-pass (goalLinks g) L (g .size) 1 (g .head) (omega arith) (omega arith) (pass-start (goalLinks g) L (g .head) (λ h b. refl))))
+    (λ L. dec-pass g L (g .size) 1 (g .head) (omega arith) (omega arith) (pass-start g L (g .head) (λ h b. refl))))
 
 -- ---- question 10
 abbrev pub contextFitsB : Counts → ContextRecord → Bool
@@ -250,7 +239,7 @@ dec-chain n g O h b = record { it = go (along (goalLinks g) wrong (g .size) (g .
     go true e = λ f. let r = chain-iff g O h b wrong .0 e in says-no (dec-record n g h (r .0) b) (not-true (recordB n g h (r .0)) (r .2)) (f (r .0) (r .1))
     go false e = λ i r.
         ⊎-elim (λ t. says-yes (dec-record n g h i b) t)
-        (λ t. let q = chain-iff g O h b wrong .1 (i, r, ap not t) in let z : _≡_ {A = ℕ} 0 1 = cc in absurd (omega arith))
+        (λ t. absurd (clash (chain-iff g O h b wrong .1 (i, r, ap not t)) e))
         (true-or-false (recordB n g h i))
 
 abbrev pub fieldsB : Counts → Goal → Bool

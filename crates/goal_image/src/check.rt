@@ -1,6 +1,8 @@
 // Questions 7 to 10 of a goal image, in order.
-use crate::chains::one_chain_each;
 use crate::fields::fields_fit;
+use crate::links::one_chain_each;
+use crate::records::HEADER;
+use crate::records::RECORD;
 use crate::records::head_at;
 use base::bytes::u16_at;
 use base::bytes::wide;
@@ -11,15 +13,14 @@ ghost use Prim.Native.Nat.{ℕ, _≤_, _<_};
 ghost use Rattle.base.specs.inner.Decides.{Decides};
 ghost use Rattle.goal_image.specs.Layout.{GoalExact, goalHead};
 ghost use Rattle.goal_image.specs.Goal.{goalOf};
-ghost use Rattle.goal_image.specs.inner.Reading.{Opened};
+ghost use Rattle.goal_image.specs.inner.Reading.{chainCount, Opened};
 ghost use Rattle.goal_image.specs.Questions.{LegsInRange};
 ghost use Rattle.goal_image.specs.inner.Answer.{GoalAnswer};
 
-// The legs of a goal: how many, which of them are repeated (bit i for leg i), and how many records the goal has.
+// The legs of a goal: how many, and which of them are repeated (bit i for leg i).
 pub struct Legs {
     pub count: u32,
     pub repeated: u32,
-    pub records: usize,
 }
 
 // The answer of a check of a goal image: accepted with its legs, or refused with a question's number.
@@ -32,14 +33,14 @@ pub enum CheckedGoal {
 fn is_exact(goal: &[u8]) -> bool
     ensures { λ r. ⌜ Decides r (GoalExact (now (goal .entry))) ⌝ }
 {
-    if goal.len() < 34 {
+    if goal.len() < HEADER {
         return false;
     }
     let m = u16_at(goal, 2) as usize;
     if 255 < m {
         return false;
     }
-    if goal.len() != 34 + 8 * m {
+    if goal.len() != HEADER + RECORD * m {
         return false;
     }
     true
@@ -53,13 +54,12 @@ fn legs_at(goal: &[u8]) -> Legs
     Legs {
         count: wide(goal[0]),
         repeated: wide(goal[1]),
-        records: u16_at(goal, 2) as usize,
     }
 }
 
 // Whether the heads of the chains from a to below b are 0.
 fn heads_are_zero(goal: &[u8], a: usize, b: usize) -> bool
-    requires { ⌜ GoalExact (now goal) × (b ≤ 15) ⌝ }
+    requires { ⌜ GoalExact (now goal) × (b ≤ chainCount) ⌝ }
     ensures { λ r. ⌜ Decides r ((h : ℕ) → a ≤ h → h < b → goalHead (now (goal .entry)) h ≡ 0) ⌝ }
 {
     let mut h = a;
@@ -102,7 +102,7 @@ pub fn check(goal: &[u8], counts: Counts) -> CheckedGoal
     if !legs_in_range(goal, legs) {
         return CheckedGoal::Refused(8);
     }
-    if !one_chain_each(goal, legs) {
+    if !one_chain_each(goal) {
         return CheckedGoal::Refused(9);
     }
     if !fields_fit(goal, counts) {

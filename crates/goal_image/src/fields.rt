@@ -1,4 +1,5 @@
 // Question 10: the fields of a goal's records, each record read by the chain that it is on.
+use crate::records::CHAINS;
 use crate::records::ContextRecord;
 use crate::records::EventRecord;
 use crate::records::context_at;
@@ -13,7 +14,7 @@ ghost use Rattle.base.specs.inner.Decides.{Decides};
 ghost use Rattle.goal_image.specs.Layout.{GoalExact, goalCount};
 ghost use Rattle.goal_image.specs.Goal.{goalOf, goalLinks, isContextChain, isEventChain};
 ghost use Rattle.goal_image.specs.Questions.{OneChainEach, ContextFits, EventFits, FieldsFit};
-ghost use Rattle.goal_image.specs.inner.Reading.{RecordFits};
+ghost use Rattle.goal_image.specs.inner.Reading.{chainCount, RecordFits};
 
 // Whether h is the number of a σ chain: σ0 to σ6, σe.
 pub fn is_context_chain(h: usize) -> bool
@@ -63,7 +64,7 @@ fn event_fits(r: EventRecord, counts: Counts) -> bool
 
 // Whether record i keeps the rules, as one of chain h.
 fn record_fits(goal: &[u8], counts: Counts, h: usize, i: usize) -> bool
-    requires { ⌜ GoalExact (now goal) × (1 ≤ i) × (i ≤ goalCount (now goal)) × (h < 15) ⌝ }
+    requires { ⌜ GoalExact (now goal) × (1 ≤ i) × (i ≤ goalCount (now goal)) × (h < chainCount) ⌝ }
     ensures { λ r. ⌜ Decides r (RecordFits counts (goalOf (now (goal .entry))) h i) ⌝ }
 {
     if is_context_chain(h) {
@@ -74,7 +75,7 @@ fn record_fits(goal: &[u8], counts: Counts, h: usize, i: usize) -> bool
 
 // Whether every record of chain h keeps the rules.
 fn chain_fits(goal: &[u8], counts: Counts, h: usize) -> bool
-    requires { ⌜ GoalExact (now goal) × OneChainEach (goalOf (now goal)) × (h < 15) ⌝ }
+    requires { ⌜ GoalExact (now goal) × OneChainEach (goalOf (now goal)) × (h < chainCount) ⌝ }
     ensures { λ r. ⌜ Decides r ((i : ℕ) → OnChain (goalLinks (goalOf (now (goal .entry)))) h i → RecordFits counts (goalOf (now (goal .entry))) h i) ⌝ }
 {
     let mut i = head_at(goal, h);
@@ -93,7 +94,7 @@ pub fn fields_fit(goal: &[u8], counts: Counts) -> bool
     ensures { λ r. ⌜ Decides r (FieldsFit counts (goalOf (now (goal .entry)))) ⌝ }
 {
     let mut h = 0;
-    while h < 15 {
+    while h < CHAINS {
         if !chain_fits(goal, counts, h) {
             return false;
         }

@@ -10,9 +10,10 @@ use Rattle.policy_image.specs.Layout.{countsOf, recordCount, recordOf, policyHe
 use Rattle.policy_image.specs.Policy.{policyOf}
 use Rattle.policy_image.specs.OfKind.{some, every}
 use Rattle.policy_image.specs.cases.Weir.{weir}
-use Rattle.policy_nodes.specs.Nodes.{useOf}
+use Rattle.policy_expressions.specs.Nodes.{useOf}
 use Rattle.policy_check.proofs.Tests.{Accepted, accepted}
-use Rattle.relations.specs.Relations.{domain, Γ, writeLike, readLike, allowed, α, ρ, μ, roleChange}
+use Rattle.policy_sources.specs.Sources.{domain}
+use Rattle.relations.specs.Relations.{Γ, writeLike, readLike, allowed, α, ρ, μ, roleChange}
 use Rattle.constraints.specs.Constraints.{constraintsHold}
 use Rattle.access.specs.Authorization.{χ, roleRule, authorized, flow}
 use Rattle.goal_image.specs.Layout.{legsOf, flagsOf, goalCount, goalHead, nextOf, contextRecordOf, eventRecordOf}
@@ -63,7 +64,7 @@ start-meets-rho = events-by (model weir roleOne) (finite (policyOf weir) steps c
 
 pub users-accepted : Accepted users
 unfolding countsOf recordCount recordOf policyHead payloadOf decoded useOf
-users-accepted = accepted refl refl refl refl refl refl
+users-accepted = accepted refl refl refl refl refl refl refl
 
 covers-users : T (not (uncovered (policyOf users) []))
 unfolding uncovered inRange flow authorized χ roleRule constraintsHold domain Γ writeLike readLike allowed α ρ μ roleChange some every bit countsOf recordCount recordOf payloadOf decoded

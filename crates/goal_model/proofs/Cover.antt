@@ -1,5 +1,5 @@
 -- The contexts and the steps of a policy, gone through by computing: for theorems on images that are written out.
-use mathlib.Core.Path.{_≡_, refl, sym, subst, subst₃}
+use mathlib.Core.Path.{_≡_, sym, subst, subst₃}
 use mathlib.Core.Bool.{Bool, true, false, not, _&&_, _||_}
 use mathlib.Core.List.{List, [], _∷_}
 use mathlib.Core.Logic.{_⊎_, inl, inr}
@@ -9,9 +9,10 @@ use borrow.Author.Tests.{eq-eqb, eqb-true}
 use lib.Dec.{T, leb, eqb, leb→le, eqb→eq, eqb-refl, T-not, not-T}
 use Rattle.base.specs.Bits.{bit}
 use Rattle.base.specs.Upto.{anyUpto}
-use Rattle.base.proofs.UptoLaws.{any-yes, and-true, and-first}
+use Rattle.base.proofs.BoolLaws.{and-true, and-first, to-true, of-true}
+use Rattle.base.proofs.UptoLaws.{any-yes}
 use Rattle.policy_image.specs.Policy.{Policy}
-use Rattle.policy_chains.proofs.KindLaws.{some-record}
+use Rattle.policy_links.proofs.KindLaws.{some-record}
 use Rattle.context.specs.declared.Context.{Context}
 use Rattle.context.specs.declared.Event.{Event}
 use Rattle.context.specs.Codes.{contextOf, eventOf}
@@ -61,13 +62,6 @@ in-map (a ∷ l) f g h t = go (or-cases (f a) (anyIn l f) t) (λ u. in-map l f g
     go : T (f a) ⊎ T (anyIn l f) → (T (anyIn l f) → T (anyIn l g)) → T (g a || anyIn l g)
     go (inl u) ih = or-left (g a) (anyIn l g) (h a u)
     go (inr u) ih = or-right (g a) (anyIn l g) (ih u)
-
-to-true : (b : Bool) → T b → b ≡ true
-to-true true t = refl
-to-true false t = absurd t
-
-of-true : (b : Bool) → b ≡ true → T b
-of-true b e = subst T (sym e) tt
 
 authorized-defined : (p : Policy) (e : Event) (x y : Context) → T (authorized p e x y) → T (Γ p e)
 unfolding authorized α

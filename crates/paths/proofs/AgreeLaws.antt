@@ -7,7 +7,7 @@ use native.Mathlib.Omega.{arith}
 use lib.Dec.{T}
 use Rattle.paths.specs.Model.{Model}
 use Rattle.paths.specs.Paths.{IsPath, BreaksOrder, FollowsEvents, BreaksEvents, SomeOrder, SomeEvents, NoneBelow, Holds, OrderAt, EventsAt}
-use Rattle.paths.specs.Slice.{contextsIn, eventsIn, Shows}
+use Rattle.paths.specs.Slice.{Shows}
 use Rattle.paths.specs.inner.Agree.{Agree}
 
 pub agree-back : {M N : Model} → Agree M N → Agree N M
@@ -90,7 +90,7 @@ module _ {M N : Model} (A : Agree M N) where
   some-events : {m : ℕ} → SomeEvents M m → SomeEvents N m
   some-events s = record { x = s .x; e = s .e; path = path-agrees A (s .path); breaks = events-agree A (s .path) (s .breaks) }
 
-  pub shows-agrees : {m : ℕ} {before after : List ℕ} → Shows M m before after → Shows N m before after
+  pub shows-agrees : {m : ℕ} {before after : List ℕ} → Shows (IsPath M) m before after → Shows (IsPath N) m before after
   shows-agrees s = record { room = s .room; whole = s .whole; rest = s .rest; path = path-agrees A (s .path) }
 
 module _ {M N : Model} (A : Agree M N) where

@@ -7,7 +7,7 @@ use native.Mathlib.Omega.{arith}
 use Rattle.base.specs.Bits.{bit}
 use Rattle.paths.specs.Paths.{IsPath, BreaksEvents}
 use Rattle.paths.specs.Slice.{contextsIn, eventsIn, Shows}
-use Rattle.paths.specs.inner.Answer.{holds, order, events, Right}
+use Rattle.paths.specs.inner.Verdict.{holds, order, events, Right}
 use Rattle.paths.specs.cases.Drawn.{drawnModel, except, failing, only}
 use Rattle.paths.specs.cases.Drawings.{selfRelease, startInFirst, oneLeg, startTooEarly, midTooEarly, highestAlone, lowestAlone, oneStepStays, repeatedStays, noStep, middleEvent, wrongPlace, bad, endGoesOn, outOfRange, metTwice, tie, fewest, pastTheEnd}
 use Rattle.paths.proofs.Drawn.{answer-by}
@@ -150,7 +150,7 @@ unfolding bit
 past-the-end = events-verdict (drawnModel pastTheEnd) (λ j. j) (λ j. 7 + j) 1 tt .0 tt
 
 -- a slice of no entry has no path, though what stands behind its end is 0, and 0, which is a context here, is a path of 0 steps
-pub no-slice : Shows (drawnModel oneLeg) 0 [] [] → ⊥
+pub no-slice : Shows (IsPath (drawnModel oneLeg)) 0 [] [] → ⊥
 no-slice s = omega (arith, s .room)
 
 pub no-slice-path : IsPath (drawnModel oneLeg) 0 (contextsIn []) (eventsIn [])

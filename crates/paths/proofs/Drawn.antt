@@ -6,7 +6,7 @@ use mathlib.Core.Logic.{_⊎_, inl, inr, _↔_}
 use Prim.Native.Nat.{ℕ}
 use lib.Dec.{T, eqb, ltb, eqb→eq, eqb-refl, ltb→lt, lt→ltb}
 use Rattle.paths.specs.inner.Below.{anyBelow}
-use Rattle.paths.specs.inner.Answer.{Answer, holds, order, events, Right}
+use Rattle.paths.specs.inner.Verdict.{Verdict, holds, order, events, Right}
 use Rattle.paths.specs.cases.Drawn.{Step, Drawn, anyIn, isStep, drawnModel}
 use Rattle.paths.proofs.Any.{or-cases, or-left, or-right, and-T, any-witness, any-of}
 use Rattle.paths.proofs.Finite.{Finite}
@@ -72,12 +72,12 @@ module _ (d : Drawn) where
   }
 
   -- 'holds' is tried as far as there are contexts: enough where no context is met twice
-  abbrev pub answersB : Answer → Bool
+  abbrev pub answersB : Verdict → Bool
   answersB holds = holdsB (drawnModel d) finite (d .contexts)
   answersB (order m) = orderAtB (drawnModel d) finite m
   answersB (events m) = eventsAtB (drawnModel d) finite m
 
-  pub answer-by : (a : Answer) → T (answersB a) → Right (drawnModel d) a
+  pub answer-by : (a : Verdict) → T (answersB a) → Right (drawnModel d) a
   answer-by holds t = holds-by (drawnModel d) finite (d .contexts) t
   answer-by (order m) t = order-by (drawnModel d) finite m t
   answer-by (events m) t = events-by (drawnModel d) finite m t

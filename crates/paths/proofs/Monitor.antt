@@ -1,7 +1,7 @@
 -- Monitors: states that a path is read with, from context to context. A path to σn whose end state is bad is a walk through nodes,
 -- each a context and a state, from a start to a bad node in σn (`bad-iff`), so a search of the nodes answers for all paths.
 use mathlib.Core.Path.{_≡_, refl, sym, ap, subst, _∙_}
-use mathlib.Core.Logic.{_↔_}
+use mathlib.Core.Logic.{_↔_, Iff·trans}
 use Prim.Native.Nat.{ℕ, zero, suc, _≤_, _<_}
 use native.Mathlib.Nat.{not-suc-le-zero, le-refl}
 use native.Mathlib.Omega.{arith}
@@ -9,7 +9,7 @@ use native.Mathlib.Decide.{decLt}
 use lib.Dec.{T}
 use Rattle.paths.specs.Model.{Model}
 use Rattle.paths.specs.Paths.{IsPath}
-use Rattle.paths.specs.inner.Monitor.{Monitor, Edge, Start, run, Reach, begin, more, BadPath, BadNode}
+use Rattle.paths.specs.inner.Monitor.{Monitor, plain, Edge, Start, SomePath, run, Reach, begin, more, BadPath, BadNode}
 use Rattle.paths.proofs.Any.{till, till-below, till-at}
 
 module _ (M : Model) where
@@ -128,3 +128,13 @@ module _ (M : Model) (A : Monitor) where
 
       back : BadNode M A m → BadPath M A m
       back b = let w = walk-of (b .reach) in record { x = w .x; e = w .e; path = path-of w (b .arrives); verdict = rw (w .state) (b .verdict) }
+
+-- a path of m steps, whatever it breaks: a node m steps from a start, in σn
+pub plain-iff : (M : Model) (m : ℕ) → SomePath M m ↔ BadNode M plain m
+plain-iff M m = Iff·trans (first, second) (bad-iff M plain m)
+  where
+    first : SomePath M m → BadPath M plain m
+    first p = record { x = p .x; e = p .e; path = p .path; verdict = tt }
+
+    second : BadPath M plain m → SomePath M m
+    second b = record { x = b .x; e = b .e; path = b .path }

@@ -9,7 +9,7 @@ use native.Mathlib.Omega.{arith}
 use lib.Dec.{eqb, eqb·suc-zero}
 use Rattle.base.specs.Bits.{bit}
 use Rattle.paths.specs.inner.Pack.{digit, pack}
-use Rattle.base.proofs.BitLaws.{bit-shr, bit-zero, bit-above, bit-ext}
+use Rattle.base.proofs.BitLaws.{bit-shr, bit-zero, bit-above, bits-all}
 
 pub digit-lt : (b : Bool) → digit b < 2
 digit-lt true = omega arith
@@ -52,20 +52,6 @@ pack-lt (suc k) f = omega (arith, pack-lt k (λ i. f (suc i)), digit-lt (f 0), p
 pub pack-top : (k : ℕ) (f : ℕ → Bool) → f k ≡ false → pack (suc k) f < 2 ^ k
 pack-top zero f h = omega (arith, ap digit h)
 pack-top (suc k) f h = omega (arith, pack-top k (λ i. f (suc i)) h, digit-lt (f 0), pow-suc 2 k)
-
--- numbers with the same bits
-below-pow : (n : ℕ) → n < 2 ^ n
-below-pow zero = omega arith
-below-pow (suc n) = omega (arith, below-pow n, pow-suc 2 n)
-
-pub bits-all : (a b : ℕ) → ((i : ℕ) → bit a i ≡ bit b i) → a ≡ b
-bits-all a b h = bit-ext (a + b) a b (below a b) (below′ a b) (λ i l. h i)
-  where
-    below : (a b : ℕ) → a < 2 ^ (a + b)
-    below a b = omega (arith, below-pow (a + b))
-
-    below′ : (a b : ℕ) → b < 2 ^ (a + b)
-    below′ a b = omega (arith, below-pow (a + b))
 
 -- the number with these bits and no others
 pub pack-is : (k : ℕ) (f : ℕ → Bool) (r : ℕ) → ((i : ℕ) → i < k → bit r i ≡ f i) → ((i : ℕ) → k ≤ i → bit r i ≡ false) → r ≡ pack k f

@@ -11,10 +11,10 @@ use lib.Pow.{pow-lt, pow-pos, shl-exact}
 use lib.Bits.{bitAnd, bitOr, and-mask, mask-lt, and-le-l, or-lt}
 use borrow.Author.Tests.{lt-ltb, le-ltb}
 use Rattle.base.specs.Bits.{bit}
-use Rattle.base.proofs.BitLaws.{bit-and, bit-or, bit-mod, bit-shl, bit-shl-low}
+use Rattle.base.proofs.BitLaws.{bit-and, bit-or, bit-mod, bit-shl, bit-shl-low, bits-all}
 use Rattle.paths.specs.Model.{Model}
 use Rattle.paths.specs.inner.Stages.{goesOn, entered, stageAfter, Advanced}
-use Rattle.paths.proofs.Numbers.{bits-all, pack-is}
+use Rattle.paths.proofs.Numbers.{pack-is}
 use Rattle.paths.specs.inner.Monitors.{goes, enters, opens, stagerN}
 
 -- ---- what the code computes

@@ -11,13 +11,13 @@ use lib.Pow.{pow-pos}
 use lib.Bits.{bitAnd, bitOr, and-mask}
 use borrow.Author.Tests.{lt-ltb, le-ltb, eq-eqb, ne-eqb, eqb-true, eqb-false}
 use Rattle.base.specs.Bits.{bit}
-use Rattle.base.proofs.BitLaws.{bit-and, bit-or, bit-mod, bit-zero, bit-above}
+use Rattle.base.proofs.BitLaws.{bit-and, bit-or, bit-mod, bit-zero, bit-above, bits-all}
 use Rattle.paths.specs.Model.{Model}
 use Rattle.paths.specs.inner.Below.{anyBelow}
 use Rattle.paths.specs.inner.Tracker.{tooEarly, trackAfter, Tracked}
 use Rattle.paths.proofs.Any.{any-witness, any-of, any-same, and-T, T-dec, same-test}
 use Rattle.paths.specs.inner.Pack.{digit, pack}
-use Rattle.paths.proofs.Numbers.{bit-pack, pack-lt, pack-is, bits-all, bit-half, bit-one, bit-first, bit-suc}
+use Rattle.paths.proofs.Numbers.{bit-pack, pack-lt, pack-is, bit-half, bit-one, bit-first, bit-suc}
 use Rattle.paths.proofs.StageLaws.{one-shl}
 use Rattle.paths.specs.inner.Monitors.{breaks, withBroken, trackerN}
 use Rattle.paths.proofs.Monitors.{breaks-same}

@@ -8,9 +8,9 @@ use native.Mathlib.Decide.{decLt}
 use lib.Dec.{T}
 use Rattle.paths.specs.Model.{Model}
 use Rattle.paths.specs.Paths.{IsPath, BreaksOrder, BreaksEvents, SomeOrder, SomeEvents, OrderAt, EventsAt}
-use Rattle.paths.specs.inner.Answer.{Answer, holds, order, events, Right}
+use Rattle.paths.specs.inner.Verdict.{Verdict, holds, order, events, Right}
 use Rattle.paths.specs.inner.Monitor.{BadNode}
-use Rattle.paths.specs.inner.Verdict.{at, nowhere, Least}
+use Rattle.paths.specs.inner.Least.{at, nowhere, Least}
 use Rattle.paths.proofs.Monitor.{run-same}
 use Rattle.paths.proofs.Events.{stager, follows-iff}
 use Rattle.paths.specs.inner.Monitors.{trackerN, stagerN}
@@ -25,7 +25,7 @@ module _ (M : Model) where
       go (no h) (yes g) = p .0 k g .1 (q .1)
       go (no h) (no g) = let e : m ≡ k = omega arith in q .2 (subst (SomeOrder M) e (p .1))
 
-  pub right-unique : (a b : Answer) → Right M a → Right M b → a ≡ b
+  pub right-unique : (a b : Verdict) → Right M a → Right M b → a ≡ b
   right-unique holds holds p q = refl
   right-unique holds (order m) p q = absurd (p m .0 (q .1))
   right-unique holds (events m) p q = absurd (p m .1 (q .1))

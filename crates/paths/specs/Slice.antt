@@ -4,8 +4,6 @@ use Prim.Native.Nat.{ℕ, _+_, _*_, _≤_}
 use mathlib.Core.List.{List}
 use mathlib.Core.Path.{_≡_}
 use lib.ListN.{length, getD}
-use Rattle.paths.specs.Model.{Model}
-use Rattle.paths.specs.Paths.{IsPath}
 
 -- "entry 2j is xj"
 abbrev pub contextsIn : List ℕ → ℕ → ℕ
@@ -15,9 +13,9 @@ contextsIn path j = getD path (2 * j) 0
 abbrev pub eventsIn : List ℕ → ℕ → ℕ
 eventsIn path j = getD path (2 * j + 1) 0
 
--- a path of m steps is shown: it fits the slice, "later entries are unchanged", and it is a path
-pub record Shows (M : Model) (m : ℕ) (before after : List ℕ) : Type 0 where
+-- a path of m steps, of a kind, is shown: it fits the slice, "later entries are unchanged", and it is such a path
+pub record Shows (Path : ℕ → (ℕ → ℕ) → (ℕ → ℕ) → Type 0) (m : ℕ) (before after : List ℕ) : Type 0 where
   pub room : 2 * m + 1 ≤ length before
   pub whole : length after ≡ length before
   pub rest : (i : ℕ) → 2 * m + 1 ≤ i → getD after i 0 ≡ getD before i 0
-  pub path : IsPath M m (contextsIn after) (eventsIn after)
+  pub path : Path m (contextsIn after) (eventsIn after)

@@ -1,5 +1,5 @@
 -- From the index of a policy to the blocks of a plan: the regions are the index's lists, cut to what is write-like or read-like.
-use Prim.Native.Nat.{ℕ, zero, suc, _+_, _-_, _*_, _/_, _%_, _≤_, _<_}
+use Prim.Native.Nat.{ℕ, zero, suc, _+_, _-_, _/_, _%_, _≤_, _<_}
 use mathlib.Core.Path.{_≡_, refl, sym, subst, ap, ap₂, _∙_}
 use mathlib.Core.Bool.{true, _&&_}
 use mathlib.Core.List.{List}
@@ -11,23 +11,23 @@ use Rattle.base.specs.Bits.{bit}
 use Rattle.base.specs.Ranges.{Within}
 use Rattle.base.proofs.BitLaws.{bit-and, bit-or}
 use Rattle.base.proofs.Numbers.{split-eq}
-use Rattle.base.proofs.UptoLaws.{or-left, or-true}
+use Rattle.base.proofs.BoolLaws.{or-left, or-true}
 use Rattle.policy_image.specs.declared.counts.Counts.{Counts}
 use Rattle.policy_image.specs.Policy.{Policy, policyOf}
 use Rattle.policy_image.specs.Layout.{countsOf}
 use Rattle.policy_image.specs.inner.Reading.{Counted}
 use Rattle.context.specs.Codes.{eventAt}
 use Rattle.relations.specs.Relations.{α, flowsAs, writeLike, readLike}
-use Rattle.tables.specs.inner.Tables.{FlowMasks}
-use Rattle.index.specs.inner.Index.{Bears, Ranged}
-use Rattle.index.specs.inner.Meaning.{AllowBlock, AllowIndex}
-use Rattle.index.proofs.MeaningLaws.{entry-towards, entry-from}
+use Rattle.plan_tables.specs.inner.Tables.{FlowMasks}
+use Rattle.plan_index.specs.inner.Index.{Bears, Ranged}
+use Rattle.plan_index.specs.inner.Meaning.{AllowBlock, AllowIndex}
+use Rattle.plan_index.proofs.MeaningLaws.{entry-writes, entry-reads}
 use Rattle.base.specs.inner.Fill.{Filled}
 use Rattle.base.proofs.FillLaws.{fill-begin, fill-more}
-use Rattle.plan.specs.inner.Regions.{firstEntries, blockEntries, firstStart, keysStart, outsStart, insStart, guardsStart, planEntries}
-use Rattle.plan.specs.inner.Plan.{Ready, PlanCounts, specialsAt, EntryOf, OfferBlock, Blocks, GuardsOf}
-use Rattle.plan.specs.inner.Entries.{firstAt, keyAt, outsAt, insAt}
-use Rattle.plan.specs.inner.Put.{Tops, Kept, BlocksPut, GuardsPut}
+use Rattle.plan.specs.inner.Regions.{firstEntries, blockEntries, firstStart, keysStart, writesStart, readsStart, typeSpecialStart, planEntries}
+use Rattle.plan.specs.inner.Plan.{Ready, PlanCounts, specialsAt, EntryOf, OfferBlock, OfferBlocks, SpecialOf}
+use Rattle.plan.specs.inner.Entries.{firstAt, keyAt, writesAt, readsAt}
+use Rattle.plan.specs.inner.Put.{Tops, Kept, BlocksPut, TypeSpecialPut}
 
 -- ---- bounds
 module _ {s : List ℕ} {n : Counts} (R : Ready s n) where
@@ -51,7 +51,7 @@ module _ {s : List ℕ} {n : Counts} (R : Ready s n) where
   counted = record { exact = R .sound .exact; same = R .same; size = ap (λ (k : Counts). k .records) (R .same) }
 
   -- the last block's end
-  pub last-few : {first keys ts fs : List ℕ} {k : ℕ} → AllowIndex (policyOf s) first keys ts fs → k ≡ getD first (n .types + 1) 0 → k ≤ length keys
+  pub last-few : {first keys writes reads : List ℕ} {k : ℕ} → AllowIndex (policyOf s) first keys writes reads → k ≡ getD first (n .types + 1) 0 → k ≤ length keys
   last-few {first} {keys} {k = k} I e =
       let t = I .tops (policyOf s .counts .types) (record { low = all-some; high = omega arith }) in
       let q : getD first (n .types + 1) 0 ≡ getD first (policyOf s .counts .types + 1) 0 = ap (λ (i : ℕ). getD first (i + 1) 0) types-same in
@@ -62,7 +62,7 @@ abbrev pub cutTo : (keys masks cut : List ℕ) → ℕ → ℕ
 cutTo keys masks cut i = bitAnd (getD masks i 0) (getD cut (getD keys i 0 / 4096 % 32) 0)
 
 -- the blocks stand one behind the other, so none ends behind the last
-module _ (p : Policy) (first keys ts fs : List ℕ) (I : AllowIndex p first keys ts fs) where
+module _ (p : Policy) (first keys writes reads : List ℕ) (I : AllowIndex p first keys writes reads) where
   ends : (d t : ℕ) → 1 ≤ t → t + d ≡ p .counts .types → getD first (t + 1) 0 ≤ getD first (p .counts .types + 1) 0
   ends zero t l e = let q : t ≡ p .counts .types = omega arith in subst (λ (k : ℕ). getD first (t + 1) 0 ≤ getD first (k + 1) 0) q (omega arith)
   ends (suc d) t l e =
@@ -72,10 +72,10 @@ module _ (p : Policy) (first keys ts fs : List ℕ) (I : AllowIndex p first keys
   pub before-end : (t : ℕ) → Within 1 (p .counts .types) t → getD first (t + 1) 0 ≤ getD first (p .counts .types + 1) 0
   before-end t w = let h = w .high in let e : t + (p .counts .types - t) ≡ p .counts .types = omega arith in ends (p .counts .types - t) t (w .low) e
 
-module _ {p : Policy} {first keys ts fs write read old p1 p2 p3 plan : List ℕ} {n types : ℕ} (I : AllowIndex p first keys ts fs) (W : FlowMasks p 1 write) (R : FlowMasks p 2 read)
+module _ {p : Policy} {first keys writes reads write read old p1 p2 p3 plan : List ℕ} {n types : ℕ} (I : AllowIndex p first keys writes reads) (W : FlowMasks p 1 write) (R : FlowMasks p 2 read)
     (few : p .counts .types ≤ 255) (same : types ≡ p .counts .types) (size : length keys ≡ blockEntries) (top : n ≡ getD first (types + 1) 0)
     (F1 : Filled (λ i v. v ≡ getD first i 0) old p1 firstStart 0 firstEntries) (F2 : Filled (λ i v. v ≡ getD keys i 0) p1 p2 keysStart 0 n)
-    (F3 : Filled (λ i v. v ≡ cutTo keys ts write i) p2 p3 outsStart 0 n) (F4 : Filled (λ i v. v ≡ cutTo keys fs read i) p3 plan insStart 0 n) (some : 1 ≤ p .counts .types) where
+    (F3 : Filled (λ i v. v ≡ cutTo keys writes write i) p2 p3 writesStart 0 n) (F4 : Filled (λ i v. v ≡ cutTo keys reads read i) p3 plan readsStart 0 n) (some : 1 ≤ p .counts .types) where
   last : n ≡ getD first (p .counts .types + 1) 0
   last = top ∙ ap (λ (k : ℕ). getD first (k + 1) 0) same
 
@@ -88,13 +88,13 @@ module _ {p : Policy} {first keys ts fs write read old p1 p2 p3 plan : List ℕ}
   key-same : (j : ℕ) → j < n → keyAt plan j ≡ getD keys j 0
   key-same j h = let r = room in F4 .below (keysStart + j) (omega arith) ∙ F3 .below (keysStart + j) (omega arith) ∙ F2 .here j (omega arith) h
 
-  outs-same : (j : ℕ) → j < n → outsAt plan j ≡ cutTo keys ts write j
-  outs-same j h = let r = room in F4 .below (outsStart + j) (omega arith) ∙ F3 .here j (omega arith) h
+  writes-same : (j : ℕ) → j < n → writesAt plan j ≡ cutTo keys writes write j
+  writes-same j h = let r = room in F4 .below (writesStart + j) (omega arith) ∙ F3 .here j (omega arith) h
 
-  ins-same : (j : ℕ) → j < n → insAt plan j ≡ cutTo keys fs read j
-  ins-same j h = F4 .here j (omega arith) h
+  reads-same : (j : ℕ) → j < n → readsAt plan j ≡ cutTo keys reads read j
+  reads-same j h = F4 .here j (omega arith) h
 
-  module _ (t lo hi : ℕ) (B : AllowBlock p t keys ts fs lo hi) (within : hi ≤ n) where
+  module _ (t lo hi : ℕ) (B : AllowBlock p t keys writes reads lo hi) (within : hi ≤ n) where
     range-at : (j : ℕ) → lo ≤ j → j < hi → Ranged (p .counts .types) (getD keys j 0)
     range-at j l h = B .ranged (getD keys j 0) (record { place = j; low = l; high = h; key = refl })
 
@@ -111,21 +111,21 @@ module _ {p : Policy} {first keys ts fs write read old p1 p2 p3 plan : List ℕ}
           order = B .order;
           rising = λ i j l k h. omega (arith, key-same i (omega arith), key-same j (omega arith), B .sorted .rising i j l k h);
           ranged = λ j l h. subst (Ranged (p .counts .types)) (sym (key-same j (omega arith))) (range-at j l h);
-          outs = λ j q l h lq. subst (λ (k : ℕ). bit (outsAt plan j) q ≡ (α p t (k % 4096) (eventAt (k / 4096) q) && flowsAs p 1 (eventAt (k / 4096) q))) (sym (key-same j (omega arith)))
-              (ap (λ (m : ℕ). bit m q) (outs-same j (omega arith)) ∙ bit-and (getD ts j 0) (getD write (getD keys j 0 / 4096 % 32) 0) q
-              ∙ ap₂ _&&_ (entry-towards p t keys ts fs lo hi B j q l h lq)
+          writes = λ j q l h lq. subst (λ (k : ℕ). bit (writesAt plan j) q ≡ (α p t (k % 4096) (eventAt (k / 4096) q) && flowsAs p 1 (eventAt (k / 4096) q))) (sym (key-same j (omega arith)))
+              (ap (λ (m : ℕ). bit m q) (writes-same j (omega arith)) ∙ bit-and (getD writes j 0) (getD write (getD keys j 0 / 4096 % 32) 0) q
+              ∙ ap₂ _&&_ (entry-writes p t keys writes reads lo hi B j q l h lq)
               (ap (λ (c : ℕ). bit (getD write c 0) q) (class-at j l h) ∙ W .at (getD keys j 0 / 4096) q));
-          ins = λ j q l h lq. subst (λ (k : ℕ). bit (insAt plan j) q ≡ (α p (k % 4096) t (eventAt (k / 4096) q) && flowsAs p 2 (eventAt (k / 4096) q))) (sym (key-same j (omega arith)))
-              (ap (λ (m : ℕ). bit m q) (ins-same j (omega arith)) ∙ bit-and (getD fs j 0) (getD read (getD keys j 0 / 4096 % 32) 0) q
-              ∙ ap₂ _&&_ (entry-from p t keys ts fs lo hi B j q l h lq)
+          reads = λ j q l h lq. subst (λ (k : ℕ). bit (readsAt plan j) q ≡ (α p (k % 4096) t (eventAt (k / 4096) q) && flowsAs p 2 (eventAt (k / 4096) q))) (sym (key-same j (omega arith)))
+              (ap (λ (m : ℕ). bit m q) (reads-same j (omega arith)) ∙ bit-and (getD reads j 0) (getD read (getD keys j 0 / 4096 % 32) 0) q
+              ∙ ap₂ _&&_ (entry-reads p t keys writes reads lo hi B j q l h lq)
               (ap (λ (c : ℕ). bit (getD read c 0) q) (class-at j l h) ∙ R .at (getD keys j 0 / 4096) q));
-          whole = λ c o q lc lo′ lq w. ⊎-elim (λ a. entry-of (B .towards .whole c o q lc lo′ lq a)) (λ a. entry-of (B .from .whole c o q lc lo′ lq a)) w;
+          whole = λ c o q lc lo′ lq w. ⊎-elim (λ a. entry-of (B .writes .whole c o q lc lo′ lq a)) (λ a. entry-of (B .reads .whole c o q lc lo′ lq a)) w;
         }
 
   block-at : (t : ℕ) → Within 1 (p .counts .types) t → OfferBlock p t plan (firstAt plan t) (firstAt plan (t + 1))
   block-at t w =
       let h = w .high in
-      let end : getD first (t + 1) 0 ≤ n = omega (arith, last, before-end p first keys ts fs I t w) in
+      let end : getD first (t + 1) 0 ≤ n = omega (arith, last, before-end p first keys writes reads I t w) in
       let B = offer-block t (getD first t 0) (getD first (t + 1) 0) (I .blocks t w) end in
       subst (λ (k : ℕ). OfferBlock p t plan k (firstAt plan (t + 1))) (sym (first-same t (omega arith)))
       (subst (λ (k : ℕ). OfferBlock p t plan (getD first t 0) k) (sym (first-same (t + 1) (omega arith))) B)
@@ -141,8 +141,8 @@ module _ {p : Policy} {first keys ts fs write read old p1 p2 p3 plan : List ℕ}
         below = λ i h. F4 .below i (omega arith) ∙ F3 .below i (omega arith) ∙ F2 .below i (omega arith) ∙ F1 .below i (omega arith);
       }
 
--- ---- a list that is the same below the guards has the same blocks
-module _ (p : Policy) (old new : List ℕ) (few : p .counts .types ≤ 255) (same : Kept guardsStart old new) where
+-- ---- a list that is the same below the special permissions has the same blocks
+module _ (p : Policy) (old new : List ℕ) (few : p .counts .types ≤ 255) (same : Kept typeSpecialStart old new) where
   module _ (t lo hi : ℕ) (top : hi ≤ blockEntries) (B : OfferBlock p t old lo hi) where
     key-kept : (j : ℕ) → j < hi → keyAt new j ≡ keyAt old j
     key-kept j h = same (keysStart + j) (omega arith)
@@ -153,10 +153,10 @@ module _ (p : Policy) (old new : List ℕ) (few : p .counts .types ≤ 255) (sam
           order = B .order;
           rising = λ i j l k h. omega (arith, key-kept i (omega arith), key-kept j h, B .rising i j l k h);
           ranged = λ j l h. subst (Ranged (p .counts .types)) (sym (key-kept j h)) (B .ranged j l h);
-          outs = λ j q l h lq. subst (λ (k : ℕ). bit (outsAt new j) q ≡ (α p t (k % 4096) (eventAt (k / 4096) q) && writeLike p (eventAt (k / 4096) q))) (sym (key-kept j h))
-              (ap (λ (m : ℕ). bit m q) (same (outsStart + j) (omega arith)) ∙ B .outs j q l h lq);
-          ins = λ j q l h lq. subst (λ (k : ℕ). bit (insAt new j) q ≡ (α p (k % 4096) t (eventAt (k / 4096) q) && readLike p (eventAt (k / 4096) q))) (sym (key-kept j h))
-              (ap (λ (m : ℕ). bit m q) (same (insStart + j) (omega arith)) ∙ B .ins j q l h lq);
+          writes = λ j q l h lq. subst (λ (k : ℕ). bit (writesAt new j) q ≡ (α p t (k % 4096) (eventAt (k / 4096) q) && writeLike p (eventAt (k / 4096) q))) (sym (key-kept j h))
+              (ap (λ (m : ℕ). bit m q) (same (writesStart + j) (omega arith)) ∙ B .writes j q l h lq);
+          reads = λ j q l h lq. subst (λ (k : ℕ). bit (readsAt new j) q ≡ (α p (k % 4096) t (eventAt (k / 4096) q) && readLike p (eventAt (k / 4096) q))) (sym (key-kept j h))
+              (ap (λ (m : ℕ). bit m q) (same (readsStart + j) (omega arith)) ∙ B .reads j q l h lq);
           whole = λ c o q lc lo′ lq w.
               let E = B .whole c o q lc lo′ lq w in
               record { place = E .place; low = E .low; high = E .high; key = key-kept (E .place) (E .high) ∙ E .key };
@@ -165,7 +165,7 @@ module _ (p : Policy) (old new : List ℕ) (few : p .counts .types ≤ 255) (sam
   first-kept : (t : ℕ) → t ≤ 256 → firstAt new t ≡ firstAt old t
   first-kept t h = same (firstStart + t) (omega arith)
 
-  pub kept-blocks : Blocks p old → Blocks p new
+  pub kept-blocks : OfferBlocks p old → OfferBlocks p new
   kept-blocks D =
       record {
         blocks = λ t w.
@@ -175,8 +175,8 @@ module _ (p : Policy) (old new : List ℕ) (few : p .counts .types ≤ 255) (sam
         tops = λ t w. let h = w .high in omega (arith, first-kept (t + 1) (omega arith), D .tops t w);
       }
 
-  pub kept-guards : Blocks p old → (t r : ℕ) → Within 1 (p .counts .types) t → GuardsOf old (firstAt old t) (firstAt old (t + 1)) r → GuardsOf new (firstAt new t) (firstAt new (t + 1)) r
-  kept-guards D t r w G =
+  pub kept-special : OfferBlocks p old → (t r : ℕ) → Within 1 (p .counts .types) t → SpecialOf old (firstAt old t) (firstAt old (t + 1)) r → SpecialOf new (firstAt new t) (firstAt new (t + 1)) r
+  kept-special D t r w G =
       let h = w .high in
       let e : firstAt new t ≡ firstAt old t = first-kept t (omega arith) in
       let e′ : firstAt new (t + 1) ≡ firstAt old (t + 1) = first-kept (t + 1) (omega arith) in
@@ -185,57 +185,57 @@ module _ (p : Policy) (old new : List ℕ) (few : p .counts .types ≤ 255) (sam
     where
       specials-kept : (j : ℕ) → j < blockEntries → specialsAt new j ≡ specialsAt old j
       specials-kept j h =
-          ap₂ bitAnd (ap₂ bitOr (same (outsStart + j) (omega arith)) (same (insStart + j) (omega arith)))
+          ap₂ bitAnd (ap₂ bitOr (same (writesStart + j) (omega arith)) (same (readsStart + j) (omega arith)))
           (same (keyAt new j / 4096 % 32) (omega arith) ∙ ap (λ (k : ℕ). getD old (k / 4096 % 32) 0) (same (keysStart + j) (omega arith)))
 
--- ---- guards, entry by entry
-pub guards-begin : (plan : List ℕ) (lo : ℕ) → GuardsOf plan lo lo 0
-guards-begin plan lo = record { at = λ j q l h b. absurd (omega arith) }
+-- ---- special permissions, entry by entry
+pub special-begin : (plan : List ℕ) (lo : ℕ) → SpecialOf plan lo lo 0
+special-begin plan lo = record { at = λ j q l h b. absurd (omega arith) }
 
-pub guards-more : {plan : List ℕ} {lo j r v : ℕ} → GuardsOf plan lo j r → v ≡ specialsAt plan j → GuardsOf plan lo (j + 1) (bitOr r v)
-guards-more {plan} {lo} {j} {r} {v} G e =
+pub special-more : {plan : List ℕ} {lo j r v : ℕ} → SpecialOf plan lo j r → v ≡ specialsAt plan j → SpecialOf plan lo (j + 1) (bitOr r v)
+special-more {plan} {lo} {j} {r} {v} G e =
     record {
       at = λ i q l h b. bit-or r v q
           ∙ ⊎-elim (λ (d : i ≡ j). or-true (bit r q) (bit v q) (ap (λ (m : ℕ). bit m q) (e ∙ ap (specialsAt plan) (sym d)) ∙ b))
           (λ (d : i ≡ j → ⊥). or-left (bit r q) (bit v q) (G .at i q l (omega (arith, d)) b)) (split-eq i j);
     }
 
-pub guards-end : {plan : List ℕ} {lo hi j r : ℕ} → GuardsOf plan lo j r → hi ≤ j → GuardsOf plan lo hi r
-guards-end G h = record { at = λ i q l k b. G .at i q l (omega arith) b }
+pub special-end : {plan : List ℕ} {lo hi j r : ℕ} → SpecialOf plan lo j r → hi ≤ j → SpecialOf plan lo hi r
+special-end G h = record { at = λ i q l k b. G .at i q l (omega arith) b }
 
--- the guards of the types below t are put
-pub record Guarding (types : ℕ) (old new : List ℕ) (t : ℕ) : Type 0 where
+-- the special permissions of the types below t are put
+pub record SpecialBelow (types : ℕ) (old new : List ℕ) (t : ℕ) : Type 0 where
   pub low : 1 ≤ t
   pub high : t ≤ types + 1
   pub few : types ≤ 255
   pub tops : Tops types old
-  pub put : Filled (λ i v. GuardsOf old (firstAt old i) (firstAt old (i + 1)) v) old new guardsStart 1 t
+  pub put : Filled (λ i v. SpecialOf old (firstAt old i) (firstAt old (i + 1)) v) old new typeSpecialStart 1 t
 
-pub guarding-begin : {types : ℕ} {plan : List ℕ} → types ≤ 255 → Tops types plan → Guarding types plan plan 1
-guarding-begin few T = record { low = omega arith; high = omega arith; few = few; tops = T; put = fill-begin _ _ _ _ }
+pub special-below-begin : {types : ℕ} {plan : List ℕ} → types ≤ 255 → Tops types plan → SpecialBelow types plan plan 1
+special-below-begin few T = record { low = omega arith; high = omega arith; few = few; tops = T; put = fill-begin _ _ _ _ }
 
 -- the end of the block of t stands behind its start
 pub place-next : (l : List ℕ) (t : ℕ) → getD l (firstStart + t + 1) 0 ≡ firstAt l (t + 1)
 place-next l t = ap (λ (i : ℕ). getD l i 0) (let e : firstStart + t + 1 ≡ firstStart + (t + 1) = omega arith in e)
 
-pub guards-to : {plan : List ℕ} {lo hi hi′ r : ℕ} → GuardsOf plan lo hi r → hi ≡ hi′ → GuardsOf plan lo hi′ r
-guards-to {plan} {lo} {r = r} G e = subst (λ (k : ℕ). GuardsOf plan lo k r) e G
+pub special-to : {plan : List ℕ} {lo hi hi′ r : ℕ} → SpecialOf plan lo hi r → hi ≡ hi′ → SpecialOf plan lo hi′ r
+special-to {plan} {lo} {r = r} G e = subst (λ (k : ℕ). SpecialOf plan lo k r) e G
 
-module _ {types : ℕ} {old new : List ℕ} {t : ℕ} (G : Guarding types old new t) (h : t ≤ types) where
-  same-below : Kept guardsStart old new
+module _ {types : ℕ} {old new : List ℕ} {t : ℕ} (G : SpecialBelow types old new t) (h : t ≤ types) where
+  same-below : Kept typeSpecialStart old new
   same-below i l = G .put .below i (omega arith)
 
-  pub guarding-top : firstAt new (t + 1) ≤ blockEntries
-  guarding-top = omega (arith, same-below (firstStart + (t + 1)) (omega (arith, G .few)), G .tops .at t (record { low = G .low; high = h }))
+  pub special-below-top : firstAt new (t + 1) ≤ blockEntries
+  special-below-top = omega (arith, same-below (firstStart + (t + 1)) (omega (arith, G .few)), G .tops .at t (record { low = G .low; high = h }))
 
-  pub guarding-more : {v : ℕ} → planEntries ≤ length new → GuardsOf new (firstAt new t) (firstAt new (t + 1)) v → Guarding types old (set new (guardsStart + t) v) (t + 1)
-  guarding-more {v} size H =
+  pub special-below-more : {v : ℕ} → planEntries ≤ length new → SpecialOf new (firstAt new t) (firstAt new (t + 1)) v → SpecialBelow types old (set new (typeSpecialStart + t) v) (t + 1)
+  special-below-more {v} size H =
       record {
         low = omega arith;
         high = omega arith;
         few = G .few;
         tops = G .tops;
-        put = fill-more (λ i v. GuardsOf old (firstAt old i) (firstAt old (i + 1)) v) (G .put) (G .low) (omega (arith, G .few)) here;
+        put = fill-more (λ i v. SpecialOf old (firstAt old i) (firstAt old (i + 1)) v) (G .put) (G .low) (omega (arith, G .few)) here;
       }
     where
       top : firstAt old (t + 1) ≤ blockEntries
@@ -243,19 +243,19 @@ module _ {types : ℕ} {old new : List ℕ} {t : ℕ} (G : Guarding types old ne
 
       specials : (j : ℕ) → j < blockEntries → specialsAt new j ≡ specialsAt old j
       specials j l =
-          ap₂ bitAnd (ap₂ bitOr (same-below (outsStart + j) (omega arith)) (same-below (insStart + j) (omega arith)))
+          ap₂ bitAnd (ap₂ bitOr (same-below (writesStart + j) (omega arith)) (same-below (readsStart + j) (omega arith)))
           (same-below (keyAt new j / 4096 % 32) (omega arith) ∙ ap (λ (k : ℕ). getD old (k / 4096 % 32) 0) (same-below (keysStart + j) (omega arith)))
 
-      here : GuardsOf old (firstAt old t) (firstAt old (t + 1)) v
+      here : SpecialOf old (firstAt old t) (firstAt old (t + 1)) v
       here =
           let e = same-below (firstStart + t) (omega (arith, G .few)) in
           let e′ = same-below (firstStart + (t + 1)) (omega (arith, G .few)) in
           record { at = λ j q l k b. H .at j q (omega arith) (omega arith) (subst (λ (m : ℕ). bit m q ≡ true) (sym (specials j (omega (arith, top)))) b) }
 
-pub guarding-end : {types : ℕ} {old new : List ℕ} {t : ℕ} → Guarding types old new t → types < t → GuardsPut types old new
-guarding-end G h =
+pub special-below-end : {types : ℕ} {old new : List ℕ} {t : ℕ} → SpecialBelow types old new t → types < t → TypeSpecialPut types old new
+special-below-end G h =
     record {
-      guards = λ i w. G .put .here i (w .low) (let z = w .high in omega arith);
+      type-special = λ i w. G .put .here i (w .low) (let z = w .high in omega arith);
       below = λ i l. G .put .below i (omega arith);
     }
 

@@ -4,7 +4,7 @@ use mathlib.Core.Path.{_≡_, refl, sym, subst, ap, ap₂, _∙_}
 use mathlib.Core.Bool.{Bool, true, false, not, _&&_}
 use mathlib.Core.List.{List}
 use mathlib.Core.Logic.{_⊎_, inl, inr, ⊎-elim}
-use native.Mathlib.Nat.{one-mul, mod-eq-of-lt}
+use native.Mathlib.Nat.{one-mul, mod-eq-of-lt, mul-le-mul}
 use native.Mathlib.Omega.{arith}
 use borrow.Author.Tests.{eq-eqb, ne-eqb}
 use lib.Bits.{bitAnd}
@@ -15,21 +15,19 @@ use Rattle.base.specs.Bits.{bit}
 use Rattle.base.specs.inner.Fill.{Filled}
 use Rattle.base.proofs.BitLaws.{bit-and, bit-pow, bit-zero}
 use Rattle.base.proofs.Numbers.{split-eq}
-use Rattle.base.proofs.UptoLaws.{clash, and-true, true-or-false}
+use Rattle.base.proofs.BoolLaws.{clash, and-yes, and-no, true-or-false}
 use Rattle.policy_image.specs.declared.counts.Counts.{Counts}
 use Rattle.policy_image.specs.Policy.{Policy, policyOf}
 use Rattle.context.specs.declared.Context.{Context}
-use Rattle.context.specs.inner.Places.{contextAtIndex}
+use Rattle.context.specs.inner.Places.{contextAtIndex, firstPlace, pairCount, roleAt, userAt, OfType}
 use Rattle.relations.specs.Relations.{ρ, μ}
 use Rattle.goal_model.specs.Images.{meetsρμ}
-use Rattle.tables.specs.inner.Tables.{typeEntries, RoleTable, UserTable}
-use Rattle.plan.specs.inner.Types.{startOf, pairCount, roleAt, userAt, OfType}
-use Rattle.plan.specs.inner.Regions.{rolesStart, holdersStart, eventsStart}
+use Rattle.plan_tables.specs.inner.Tables.{typeEntries, RoleTable, UserTable}
+use Rattle.plan.specs.inner.Regions.{pairEntries, rolesStart, holdersStart, eventSetsStart}
 use Rattle.plan.specs.inner.Entries.{rolesAt, holdersAt}
 use Rattle.plan.specs.inner.Plan.{Ready, PlanCounts, HolderOf, Holding, PolicyPlan}
 use Rattle.plan.specs.inner.Put.{Kept, HeldPut}
-use Rattle.plan.proofs.KnownLaws.{and-false}
-use Rattle.plan.proofs.TypeLaws.{pairs-few, of-pair, of-same}
+use Rattle.context.proofs.TypeLaws.{role-high, user-high, of-pair, of-same}
 use Rattle.plan.proofs.NamedLaws.{no-bits}
 
 pub plan-counts : {s : List ℕ} {n : Counts} → Ready s n → PlanCounts n
@@ -42,6 +40,13 @@ plan-counts R =
       users = omega (arith, subst (λ (k : Counts). k .users ≤ 15) (sym (R .same)) (R .sound .range .users .high));
       classes = omega (arith, subst (λ (k : Counts). k .classes ≤ 31) (sym (R .same)) (R .sound .range .classes .high));
     }
+
+-- pairs of a role and a user are few, and role and user of one are small
+pub pairs-few : {n : Counts} → PlanCounts n → pairCount n ≤ pairEntries
+pairs-few C = mul-le-mul {n₂ = 15} {m₂ = 15} (omega (arith, C .roles)) (omega (arith, C .users))
+
+pub pair-high : {n : Counts} → PlanCounts n → (i : ℕ) → i < pairCount n → (roleAt n i ≤ 15) × (userAt n i ≤ 15)
+pair-high C i h = let a = C .roles in let b = C .users in (omega (arith, role-high (C .countable) h), omega (arith, user-high (C .countable) i))
 
 -- ---- ρ and μ
 pub holder-law : {p : Policy} {n : Counts} {users : List ℕ} {i role user : ℕ} → UserTable p users → role ≡ roleAt n i → user ≡ userAt n i → user < 16 → role < 32
@@ -60,25 +65,21 @@ meet-law a b k m at = ⊎-elim met none (true-or-false (bit a k && m k))
     each : (r : ℕ) → bit (bitAnd a b) r ≡ (bit a r && (m r && eqb k r))
     each r = bit-and a b r ∙ ap (λ (t : Bool). bit a r && t) (at r)
 
-    yes-and : (t : Bool) → (t && true) ≡ t
-    yes-and true = refl
-    yes-and false = refl
-
     own : bit (bitAnd a b) k ≡ (bit a k && m k)
-    own = each k ∙ ap (λ (t : Bool). bit a k && t) (ap (λ (t : Bool). m k && t) (eq-eqb k k refl) ∙ yes-and (m k))
+    own = each k ∙ ap (λ (t : Bool). bit a k && t) (and-yes (m k) (eqb k k) (eq-eqb k k refl))
 
     met : (bit a k && m k) ≡ true → not (eqb (bitAnd a b) 0) ≡ (bit a k && m k)
     met e = ap not (ne-eqb (bitAnd a b) 0 (λ z. clash (own ∙ e) (ap (λ (v : ℕ). bit v k) z ∙ bit-zero k))) ∙ sym e
 
     clear : (bit a k && m k) ≡ false → (r : ℕ) → (k ≡ r) ⊎ (k ≡ r → ⊥) → bit (bitAnd a b) r ≡ false
     clear e r (inl q) = subst (λ (i : ℕ). bit (bitAnd a b) i ≡ false) q (own ∙ e)
-    clear e r (inr d) = each r ∙ ap (λ (t : Bool). bit a r && t) (ap (λ (t : Bool). m r && t) (ne-eqb k r d) ∙ and-false (m r)) ∙ and-false (bit a r)
+    clear e r (inr d) = each r ∙ and-no (bit a r) (m r && eqb k r) (and-no (m r) (eqb k r) (ne-eqb k r d))
 
     none : (bit a k && m k) ≡ false → not (eqb (bitAnd a b) 0) ≡ (bit a k && m k)
     none e = ap not (eq-eqb (bitAnd a b) 0 (no-bits (λ r. clear e r (split-eq k r)))) ∙ sym e
 
 -- the context at a place of a type meets ρ and μ where the roles of the type and the mask of the pair meet; f is the type's first place
-pub meets-at : {s : List ℕ} {n : Counts} {plan : List ℕ} {o y f : ℕ} → PolicyPlan s n plan → OfType n o y → f ≡ startOf n o
+pub meets-at : {s : List ℕ} {n : Counts} {plan : List ℕ} {o y f : ℕ} → PolicyPlan s n plan → OfType n o y → f ≡ firstPlace n o
     → not (eqb (bitAnd (rolesAt plan o) (holdersAt plan (y - f))) 0) ≡ meetsρμ (policyOf s) (contextAtIndex n y)
 unfolding meetsρμ
 meets-at {s} {n} {plan} {o} {y} {f} P H first =
@@ -102,7 +103,7 @@ held-put R A B =
       below = λ i h. B .below i (omega arith) ∙ A .below i (omega arith);
     }
 
-pub held-kept : {p : Policy} {n : Counts} {old new : List ℕ} → PlanCounts n → Kept eventsStart old new → Holding p n old → Holding p n new
+pub held-kept : {p : Policy} {n : Counts} {old new : List ℕ} → PlanCounts n → Kept eventSetsStart old new → Holding p n old → Holding p n new
 held-kept {p} {n} C same H =
     let k = pairs-few C in
     record {

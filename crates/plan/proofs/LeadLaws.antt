@@ -1,7 +1,7 @@
 -- The leading permissions of an entry, and what they stand for.
 use Prim.Native.Nat.{ℕ, zero, suc, _+_, _-_, _*_, _/_, _%_, _≤_, _<_}
 use mathlib.Core.Path.{_≡_, refl, sym, ap, ap₂, subst, _∙_}
-use mathlib.Core.Bool.{Bool, true, false, not, _&&_, _||_}
+use mathlib.Core.Bool.{Bool, true, false, not, _&&_, _||_, or-false}
 use mathlib.Core.List.{List}
 use mathlib.Core.Logic.{_⊎_, inl, inr, ⊎-elim}
 use native.Mathlib.Omega.{arith}
@@ -16,34 +16,37 @@ use Rattle.base.specs.Ranges.{Within}
 use Rattle.base.proofs.BitLaws.{bit-or, bit-zero}
 use Rattle.base.proofs.FillLaws.{fill-more}
 use Rattle.base.proofs.Numbers.{split-eq, split-le, zeros}
-use Rattle.base.proofs.UptoLaws.{clash, or-true, or-left, or-cases, and-true, and-first, and-second, true-or-false}
+use Rattle.base.proofs.BoolLaws.{clash, or-true, or-left, or-none, or-cases, and-yes, and-no, and-true, and-first, and-second, true-or-false}
+use Rattle.policy_image.specs.declared.counts.Counts.{Counts}
 use Rattle.policy_image.specs.Policy.{Policy}
 use Rattle.context.specs.Codes.{eventAt, eventOf, isTransition}
+use Rattle.context.specs.inner.Coding.{transitionCode}
 use Rattle.constraints.specs.Constraints.{constrains}
-use Rattle.plan.specs.inner.Entries.{firstAt, keyAt, outsAt, insAt, groupsAt, eventsAt, leadsAt}
-use Rattle.plan.specs.inner.Regions.{blockEntries, keysStart, outsStart, insStart, eventsStart, leadsStart}
-use Rattle.plan.specs.inner.Plan.{Grouped, Blocks, Alike, Leader, Leads}
-use Rattle.plan.specs.inner.Put.{Kept, LeadsPut}
-use Rattle.plan.proofs.KnownLaws.{or-nothing, and-false, and-yes}
+use Rattle.plan.specs.inner.Entries.{firstAt, keyAt, writesAt, readsAt, groupsAt, eventSetsAt, leadsAt}
+use Rattle.plan.specs.inner.Regions.{blockEntries, firstStart, keysStart, writesStart, readsStart, groupsStart, rolesStart, eventSetsStart, leadsStart}
+use Rattle.plan.specs.inner.Plan.{PlanCounts, Grouped, OfferBlocks, Alike, Leader, Leads}
+use Rattle.plan.specs.inner.Put.{Tops, Kept, AllLeads, LeadsPut}
 use Rattle.plan.specs.inner.Leads.{likes, WithIf, SameSets, AlikeTable, Led, Leading, EntryLeads}
+use Rattle.plan.proofs.BlockLaws.{last-top}
 
 -- ---- events in the same sets
-pub sets-begin : (plan : List ℕ) (event : ℕ) → SameSets plan event 0 0
-sets-begin plan event = record { done = λ q h. absurd (omega arith); rest = λ q h. bit-zero q }
+pub sets-begin : (plan : List ℕ) (event : ℕ) → SameSets plan event (event % 32) 0
+sets-begin plan event = record { low = λ q h. bit-zero q; done = λ q l h. absurd (omega arith); rest = λ q h. bit-zero q }
 
-pub sets-next : {plan : List ℕ} {event n r r′ : ℕ} {yes : Bool} → SameSets plan event n r → yes ≡ likes plan event n → WithIf r n yes r′ → SameSets plan event (n + 1) r′
-sets-next {plan} {event} {n} {r} {r′} {yes} S y W =
+pub sets-next : {plan : List ℕ} {event n r r′ : ℕ} {yes : Bool} → event % 32 ≤ n → SameSets plan event n r → yes ≡ likes plan event n → WithIf r n yes r′ → SameSets plan event (n + 1) r′
+sets-next {plan} {event} {n} {r} {r′} {yes} from S y W =
     record {
-      done = λ q h. W .at q
+      low = λ q h. W .at q ∙ off q (λ e. omega arith) ∙ S .low q h;
+      done = λ q l h. W .at q
           ∙ ⊎-elim
-          (λ (e : q ≡ n). ap₂ (λ (a b : Bool). a || (yes && b)) (S .rest q (omega arith)) (eq-eqb n q (sym e)) ∙ and-yes yes ∙ y ∙ ap (likes plan event) (sym e))
-          (λ (d : q ≡ n → ⊥). off q d ∙ S .done q (omega (arith, d)))
+          (λ (e : q ≡ n). ap₂ (λ (a b : Bool). a || (yes && b)) (S .rest q (omega arith)) (eq-eqb n q (sym e)) ∙ and-yes yes true refl ∙ y ∙ ap (likes plan event) (sym e))
+          (λ (d : q ≡ n → ⊥). off q d ∙ S .done q l (omega (arith, d)))
           (split-eq q n);
       rest = λ q h. W .at q ∙ off q (λ e. omega arith) ∙ S .rest q (omega arith);
     }
   where
     off : (q : ℕ) → (q ≡ n → ⊥) → (bit r q || (yes && eqb n q)) ≡ bit r q
-    off q d = ap (λ (b : Bool). bit r q || (yes && b)) (ne-eqb n q (λ e. d (sym e))) ∙ ap (λ (b : Bool). bit r q || b) (and-false yes) ∙ or-nothing (bit r q)
+    off q d = or-none (bit r q) (yes && eqb n q) (and-no yes (eqb n q) (ne-eqb n q (λ e. d (sym e))))
 
 pub sets-end : {plan : List ℕ} {event n r : ℕ} → n ≡ 32 → SameSets plan event n r → SameSets plan event 32 r
 sets-end {plan} {event} {r = r} e S = subst (λ (k : ℕ). SameSets plan event k r) e S
@@ -52,16 +55,16 @@ pub with-yes : {m q r : ℕ} {yes : Bool} → yes ≡ true → With m q r → Wi
 with-yes {m} {q} t W = record { at = λ i. W .at i ∙ ap (λ (b : Bool). bit m i || (b && eqb q i)) (sym t) }
 
 pub with-no : {m q : ℕ} {yes : Bool} → yes ≡ false → WithIf m q yes m
-with-no {m} {q} f = record { at = λ i. sym (or-nothing (bit m i)) ∙ ap (λ (b : Bool). bit m i || (b && eqb q i)) (sym f) }
+with-no {m} {q} f = record { at = λ i. sym (or-false (bit m i)) ∙ ap (λ (b : Bool). bit m i || (b && eqb q i)) (sym f) }
 
-pub like-transition : {a r : Bool} (f : ℕ) (b : Bool) → r ≡ a → not r ≡ false → f ≡ 32 → false ≡ (a && (not (eqb f 32) && b))
-like-transition {a} {r} f b p n e = let q : a ≡ true = sym p ∙ not-false r n in let z : eqb f 32 ≡ true = eq-eqb f 32 e in rw (q, z)
+pub like-transition : {a r : Bool} (f : ℕ) (b : Bool) → r ≡ a → not r ≡ false → f ≡ transitionCode → false ≡ (a && (not (eqb f transitionCode) && b))
+like-transition {a} {r} f b p n e = let q : a ≡ true = sym p ∙ not-false r n in let z : eqb f transitionCode ≡ true = eq-eqb f transitionCode e in rw (q, z)
 
-pub like-then : {a r : Bool} (f : ℕ) {b t : Bool} → r ≡ a → not r ≡ false → (f ≡ 32 → ⊥) → t ≡ b → t ≡ (a && (not (eqb f 32) && b))
-like-then {a} {r} f p n d e = let q : a ≡ true = sym p ∙ not-false r n in let z : eqb f 32 ≡ false = ne-eqb f 32 d in rw (q, z) e
+pub like-then : {a r : Bool} (f : ℕ) {b t : Bool} → r ≡ a → not r ≡ false → (f ≡ transitionCode → ⊥) → t ≡ b → t ≡ (a && (not (eqb f transitionCode) && b))
+like-then {a} {r} f p n d e = let q : a ≡ true = sym p ∙ not-false r n in let z : eqb f transitionCode ≡ false = ne-eqb f transitionCode d in rw (q, z) e
 
 -- ---- events that are alike
-no-transition : (f : ℕ) → (f ≡ 32 → ⊥) → isTransition (eventOf f) ≡ false
+no-transition : (f : ℕ) → (f ≡ transitionCode → ⊥) → isTransition (eventOf f) ≡ false
 no-transition f d =
     ⊎-elim
     (λ t.
@@ -77,38 +80,39 @@ event-code c q h =
     let b : q ≡ (32 * c + q) % 32 = omega arith in
     ap₂ eventAt a b
 
-not-it : (f : ℕ) → not (eqb f 32) ≡ true → f ≡ 32 → ⊥
-not-it f h e = clash (eq-eqb f 32 e) (not-true (eqb f 32) h)
+not-it : (f : ℕ) → not (eqb f transitionCode) ≡ true → f ≡ transitionCode → ⊥
+not-it f h e = clash (eq-eqb f transitionCode e) (not-true (eqb f transitionCode) h)
 
 pub alike-more : {P : ℕ → ℕ → Type 0} {old new : List ℕ} {a i v : ℕ} → Filled P old new 0 a i → a ≤ i → i < length new → P i v → Filled P old (set new i v) 0 a (i + 1)
 alike-more {P} {old} {new} {a} {i} {v} F l h x =
     subst (λ (k : ℕ). Filled P old (set new k v) 0 a (i + 1)) (let e : 0 + i ≡ i = omega arith in e) (fill-more P F l (omega arith) x)
 
-pub alike-all : {plan alike : List ℕ} {end : ℕ} → end ≤ 1024 → Filled (λ e v. SameSets plan e 32 v) (replicate 1024 0) alike 0 33 end → AlikeTable plan alike
+pub alike-all : {plan alike : List ℕ} {end : ℕ} → end ≤ 1024 → Filled (λ e v. SameSets plan e 32 v) (replicate 1024 0) alike 0 (transitionCode + 1) end → AlikeTable plan alike
 alike-all {plan} {alike} {end} few F =
     record {
       at = λ p G c q i lc lq li b. ⊎-elim
           (λ (h : end ≤ 32 * c + q). absurd (clash b (ap (λ (v : ℕ). bit v i) (F .above (32 * c + q) (omega arith) ∙ zeros 1024 (32 * c + q)) ∙ bit-zero i)))
           (λ (h : 32 * c + q < end). ⊎-elim
-          (λ (k : 33 ≤ 32 * c + q). like p G c q i lc lq li k (subst (λ (z : ℕ). SameSets plan (32 * c + q) 32 (getD alike z 0)) (let z : 0 + (32 * c + q) ≡ 32 * c + q = omega arith in z) (F .here (32 * c + q) k h)) b)
-          (λ (k : 32 * c + q < 33). absurd (clash b (ap (λ (v : ℕ). bit v i) (F .below (32 * c + q) (omega arith) ∙ zeros 1024 (32 * c + q)) ∙ bit-zero i)))
-          (split-le 33 (32 * c + q)))
+          (λ (k : transitionCode + 1 ≤ 32 * c + q). like p G c q i lc lq li k (subst (λ (z : ℕ). SameSets plan (32 * c + q) 32 (getD alike z 0)) (let z : 0 + (32 * c + q) ≡ 32 * c + q = omega arith in z) (F .here (32 * c + q) k h)) b)
+          (λ (k : 32 * c + q < transitionCode + 1). absurd (clash b (ap (λ (v : ℕ). bit v i) (F .below (32 * c + q) (omega arith) ∙ zeros 1024 (32 * c + q)) ∙ bit-zero i)))
+          (split-le (transitionCode + 1) (32 * c + q)))
           (split-le end (32 * c + q));
     }
   where
-    like : (p : Policy) → Grouped p plan → (c q i : ℕ) → c < 32 → q < 32 → i < 32 → 33 ≤ 32 * c + q → SameSets plan (32 * c + q) 32 (getD alike (32 * c + q) 0)
+    like : (p : Policy) → Grouped p plan → (c q i : ℕ) → c < 32 → q < 32 → i < 32 → transitionCode + 1 ≤ 32 * c + q → SameSets plan (32 * c + q) 32 (getD alike (32 * c + q) 0)
         → bit (getD alike (32 * c + q) 0) i ≡ true → Alike p plan (32 * c + q) (32 * c + i)
     like p G c q i lc lq li k S b =
         let group : ℕ = groupsAt plan (32 * c + q) in
+        let l : (32 * c + q) % 32 ≤ i = ⊎-elim (λ h. h) (λ (h : i < (32 * c + q) % 32). absurd (clash b (S .low i h))) (split-le ((32 * c + q) % 32) i) in
         let e : 32 * ((32 * c + q) / 32) + i ≡ 32 * c + i = omega arith in
-        let w : (bit group i && (not (eqb (32 * c + i) 32) && eqb (eventsAt plan (32 * c + i)) (eventsAt plan (32 * c + q)))) ≡ true
-        = subst (λ (f : ℕ). (bit group i && (not (eqb f 32) && eqb (eventsAt plan f) (eventsAt plan (32 * c + q)))) ≡ true) e (sym (S .done i li) ∙ b) in
+        let w : (bit group i && (not (eqb (32 * c + i) transitionCode) && eqb (eventSetsAt plan (32 * c + i)) (eventSetsAt plan (32 * c + q)))) ≡ true
+        = subst (λ (f : ℕ). (bit group i && (not (eqb f transitionCode) && eqb (eventSetsAt plan f) (eventSetsAt plan (32 * c + q)))) ≡ true) e (sym (S .done i l li) ∙ b) in
         let g : bit group i ≡ true = and-first (bit group i) _ w in
         let r = and-second (bit group i) _ w in
-        let n : not (eqb (32 * c + i) 32) ≡ true = and-first (not (eqb (32 * c + i) 32)) _ r in
-        let s : eqb (eventsAt plan (32 * c + i)) (eventsAt plan (32 * c + q)) ≡ true = and-second (not (eqb (32 * c + i) 32)) _ r in
+        let n : not (eqb (32 * c + i) transitionCode) ≡ true = and-first (not (eqb (32 * c + i) transitionCode)) _ r in
+        let s : eqb (eventSetsAt plan (32 * c + i)) (eventSetsAt plan (32 * c + q)) ≡ true = and-second (not (eqb (32 * c + i) transitionCode)) _ r in
         record {
-          sets = sym (eqb-true (eventsAt plan (32 * c + i)) (eventsAt plan (32 * c + q)) s);
+          sets = sym (eqb-true (eventSetsAt plan (32 * c + i)) (eventSetsAt plan (32 * c + q)) s);
           constrained = λ j lo hi kind.
               ap (constrains (p .rec j)) (sym (event-code c q lq)) ∙ G .sound c q i lc lq li g .same j lo hi kind ∙ ap (constrains (p .rec j)) (event-code c i li);
           transition = no-transition (32 * c + q) (λ z. omega arith) ∙ sym (no-transition (32 * c + i) (not-it (32 * c + i) n));
@@ -154,21 +158,16 @@ module _ {alike : List ℕ} {class mask left r : ℕ} (S : Sorting alike class m
             (λ D. inr (kept q D)) (S .each q h);
       }
 
-  pub sorting-less : left′ < left
-  sorting-less =
-      let off : bit left′ q₀ ≡ false = W .at q₀ ∙ ap₂ (λ (a b : Bool). a && not b) (L .has) (M .at q₀ ∙ or-true (bit (getD alike (32 * class + q₀) 0) q₀) (eqb q₀ q₀) (eq-eqb q₀ q₀ refl)) in
-      ⊎-elim (λ (e : left′ ≡ left). absurd (clash (ap (λ (v : ℕ). bit v q₀) e ∙ L .has) off)) (λ (d : left′ ≡ left → ⊥). omega (arith, d, W .most)) (split-eq left′ left)
-
 -- ---- the leads of an entry
 module _ (p : Policy) (old plan alike : List ℕ) (G : Grouped p old) (A : AlikeTable old alike) (below : Kept leadsStart old plan) where
-  sets-same : (e : ℕ) → e < 1024 → eventsAt plan e ≡ eventsAt old e
-  sets-same e h = below (eventsStart + e) (omega arith)
+  sets-same : (e : ℕ) → e < 1024 → eventSetsAt plan e ≡ eventSetsAt old e
+  sets-same e h = below (eventSetsStart + e) (omega arith)
 
   moved : {e f : ℕ} → e < 1024 → f < 1024 → Alike p old e f → Alike p plan e f
   moved {e} {f} he hf B = record { sets = sets-same e he ∙ B .sets ∙ sym (sets-same f hf); constrained = B .constrained; transition = B .transition }
 
   same-event : (e f : ℕ) → e ≡ f → Alike p plan e f
-  same-event e f q = record { sets = ap (eventsAt plan) q; constrained = λ j a b k. ap (λ (i : ℕ). constrains (p .rec j) (eventOf i)) q; transition = ap (λ (i : ℕ). isTransition (eventOf i)) q }
+  same-event e f q = record { sets = ap (eventSetsAt plan) q; constrained = λ j a b k. ap (λ (i : ℕ). constrains (p .rec j) (eventOf i)) q; transition = ap (λ (i : ℕ). isTransition (eventOf i)) q }
 
   -- one way's leads are among those of both
   led-by : (c mask some leads q : ℕ) → c < 32 → q < 32 → ((i : ℕ) → bit some i ≡ true → bit leads i ≡ true) → Leading alike c mask some → bit mask q ≡ true → Leader p plan c mask leads q
@@ -187,31 +186,31 @@ module _ (p : Policy) (old plan alike : List ℕ) (G : Grouped p old) (A : Alike
   pub leads-of : (j : ℕ) → j < blockEntries → keyAt old j / 4096 < 32 → EntryLeads alike old j (leadsAt plan j) → Leads p plan j
   leads-of j h small E =
       let key : keyAt plan j ≡ keyAt old j = below (keysStart + j) (omega arith) in
-      let outs : outsAt plan j ≡ outsAt old j = below (outsStart + j) (omega arith) in
-      let ins : insAt plan j ≡ insAt old j = below (insStart + j) (omega arith) in
+      let writes : writesAt plan j ≡ writesAt old j = below (writesStart + j) (omega arith) in
+      let reads : readsAt plan j ≡ readsAt old j = below (readsStart + j) (omega arith) in
       let class : keyAt old j / 4096 % 32 ≡ keyAt plan j / 4096 = omega arith in
-      let O : Leading alike (keyAt plan j / 4096) (outsAt plan j) (E .outs) = subst (λ (c : ℕ). Leading alike c (outsAt plan j) (E .outs)) class (subst (λ (m : ℕ). Leading alike (keyAt old j / 4096 % 32) m (E .outs)) (sym outs) (E .outs-lead)) in
-      let I : Leading alike (keyAt plan j / 4096) (insAt plan j) (E .ins) = subst (λ (c : ℕ). Leading alike c (insAt plan j) (E .ins)) class (subst (λ (m : ℕ). Leading alike (keyAt old j / 4096 % 32) m (E .ins)) (sym ins) (E .ins-lead)) in
-      let bits : (i : ℕ) → bit (leadsAt plan j) i ≡ (bit (E .outs) i || bit (E .ins) i) = λ i. ap (λ (v : ℕ). bit v i) (E .both) ∙ bit-or (E .outs) (E .ins) i in
+      let O : Leading alike (keyAt plan j / 4096) (writesAt plan j) (E .writes) = subst (λ (c : ℕ). Leading alike c (writesAt plan j) (E .writes)) class (subst (λ (m : ℕ). Leading alike (keyAt old j / 4096 % 32) m (E .writes)) (sym writes) (E .writes-lead)) in
+      let I : Leading alike (keyAt plan j / 4096) (readsAt plan j) (E .reads) = subst (λ (c : ℕ). Leading alike c (readsAt plan j) (E .reads)) class (subst (λ (m : ℕ). Leading alike (keyAt old j / 4096 % 32) m (E .reads)) (sym reads) (E .reads-lead)) in
+      let bits : (i : ℕ) → bit (leadsAt plan j) i ≡ (bit (E .writes) i || bit (E .reads) i) = λ i. ap (λ (v : ℕ). bit v i) (E .both) ∙ bit-or (E .writes) (E .reads) i in
       let lc : keyAt plan j / 4096 < 32 = omega arith in
       record {
-        among = λ q b. bit-or (outsAt plan j) (insAt plan j) q
-            ∙ ⊎-elim (λ d. or-left (bit (outsAt plan j) q) (bit (insAt plan j) q) (O .among q d)) (λ d. or-true (bit (outsAt plan j) q) (bit (insAt plan j) q) (I .among q d))
-            (or-cases (bit (E .outs) q) (bit (E .ins) q) (sym (bits q) ∙ b));
-        outs = λ q lq b. led-by (keyAt plan j / 4096) (outsAt plan j) (E .outs) (leadsAt plan j) q lc lq (λ i d. bits i ∙ or-left (bit (E .outs) i) (bit (E .ins) i) d) O b;
-        ins = λ q lq b. led-by (keyAt plan j / 4096) (insAt plan j) (E .ins) (leadsAt plan j) q lc lq (λ i d. bits i ∙ or-true (bit (E .outs) i) (bit (E .ins) i) d) I b;
+        among = λ q b. bit-or (writesAt plan j) (readsAt plan j) q
+            ∙ ⊎-elim (λ d. or-left (bit (writesAt plan j) q) (bit (readsAt plan j) q) (O .among q d)) (λ d. or-true (bit (writesAt plan j) q) (bit (readsAt plan j) q) (I .among q d))
+            (or-cases (bit (E .writes) q) (bit (E .reads) q) (sym (bits q) ∙ b));
+        writes = λ q lq b. led-by (keyAt plan j / 4096) (writesAt plan j) (E .writes) (leadsAt plan j) q lc lq (λ i d. bits i ∙ or-left (bit (E .writes) i) (bit (E .reads) i) d) O b;
+        reads = λ q lq b. led-by (keyAt plan j / 4096) (readsAt plan j) (E .reads) (leadsAt plan j) q lc lq (λ i d. bits i ∙ or-true (bit (E .writes) i) (bit (E .reads) i) d) I b;
       }
 
 -- the next entry, whose key and masks are those of the list before
-pub entry-more : {alike old new : List ℕ} {j outs ins : ℕ} → Filled (λ i v. EntryLeads alike old i v) old new leadsStart 0 j → j < blockEntries
-    → Leading alike (keyAt new j / 4096 % 32) (outsAt new j) outs → Leading alike (keyAt new j / 4096 % 32) (insAt new j) ins → EntryLeads alike old j (bitOr outs ins)
-entry-more {alike} {old} {new} {j} {outs} {ins} F h O I =
+pub entry-more : {alike old new : List ℕ} {j writes reads : ℕ} → Filled (λ i v. EntryLeads alike old i v) old new leadsStart 0 j → j < blockEntries
+    → Leading alike (keyAt new j / 4096 % 32) (writesAt new j) writes → Leading alike (keyAt new j / 4096 % 32) (readsAt new j) reads → EntryLeads alike old j (bitOr writes reads)
+entry-more {alike} {old} {new} {j} {writes} {reads} F h O I =
     let key : keyAt new j ≡ keyAt old j = F .below (keysStart + j) (omega arith) in
     record {
-      outs = outs;
-      ins = ins;
-      outs-lead = subst (λ (k : ℕ). Leading alike (k / 4096 % 32) (outsAt old j) outs) key (subst (λ (m : ℕ). Leading alike (keyAt new j / 4096 % 32) m outs) (F .below (outsStart + j) (omega arith)) O);
-      ins-lead = subst (λ (k : ℕ). Leading alike (k / 4096 % 32) (insAt old j) ins) key (subst (λ (m : ℕ). Leading alike (keyAt new j / 4096 % 32) m ins) (F .below (insStart + j) (omega arith)) I);
+      writes = writes;
+      reads = reads;
+      writes-lead = subst (λ (k : ℕ). Leading alike (k / 4096 % 32) (writesAt old j) writes) key (subst (λ (m : ℕ). Leading alike (keyAt new j / 4096 % 32) m writes) (F .below (writesStart + j) (omega arith)) O);
+      reads-lead = subst (λ (k : ℕ). Leading alike (k / 4096 % 32) (readsAt old j) reads) key (subst (λ (m : ℕ). Leading alike (keyAt new j / 4096 % 32) m reads) (F .below (readsStart + j) (omega arith)) I);
       both = refl;
     }
 
@@ -223,8 +222,20 @@ leads-put {old} {plan} {alike} A top e F =
       below = λ i h. F .below i (omega arith);
     }
 
+-- what is put between the policy's part and the leads leaves what they are found by
+pub grouped-kept : {p : Policy} {old new : List ℕ} → Kept rolesStart old new → Grouped p old → Grouped p new
+grouped-kept K G = record { sound = λ c q i lc lq li b. G .sound c q i lc lq li (subst (λ (v : ℕ). bit v i ≡ true) (K (groupsStart + (32 * c + q)) (omega arith)) b) }
+
+pub leads-over : {n : Counts} {old mid plan : List ℕ} → PlanCounts n → Tops (n .types) old → Kept eventSetsStart old mid → LeadsPut (n .types) mid plan → AllLeads (n .types) old plan
+leads-over {n} {old} {mid} C T K L p G j h small =
+    let few = C .types in
+    let top = last-top C T in
+    let f : firstAt mid (n .types + 1) ≡ firstAt old (n .types + 1) = K (firstStart + (n .types + 1)) (omega arith) in
+    let q : keyAt mid j ≡ keyAt old j = K (keysStart + j) (omega arith) in
+    L .leads p (grouped-kept (λ i l. K i (omega arith)) G) j (omega arith) (omega arith)
+
 -- ---- the block of each type is among the entries
-pub first-rising : {p : Policy} {plan : List ℕ} → Blocks p plan → (d t : ℕ) → 1 ≤ t → t + d ≤ p .counts .types → firstAt plan (t + 1) ≤ firstAt plan (t + d + 1)
+pub first-rising : {p : Policy} {plan : List ℕ} → OfferBlocks p plan → (d t : ℕ) → 1 ≤ t → t + d ≤ p .counts .types → firstAt plan (t + 1) ≤ firstAt plan (t + d + 1)
 first-rising {p} {plan} B zero t lo hi = let e : firstAt plan (t + 0 + 1) ≡ firstAt plan (t + 1) = ap (λ (i : ℕ). firstAt plan (i + 1)) (let z : t + 0 ≡ t = omega arith in z) in omega arith
 first-rising {p} {plan} B (suc d) t lo hi =
     let a : firstAt plan (t + 1) ≤ firstAt plan (t + d + 1) = first-rising B d t lo (omega arith) in
@@ -232,7 +243,7 @@ first-rising {p} {plan} B (suc d) t lo hi =
     let e : firstAt plan (t + suc d + 1) ≡ firstAt plan (t + d + 1 + 1) = ap (firstAt plan) (let z : t + suc d + 1 ≡ t + d + 1 + 1 = omega arith in z) in
     omega arith
 
-pub last-first : {p : Policy} {plan : List ℕ} → Blocks p plan → (t : ℕ) → Within 1 (p .counts .types) t → firstAt plan (t + 1) ≤ firstAt plan (p .counts .types + 1)
+pub last-first : {p : Policy} {plan : List ℕ} → OfferBlocks p plan → (t : ℕ) → Within 1 (p .counts .types) t → firstAt plan (t + 1) ≤ firstAt plan (p .counts .types + 1)
 last-first {p} {plan} B t w =
     let d : ℕ = p .counts .types - t in
     let e : t + d ≡ p .counts .types = (let h = w .high in omega arith) in

@@ -1,7 +1,7 @@
 -- The σ sets of a context: how they are read from the goal's part of a plan, and that they are those of the goal.
 use Prim.Native.Nat.{ℕ, zero, suc, _+_, _-_, _*_, _/_, _%_, _≤_, _<_}
 use mathlib.Core.Path.{_≡_, refl, sym, subst, ap, ap₂, _∙_}
-use mathlib.Core.Bool.{Bool, true, false, cond, _&&_}
+use mathlib.Core.Bool.{Bool, true, false, cond, _&&_, _||_, or-false, or-assoc}
 use mathlib.Core.List.{List}
 use mathlib.Core.Logic.{⊎-elim}
 use native.Mathlib.Nat.{div-add-mod'}
@@ -12,27 +12,28 @@ use lib.Arith.{digits-lt, digits-div, digits-mod}
 use lib.Dec.{eqb}
 use Rattle.base.specs.Bits.{bit}
 use Rattle.base.specs.inner.Fill.{Filled}
-use Rattle.base.proofs.UptoLaws.{or-true, true-or-false}
+use Rattle.base.proofs.BitLaws.{bit-or, bit-zero}
+use Rattle.base.proofs.BoolLaws.{or-true, or-none, true-or-false}
 use Rattle.policy_image.specs.declared.counts.Counts.{Counts}
-use Rattle.policy_image.specs.Policy.{Policy}
 use Rattle.context.specs.declared.Context.{Context}
 use Rattle.context.specs.Codes.{contextAt, eventOf}
 use Rattle.context.specs.Ranges.{ContextInRange}
-use Rattle.context.specs.inner.Places.{contextAtIndex}
+use Rattle.context.specs.inner.Places.{contextAtIndex, firstPlace, pairCount, roleAt, userAt, OfType}
 use Rattle.goal_image.specs.Goal.{Goal, goalOf}
 use Rattle.goal_image.specs.Questions.{OneChainEach}
 use Rattle.goal_image.specs.Sets.{fits, matchesContext}
 use Rattle.goal_image.specs.inner.Memberships.{ContextSets, EventSets}
 use Rattle.goal_image.specs.inner.Sound.{SoundGoal}
-use Rattle.tables.specs.inner.Tables.{typeEntries}
-use Rattle.plan.specs.inner.Types.{startOf, pairCount, roleAt, userAt, OfType}
-use Rattle.plan.specs.inner.Regions.{recordEntries, pairEntries, firstStart, keysStart, groupsStart, eventsStart, typeSetsStart, pairSetsStart}
-use Rattle.plan.specs.inner.Entries.{firstAt, keyAt, typeSetsAt, pairSetsAt, namedAt, linkAt, marksAt}
-use Rattle.plan.specs.inner.Sets.{Falls, recordFits, listed, pairOf, setsOf}
-use Rattle.plan.specs.inner.Named.{AllLinked, LinksPut, Named, NamedSets}
-use Rattle.plan.specs.inner.Plan.{PlanCounts, PairSets, Grouped, GoalPlan}
+use Rattle.plan_tables.specs.inner.Tables.{typeEntries}
+use Rattle.plan.specs.inner.Regions.{recordEntries, pairEntries, eventSetsStart, typeSetsStart, pairSetsStart}
+use Rattle.plan.specs.inner.Entries.{typeSetsAt, pairSetsAt, namedAt, linkAt, marksAt}
+use Rattle.plan.specs.inner.Sets.{Falls, recordFits, listed, listedFor, pairOf, setsOf}
+use Rattle.plan.specs.inner.Named.{SameRecord, AllLinked, LinksPut, Named, NamedSets}
+use Rattle.plan.specs.inner.Plan.{PlanCounts, PairSets, GoalPlan}
 use Rattle.plan.specs.inner.Put.{Tops, Kept, GoalPut, LeadsPut}
-use Rattle.plan.proofs.TypeLaws.{pairs-few, pair-high, of-pair, of-same}
+use Rattle.context.proofs.TypeLaws.{of-pair, of-same}
+use Rattle.plan.proofs.ContextLaws.{pairs-few, pair-high}
+use Rattle.plan.proofs.LeadLaws.{leads-over}
 use Rattle.plan.proofs.NamedLaws.{Walking, walk-begin, walk-pass, walk-take, walk-end, links-kept, sets-joined}
 
 -- ---- lists: one step, and steps enough are enough
@@ -40,6 +41,35 @@ listed-more : (plan : List ℕ) (x : Context) (steps k sets : ℕ)
     → listed plan x (suc steps) (suc k) sets ≡ listed plan x steps (linkAt plan (suc k)) (cond (recordFits plan x (suc k)) (bitOr sets (marksAt plan (suc k))) sets)
 unfolding listed
 listed-more plan x steps k sets = refl
+
+-- what is listed has the bits of the sets that it is added to, and of what is listed without them
+pub fit-bits : (fit : Bool) (sets marks h : ℕ) → bit (cond fit (bitOr sets marks) sets) h ≡ (bit sets h || (fit && bit marks h))
+fit-bits true sets marks h = bit-or sets marks h
+fit-bits false sets marks h = sym (or-false (bit sets h))
+
+pub listed-bits : (plan : List ℕ) (x : Context) (steps k sets h : ℕ) → bit (listed plan x steps k sets) h ≡ (bit sets h || bit (listed plan x steps k 0) h)
+unfolding listed
+listed-bits plan x zero k sets h = sym (or-none (bit sets h) (bit 0 h) (bit-zero h))
+listed-bits plan x (suc steps) zero sets h = sym (or-none (bit sets h) (bit 0 h) (bit-zero h))
+listed-bits plan x (suc steps) (suc k) sets h =
+    let fit : Bool = recordFits plan x (suc k) in
+    let own : Bool = fit && bit (marksAt plan (suc k)) h in
+    let rest : Bool = bit (listed plan x steps (linkAt plan (suc k)) 0) h in
+    listed-bits plan x steps (linkAt plan (suc k)) (cond fit (bitOr sets (marksAt plan (suc k))) sets) h
+    ∙ ap (λ (b : Bool). b || rest) (fit-bits fit sets (marksAt plan (suc k)) h)
+    ∙ or-assoc (bit sets h) own rest
+    ∙ ap (λ (b : Bool). bit sets h || b) (sym (listed-bits plan x steps (linkAt plan (suc k)) (cond fit (bitOr 0 (marksAt plan (suc k))) 0) h
+    ∙ ap (λ (b : Bool). b || rest) (fit-bits fit 0 (marksAt plan (suc k)) h ∙ ap (λ (b : Bool). b || own) (bit-zero h))))
+
+-- records that are as they were are listed as they were
+pub listed-same : {old plan : List ℕ} {a : ℕ} → Falls old → a ≤ recordEntries → ((k : ℕ) → k < a → SameRecord old plan k) → (x : Context) (steps k sets : ℕ) → k < a → listed plan x steps k sets ≡ listed old x steps k sets
+unfolding listed
+listed-same F few S x zero k sets h = refl
+listed-same F few S x (suc steps) zero sets h = refl
+listed-same {old} {plan} F few S x (suc steps) (suc k) sets h =
+    let s = S (suc k) h in
+    let l = F .links (suc k) (omega arith) (omega arith) in
+    rw (s .link, s .marks, s .role, s .user) (listed-same F few S x steps (linkAt old (suc k)) _ (omega arith))
 
 module _ {plan : List ℕ} (F : Falls plan) (x : Context) where
   none-left : (a sets : ℕ) → listed plan x a 0 sets ≡ sets
@@ -73,7 +103,7 @@ pair-is n o i =
     let b : userAt n i - 1 ≡ i % n .users = omega arith in
     ap₂ (λ (d m : ℕ). d * n .users + m) a b ∙ div-add-mod' i (n .users)
 
-module _ {n : Counts} {o y f : ℕ} (C : PlanCounts n) (H : OfType n o y) (first : f ≡ startOf n o) where
+module _ {n : Counts} {o y f : ℕ} (C : PlanCounts n) (H : OfType n o y) (first : f ≡ firstPlace n o) where
   abbrev i : ℕ
   i = y - f
 
@@ -93,11 +123,11 @@ module _ {n : Counts} {o y f : ℕ} (C : PlanCounts n) (H : OfType n o y) (first
   at-place : (plan : List ℕ) → setsOf n plan x ≡ setsOf n plan (contextAtIndex n y)
   at-place plan = ap (setsOf n plan) (of-same (C .countable) H first)
 
-  pub sets-all : (plan : List ℕ) {x′ : Context} {c : ℕ} → x′ ≡ x → c ≡ listed plan x′ (namedAt plan (x′ .ty)) (namedAt plan (x′ .ty)) 0
+  pub sets-all : (plan : List ℕ) {x′ : Context} {c : ℕ} → x′ ≡ x → c ≡ listedFor plan x′
       → bitOr (bitOr (typeSetsAt plan o) (pairSetsAt plan i)) c ≡ setsOf n plan (contextAtIndex n y)
   unfolding setsOf
   sets-all plan {x′} {c} e q =
-      ap₂ (λ (k v : ℕ). bitOr (bitOr (typeSetsAt plan o) (pairSetsAt plan k)) v) (sym (pair-is n o i)) (q ∙ ap (λ (z : Context). listed plan z (namedAt plan (z .ty)) (namedAt plan (z .ty)) 0) e)
+      ap₂ (λ (k v : ℕ). bitOr (bitOr (typeSetsAt plan o) (pairSetsAt plan k)) v) (sym (pair-is n o i)) (q ∙ ap (listedFor plan) e)
       ∙ at-place plan
 
   pub sets-few : {plan : List ℕ} → Falls plan → namedAt plan o ≡ 0 → bitOr (typeSetsAt plan o) (pairSetsAt plan i) ≡ setsOf n plan (contextAtIndex n y)
@@ -131,8 +161,19 @@ module _ {g : Goal} {plan : List ℕ} (L : AllLinked g plan) (O : OneChainEach g
       (λ (t : recordFits plan x (suc k) ≡ false). subst (λ (b : Bool). NamedSets g x (listed plan x steps (linkAt plan (suc k)) (cond b v sets))) (sym t) (walked steps (linkAt plan (suc k)) sets (omega arith) (walk-pass L O W n (m ∙ t) refl)))
       (true-or-false (recordFits plan x (suc k))))
 
-  pub named-are : x .ty < typeEntries → NamedSets g x (listed plan x (namedAt plan (x .ty)) (namedAt plan (x .ty)) 0)
+  pub named-are : x .ty < typeEntries → NamedSets g x (listedFor plan x)
   named-are h = let a : namedAt plan (x .ty) ≤ namedAt plan (x .ty) = omega arith in walked (namedAt plan (x .ty)) (namedAt plan (x .ty)) 0 a (walk-begin L h)
+
+-- the type of a context in range, and the place of its pair
+pub type-lt : {n : Counts} {x : Context} → PlanCounts n → ContextInRange n x → x .ty < typeEntries
+type-lt C R = let a = C .types in let b = R .ty .high in omega arith
+
+module _ {n : Counts} {x : Context} (R : ContextInRange n x) where
+  user-lt : x .user - 1 < n .users
+  user-lt = let l = R .user .low in let h = R .user .high in omega arith
+
+  pub pair-lt : pairOf n x < pairCount n
+  pair-lt = digits-lt (let l = R .role .low in let h = R .role .high in let z : x .role - 1 < n .roles = omega arith in z) user-lt
 
 pub goal-sets : {g : List ℕ} {n : Counts} {plan : List ℕ} {x : Context} → PlanCounts n → GoalPlan g n plan → ContextInRange n x → ContextSets (goalOf g) x (setsOf n plan x)
 unfolding setsOf
@@ -140,8 +181,8 @@ goal-sets {g} {n} {plan} {x} C P R =
     let i : ℕ = pairOf n x in
     let l = R .role .low in
     let l′ = R .user .low in
-    let h : i < pairCount n = pair-lt in
-    let t : x .ty < typeEntries = (let a = C .types in let b = R .ty .high in omega arith) in
+    let h : i < pairCount n = pair-lt R in
+    let t : x .ty < typeEntries = type-lt C R in
     sets-joined (P .sound .chains) l l′ (R .ty .low) t (P .sets .types (x .ty) (R .ty))
     (subst (λ (z : Context). ContextSets (goalOf g) z (pairSetsAt plan i)) same (P .sets .pairs i h))
     (named-are (P .sets .lists) (P .sound .chains) (let z = P .sound .exact .few in omega arith) x t)
@@ -152,26 +193,20 @@ goal-sets {g} {n} {plan} {x} C P R =
     own-user : x .user - 1 + 1 ≡ x .user
     own-user = let l = R .user .low in omega arith
 
-    user-lt : x .user - 1 < n .users
-    user-lt = let l = R .user .low in let h = R .user .high in omega arith
-
-    pair-lt : pairOf n x < pairCount n
-    pair-lt = digits-lt (let l = R .role .low in let h = R .role .high in let z : x .role - 1 < n .roles = omega arith in z) user-lt
-
     same : contextAt 0 (roleAt n (pairOf n x)) (userAt n (pairOf n x)) ≡ contextAt 0 (x .role) (x .user)
     same =
-        ap₂ (contextAt 0) (ap (λ (k : ℕ). k + 1) (digits-div (x .role - 1) user-lt) ∙ own-role) (ap (λ (k : ℕ). k + 1) (digits-mod (x .role - 1) user-lt) ∙ own-user)
+        ap₂ (contextAt 0) (ap (λ (k : ℕ). k + 1) (digits-div (x .role - 1) (user-lt R)) ∙ own-role) (ap (λ (k : ℕ). k + 1) (digits-mod (x .role - 1) (user-lt R)) ∙ own-user)
 
 -- ---- making: what the leads are put over is the policy's part as it was
-pub goal-before : {P Q R : ℕ → ℕ → Type 0} {g : Goal} {old p1 p2 p3 p4 : List ℕ} {a b d : ℕ} → Filled P old p1 eventsStart 32 a → Filled Q p1 p2 typeSetsStart 1 b → Filled R p2 p3 pairSetsStart 0 d → LinksPut g p3 p4
-    → Kept eventsStart old p4
+pub goal-before : {P Q R : ℕ → ℕ → Type 0} {g : Goal} {old p1 p2 p3 p4 : List ℕ} {a b d : ℕ} → Filled P old p1 eventSetsStart 32 a → Filled Q p1 p2 typeSetsStart 1 b → Filled R p2 p3 pairSetsStart 0 d → LinksPut g p3 p4
+    → Kept eventSetsStart old p4
 goal-before E A B K i h = K .below i (omega arith) ∙ B .below i (omega arith) ∙ A .below i (omega arith) ∙ E .below i (omega arith)
 
 module _ {g old p1 p2 p3 p4 plan : List ℕ} {n : Counts} {classes types : ℕ} (S : SoundGoal g) (C : PlanCounts n) (T : Tops (n .types) old) (ec : classes ≡ n .classes) (et : types ≡ n .types)
-    (E : Filled (λ e v. EventSets (goalOf g) (eventOf e) v) old p1 eventsStart 32 (32 * (classes + 1)))
+    (E : Filled (λ e v. EventSets (goalOf g) (eventOf e) v) old p1 eventSetsStart 32 (32 * (classes + 1)))
     (A : Filled (λ t v. ContextSets (goalOf g) (contextAt t 0 0) v) p1 p2 typeSetsStart 1 (types + 1))
     (B : Filled (λ i v. PairSets (goalOf g) n i v) p2 p3 pairSetsStart 0 (pairCount n)) (K : LinksPut (goalOf g) p3 p4) (L : LeadsPut (n .types) p4 plan) where
-  before : Kept eventsStart old p4
+  before : Kept eventSetsStart old p4
   before = goal-before E A B K
 
   pub goal-put : GoalPut g n old plan
@@ -182,20 +217,13 @@ module _ {g old p1 p2 p3 p4 plan : List ℕ} {n : Counts} {classes types : ℕ} 
       record {
         goal = record {
           sound = S;
-          events = λ e l h. subst (EventSets (goalOf g) (eventOf e)) (sym (L .below (eventsStart + e) (omega arith) ∙ K .below (eventsStart + e) (omega arith) ∙ B .below (eventsStart + e) (omega arith) ∙ A .below (eventsStart + e) (omega arith))) (E .here e l (omega arith));
+          events = λ e l h. subst (EventSets (goalOf g) (eventOf e)) (sym (L .below (eventSetsStart + e) (omega arith) ∙ K .below (eventSetsStart + e) (omega arith) ∙ B .below (eventSetsStart + e) (omega arith) ∙ A .below (eventSetsStart + e) (omega arith))) (E .here e l (omega arith));
           sets = record {
             types = λ t w. let h = w .high in subst (ContextSets (goalOf g) (contextAt t 0 0)) (sym (L .below (typeSetsStart + t) (omega arith) ∙ K .below (typeSetsStart + t) (omega arith) ∙ B .below (typeSetsStart + t) (omega arith))) (A .here t (w .low) (omega arith));
             pairs = λ i h. subst (PairSets (goalOf g) n i) (sym (L .below (pairSetsStart + i) (omega arith) ∙ K .below (pairSetsStart + i) (omega arith))) (B .here i (omega arith) h);
-            lists = links-kept (let z = S .exact .few in omega arith) (L .below) (K .lists);
+            lists = links-kept (L .below) (let z = S .exact .few in omega arith) (K .lists);
           };
         };
-        leads = λ p G j h small.
-            let top = T .at (n .types) (record { low = C .some-type; high = omega arith }) in
-            let f : firstAt p4 (n .types + 1) ≡ firstAt old (n .types + 1) = before (firstStart + (n .types + 1)) (omega arith) in
-            let q : keyAt p4 j ≡ keyAt old j = before (keysStart + j) (omega arith) in
-            L .leads p (grouped p G) j (omega arith) (omega arith);
+        leads = leads-over C T before L;
         below = λ i h. L .below i (omega arith) ∙ before i h;
       }
-    where
-      grouped : (p : Policy) → Grouped p old → Grouped p p4
-      grouped p G = record { sound = λ c q i lc lq li b. G .sound c q i lc lq li (subst (λ (v : ℕ). bit v i ≡ true) (before (groupsStart + (32 * c + q)) (omega arith)) b) }

@@ -19,6 +19,18 @@ pub fn put(plan: &mut [u32], at: usize, n: usize, table: &[u32])
     }
 }
 
+// Clears the n entries from a place on.
+pub fn clear(plan: &mut [u32], at: usize, n: usize)
+    requires { ⌜ at + n ≤ length (now plan) ⌝ }
+    ensures { λ _. ⌜ Filled (λ _ v. v ≡ 0) (now (plan .entry)) (now (plan .exit)) at 0 n ⌝ }
+{
+    let mut i: usize = 0;
+    while i < n {
+        plan[at + i] = 0;
+        i += 1;
+    }
+}
+
 // Copies the first n masks of an index, each cut to the permissions that `cut` has for the class of its key.
 pub fn put_cut(plan: &mut [u32], at: usize, n: usize, keys: &[u32], masks: &[u32], cut: &[u32; 32])
     requires { ⌜ (at + n ≤ length (now plan)) × (n ≤ length (now keys)) × (n ≤ length (now masks)) ⌝ }

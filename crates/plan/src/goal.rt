@@ -2,9 +2,9 @@
 // apart.
 use crate::leads::put_leads;
 use crate::named::put_links;
-use crate::regions::EVENTS;
-use crate::regions::PAIR_SETS;
-use crate::regions::TYPE_SETS;
+use crate::regions::EVENT_SETS_START;
+use crate::regions::PAIR_SETS_START;
+use crate::regions::TYPE_SETS_START;
 use context::Context;
 use context::Event;
 use goal_image::sets::context_sets;
@@ -17,21 +17,21 @@ ghost use Rattle.context.specs.Codes.{contextAt, eventOf};
 ghost use Rattle.goal_image.specs.Goal.{goalOf};
 ghost use Rattle.goal_image.specs.inner.Memberships.{ContextSets, EventSets};
 ghost use Rattle.goal_image.specs.inner.Sound.{SoundGoal};
-ghost use Rattle.tables.specs.inner.Tables.{typeEntries};
+ghost use Rattle.plan_tables.specs.inner.Tables.{typeEntries};
 ghost use Rattle.plan.specs.inner.Plan.{PlanCounts, PairSets};
 ghost use Rattle.plan.specs.inner.Put.{Tops, GoalPut};
-ghost use Rattle.plan.specs.inner.Regions.{classEntries, eventsStart, typeSetsStart, pairSetsStart, planEntries};
-ghost use Rattle.plan.specs.inner.Types.{pairCount};
+ghost use Rattle.plan.specs.inner.Regions.{classEntries, eventSetsStart, typeSetsStart, pairSetsStart, planEntries};
+ghost use Rattle.context.specs.inner.Places.{pairCount};
 
 // The sets of the events of the policy's classes.
 fn put_events(goal: &[u8], classes: u32, plan: &mut [u32])
     requires { ⌜ SoundGoal (now goal) × (classes < classEntries) × (planEntries ≤ length (now plan)) ⌝ }
-    ensures { λ _. ⌜ Filled (λ e v. EventSets (goalOf (now (goal .entry))) (eventOf e) v) (now (plan .entry)) (now (plan .exit)) eventsStart 32 (32 * (classes + 1)) ⌝ }
+    ensures { λ _. ⌜ Filled (λ e v. EventSets (goalOf (now (goal .entry))) (eventOf e) v) (now (plan .entry)) (now (plan .exit)) eventSetsStart 32 (32 * (classes + 1)) ⌝ }
 {
     let end = 32 * (classes + 1);
     let mut e: u32 = 32;
     while e < end {
-        let at = EVENTS + (e as usize);
+        let at = EVENT_SETS_START + (e as usize);
         plan[at] = event_sets(goal, Event::decode(e));
         e += 1;
     }
@@ -44,7 +44,7 @@ fn put_type_sets(goal: &[u8], types: u32, plan: &mut [u32])
 {
     let mut t: u32 = 1;
     while t <= types {
-        let at = TYPE_SETS + (t as usize);
+        let at = TYPE_SETS_START + (t as usize);
         plan[at] = context_sets(goal, Context::new(t, 0, 0));
         t += 1;
     }
@@ -59,7 +59,7 @@ fn put_pair_sets(goal: &[u8], counts: Counts, plan: &mut [u32])
     let mut i: u32 = 0;
     while i < pairs {
         let x = Context::new(0, i / counts.users + 1, i % counts.users + 1);
-        let at = PAIR_SETS + (i as usize);
+        let at = PAIR_SETS_START + (i as usize);
         plan[at] = context_sets(goal, x);
         i += 1;
     }

@@ -1,16 +1,17 @@
 // Of the permissions of an entry, those that stand for the others: the lowest of those that a search cannot tell apart.
-use crate::regions::EVENTS;
-use crate::regions::FIRST;
-use crate::regions::GROUPS;
-use crate::regions::INS;
-use crate::regions::KEYS;
-use crate::regions::LEADS;
-use crate::regions::OUTS;
+use crate::regions::EVENT_SETS_START;
+use crate::regions::FIRST_START;
+use crate::regions::GROUPS_START;
+use crate::regions::KEYS_START;
+use crate::regions::LEADS_START;
+use crate::regions::READS_START;
 use crate::regions::TYPE_CODES;
+use crate::regions::WRITES_START;
 use base::bits::has_bit;
 use base::bits::lowest;
 use base::bits::with_bit;
 use base::bits::without;
+use context::Event;
 use policy_image::counts::Counts;
 ghost use mathlib.Core.Path.{_≡_};
 ghost use Prim.Native.Nat.{_≤_, _<_};
@@ -21,24 +22,21 @@ ghost use Rattle.plan.specs.inner.Plan.{PlanCounts};
 ghost use Rattle.plan.specs.inner.Put.{Tops, LeadsPut};
 ghost use Rattle.plan.specs.inner.Leads.{likes, WithIf, SameSets, AlikeTable, Leading, EntryLeads};
 
-// The event of process transition, which is like no other.
-const TRANSITION: u32 = 32;
-
 // Whether the permission q has the same constraints as the event of its class, is in the same sets of the goal, and is not process
 // transition.
 fn is_like(plan: &[u32], event: u32, q: u32) -> bool
     requires { ⌜ (event < eventEntries) × (q < 32) × (planEntries ≤ length (now plan)) ⌝ }
     ensures { λ r. ⌜ r ≡ likes (now (plan .entry)) event q ⌝ }
 {
-    if !has_bit(plan[GROUPS + (event as usize)], q) {
+    if !has_bit(plan[GROUPS_START + (event as usize)], q) {
         return false;
     }
     let other = 32 * (event / 32) + q;
-    if other == TRANSITION {
+    if other == Event::TRANSITION_CODE {
         return false;
     }
-    let at = EVENTS + (other as usize);
-    let own = EVENTS + (event as usize);
+    let at = EVENT_SETS_START + (other as usize);
+    let own = EVENT_SETS_START + (event as usize);
     plan[at] == plan[own]
 }
 
@@ -50,13 +48,13 @@ fn with_if(mask: u32, q: u32, yes: bool) -> u32
     if yes { with_bit(mask, q) } else { mask }
 }
 
-// All such permissions.
+// All such permissions from the event's own on: of those that are alike the lowest leads, so no lower one is asked for.
 fn same_sets(plan: &[u32], event: u32) -> u32
     requires { ⌜ (event < eventEntries) × (planEntries ≤ length (now plan)) ⌝ }
     ensures { λ r. ⌜ SameSets (now (plan .entry)) event 32 r ⌝ }
 {
     let mut r: u32 = 0;
-    let mut q: u32 = 0;
+    let mut q = event % 32;
     while q < 32 {
         r = with_if(r, q, is_like(plan, event, q));
         q += 1;
@@ -64,14 +62,15 @@ fn same_sets(plan: &[u32], event: u32) -> u32
     r
 }
 
-// For each event of the policy's classes, the permissions of its class that a search cannot tell from it.
+// For each event of the policy's classes but process transition, which is like no other, the permissions of its class that a search
+// cannot tell from it.
 fn alike_table(classes: u32, plan: &[u32]) -> [u32; 1024]
     requires { ⌜ (classes < classEntries) × (planEntries ≤ length (now plan)) ⌝ }
     ensures { λ r. ⌜ AlikeTable (now (plan .entry)) r ⌝ }
 {
     let mut alike = [0u32; 1024];
     let end = 32 * (classes + 1);
-    let mut event = TRANSITION + 1;
+    let mut event = Event::TRANSITION_CODE + 1;
     while event < end {
         let at = event as usize;
         alike[at] = same_sets(plan, event);
@@ -103,10 +102,10 @@ fn lead_entries(alike: &[u32; 1024], n: usize, plan: &mut [u32])
 {
     let mut j: usize = 0;
     while j < n {
-        let class = plan[KEYS + j] / TYPE_CODES % 32;
-        let outs = leading(alike, class, plan[OUTS + j]);
-        let ins = leading(alike, class, plan[INS + j]);
-        plan[LEADS + j] = outs | ins;
+        let class = plan[KEYS_START + j] / TYPE_CODES % 32;
+        let writes = leading(alike, class, plan[WRITES_START + j]);
+        let reads = leading(alike, class, plan[READS_START + j]);
+        plan[LEADS_START + j] = writes | reads;
         j += 1;
     }
 }
@@ -118,6 +117,6 @@ pub fn put_leads(counts: Counts, plan: &mut [u32])
 {
     let alike = alike_table(counts.classes, plan);
     let last = (counts.types + 1) as usize;
-    let n = plan[FIRST + last] as usize;
+    let n = plan[FIRST_START + last] as usize;
     lead_entries(&alike, n, plan);
 }

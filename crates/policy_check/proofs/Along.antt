@@ -5,7 +5,7 @@ use mathlib.Core.Path.{_≡_}
 use Rattle.base.proofs.ChainLaws.{Visit, left, visit-start, visit-step, visit-less}
 use Rattle.policy_image.specs.Layout.{policyHead, recordCount}
 use Rattle.policy_image.specs.Policy.{policyOf, policyLinks}
-use Rattle.policy_chains.proofs.KindLaws.{OfKind, visit-kind, visit-all}
+use Rattle.policy_links.proofs.KindLaws.{OfKind, visit-kind, visit-all}
 use Rattle.policy_check.specs.inner.Sound.{Sound}
 
 module _ (s : List ℕ) (S : Sound s) (k : ℕ) (low : 1 ≤ k) (high : k ≤ 9) where

@@ -1,4 +1,4 @@
--- Questions 1 to 6 on named images, from the definitions alone: an image for each number, and for each way to misread a
+-- The questions of a policy on named images, from the definitions alone: an image for each number, and for each way to misread a
 -- question an image on which the misreading would answer otherwise. An answer is one (`one-answer`), so each theorem here
 -- rules out every other answer to its image.
 use Prim.Native.Nat.{ℕ, _+_, _*_, _≤_, _<_}
@@ -10,27 +10,27 @@ use lib.ListN.{length}
 use Rattle.policy_image.specs.Layout.{PolicyExact, countsOf, recordCount, recordOf, policyHead, payloadOf, decoded}
 use Rattle.policy_image.specs.Counts.{CountsInRange}
 use Rattle.policy_image.specs.Policy.{policyOf}
-use Rattle.policy_chains.specs.Chains.{LinksRise}
+use Rattle.policy_links.specs.Chains.{LinksRise}
 use Rattle.policy_image.specs.cases.Written.{image, noChain, chainOf, line, domain, permissions, flow, allow, roleType, userRole, roleChange, constraint, node}
-use Rattle.policy_image.specs.cases.Weir.{weir}
-use Rattle.policy_nodes.specs.Nodes.{useOf}
-use Rattle.policy_check.proofs.Tests.{Refused, Accepted, refused-1, refused-2, refused-3, refused-4, refused-5, refused-6, accepted}
+use Rattle.policy_image.specs.cases.Weir.{weir, weirAllow31, weirDomain3}
+use Rattle.policy_expressions.specs.Nodes.{useOf}
+use Rattle.policy_check.proofs.Tests.{Refused, Accepted, refused-1, refused-2, refused-3, refused-4, refused-5, refused-6, refused-14, accepted}
 
 -- ---- whole images
 -- the weir policy
 pub weir-accepted : Accepted weir
 unfolding countsOf recordCount recordOf policyHead payloadOf decoded useOf
-weir-accepted = accepted refl refl refl refl refl refl
+weir-accepted = accepted refl refl refl refl refl refl refl
 
 -- W10: "24 bytes, N 0, counts 1, heads 0: accepted"
 pub w10-empty : Accepted (image 1 1 1 1 noChain [])
 unfolding countsOf recordCount recordOf policyHead payloadOf decoded useOf
-w10-empty = accepted refl refl refl refl refl refl
+w10-empty = accepted refl refl refl refl refl refl refl
 
 -- each count at its greatest
 pub largest-counts : Accepted (image 255 15 15 31 noChain [])
 unfolding countsOf recordCount recordOf policyHead payloadOf decoded useOf
-largest-counts = accepted refl refl refl refl refl refl
+largest-counts = accepted refl refl refl refl refl refl refl
 
 -- ---- question 1
 -- W10: "23 bytes: 1", whatever they are
@@ -156,12 +156,12 @@ flow-way-four = refused-5 refl refl refl refl refl
 -- "b = 1 write-like, 2 read-like, 3 both"
 pub flow-way-three : Accepted (image 1 1 1 1 (chainOf 3) (flow 0 1 3 1 ∷ []))
 unfolding countsOf recordCount recordOf policyHead payloadOf decoded useOf
-flow-way-three = accepted refl refl refl refl refl refl
+flow-way-three = accepted refl refl refl refl refl refl refl
 
 -- "allow's b from 0": self
-pub allow-self : Accepted (image 1 1 1 1 (chainOf 4) (allow 0 1 0 1 1 ∷ []))
+pub allow-self : Accepted (image 1 1 1 1 (1 ∷ 0 ∷ 0 ∷ 2 ∷ 0 ∷ 0 ∷ 0 ∷ 0 ∷ 0 ∷ []) (domain 0 1 ∷ allow 0 1 0 1 1 ∷ []))
 unfolding countsOf recordCount recordOf policyHead payloadOf decoded useOf
-allow-self = accepted refl refl refl refl refl refl
+allow-self = accepted refl refl refl refl refl refl refl
 
 pub allow-source-zero : Refused (image 1 1 1 1 (chainOf 4) (allow 0 0 1 1 1 ∷ [])) 5
 unfolding countsOf recordCount recordOf policyHead payloadOf decoded useOf
@@ -183,7 +183,7 @@ role-type-zero = refused-5 refl refl refl refl refl
 -- each class, role, type and user by its own count: images with T 3, R 2, U 1, C 2
 pub class-2-of-permissions : Accepted (image 3 2 1 2 (chainOf 2) (permissions 0 2 1 ∷ []))
 unfolding countsOf recordCount recordOf policyHead payloadOf decoded useOf
-class-2-of-permissions = accepted refl refl refl refl refl refl
+class-2-of-permissions = accepted refl refl refl refl refl refl refl
 
 pub class-3-of-permissions : Refused (image 3 2 1 2 (chainOf 2) (permissions 0 3 1 ∷ [])) 5
 unfolding countsOf recordCount recordOf policyHead payloadOf decoded useOf
@@ -203,7 +203,7 @@ role-3-of-role-type = refused-5 refl refl refl refl refl
 
 pub type-3-of-role-type : Accepted (image 3 2 1 2 (chainOf 5) (roleType 0 2 3 ∷ []))
 unfolding countsOf recordCount recordOf policyHead payloadOf decoded useOf
-type-3-of-role-type = accepted refl refl refl refl refl refl
+type-3-of-role-type = accepted refl refl refl refl refl refl refl
 
 pub user-2-of-user-role : Refused (image 3 2 1 2 (chainOf 6) (userRole 0 2 1 ∷ [])) 5
 unfolding countsOf recordCount recordOf policyHead payloadOf decoded useOf
@@ -211,11 +211,11 @@ user-2-of-user-role = refused-5 refl refl refl refl refl
 
 pub role-2-of-user-role : Accepted (image 3 2 1 2 (chainOf 6) (userRole 0 1 2 ∷ []))
 unfolding countsOf recordCount recordOf policyHead payloadOf decoded useOf
-role-2-of-user-role = accepted refl refl refl refl refl refl
+role-2-of-user-role = accepted refl refl refl refl refl refl refl
 
 pub role-2-of-role-change : Accepted (image 3 2 1 2 (chainOf 7) (roleChange 0 2 2 ∷ []))
 unfolding countsOf recordCount recordOf policyHead payloadOf decoded useOf
-role-2-of-role-change = accepted refl refl refl refl refl refl
+role-2-of-role-change = accepted refl refl refl refl refl refl refl
 
 pub role-3-of-role-change : Refused (image 3 2 1 2 (chainOf 7) (roleChange 0 1 3 ∷ [])) 5
 unfolding countsOf recordCount recordOf policyHead payloadOf decoded useOf
@@ -227,7 +227,7 @@ class-3-of-constraint = refused-5 refl refl refl refl refl
 
 pub t1-at-count : Accepted (image 3 2 1 2 (chainOf 9) (node 0 7 3 0 0 ∷ []))
 unfolding countsOf recordCount recordOf policyHead payloadOf decoded useOf
-t1-at-count = accepted refl refl refl refl refl refl
+t1-at-count = accepted refl refl refl refl refl refl refl
 
 pub t1-above-count : Refused (image 3 2 1 2 (chainOf 9) (node 0 7 4 0 0 ∷ [])) 5
 unfolding countsOf recordCount recordOf policyHead payloadOf decoded useOf
@@ -235,7 +235,7 @@ t1-above-count = refused-5 refl refl refl refl refl
 
 pub t2-at-count : Accepted (image 3 2 1 2 (chainOf 9) (node 0 8 3 0 0 ∷ []))
 unfolding countsOf recordCount recordOf policyHead payloadOf decoded useOf
-t2-at-count = accepted refl refl refl refl refl refl
+t2-at-count = accepted refl refl refl refl refl refl refl
 
 pub t2-above-count : Refused (image 3 2 1 2 (chainOf 9) (node 0 8 4 0 0 ∷ [])) 5
 unfolding countsOf recordCount recordOf policyHead payloadOf decoded useOf
@@ -243,7 +243,7 @@ t2-above-count = refused-5 refl refl refl refl refl
 
 pub r1-at-count : Accepted (image 3 2 1 2 (chainOf 9) (node 0 9 2 0 0 ∷ []))
 unfolding countsOf recordCount recordOf policyHead payloadOf decoded useOf
-r1-at-count = accepted refl refl refl refl refl refl
+r1-at-count = accepted refl refl refl refl refl refl refl
 
 pub r1-above-count : Refused (image 3 2 1 2 (chainOf 9) (node 0 9 3 0 0 ∷ [])) 5
 unfolding countsOf recordCount recordOf policyHead payloadOf decoded useOf
@@ -251,7 +251,7 @@ r1-above-count = refused-5 refl refl refl refl refl
 
 pub r2-at-count : Accepted (image 3 2 1 2 (chainOf 9) (node 0 10 2 0 0 ∷ []))
 unfolding countsOf recordCount recordOf policyHead payloadOf decoded useOf
-r2-at-count = accepted refl refl refl refl refl refl
+r2-at-count = accepted refl refl refl refl refl refl refl
 
 pub r2-above-count : Refused (image 3 2 1 2 (chainOf 9) (node 0 10 3 0 0 ∷ [])) 5
 unfolding countsOf recordCount recordOf policyHead payloadOf decoded useOf
@@ -259,7 +259,7 @@ r2-above-count = refused-5 refl refl refl refl refl
 
 pub u1-at-count : Accepted (image 3 2 1 2 (chainOf 9) (node 0 11 1 0 0 ∷ []))
 unfolding countsOf recordCount recordOf policyHead payloadOf decoded useOf
-u1-at-count = accepted refl refl refl refl refl refl
+u1-at-count = accepted refl refl refl refl refl refl refl
 
 pub u1-above-count : Refused (image 3 2 1 2 (chainOf 9) (node 0 11 2 0 0 ∷ [])) 5
 unfolding countsOf recordCount recordOf policyHead payloadOf decoded useOf
@@ -267,7 +267,7 @@ u1-above-count = refused-5 refl refl refl refl refl
 
 pub u2-at-count : Accepted (image 3 2 1 2 (chainOf 9) (node 0 12 1 0 0 ∷ []))
 unfolding countsOf recordCount recordOf policyHead payloadOf decoded useOf
-u2-at-count = accepted refl refl refl refl refl refl
+u2-at-count = accepted refl refl refl refl refl refl refl
 
 pub u2-above-count : Refused (image 3 2 1 2 (chainOf 9) (node 0 12 2 0 0 ∷ [])) 5
 unfolding countsOf recordCount recordOf policyHead payloadOf decoded useOf
@@ -280,7 +280,7 @@ operator-zero = refused-5 refl refl refl refl refl
 
 pub operator-twelve : Accepted (image 1 1 1 1 (chainOf 9) (node 0 12 1 0 0 ∷ []))
 unfolding countsOf recordCount recordOf policyHead payloadOf decoded useOf
-operator-twelve = accepted refl refl refl refl refl refl
+operator-twelve = accepted refl refl refl refl refl refl refl
 
 pub operator-thirteen : Refused (image 1 1 1 1 (chainOf 9) (node 0 13 1 0 0 ∷ [])) 5
 unfolding countsOf recordCount recordOf policyHead payloadOf decoded useOf
@@ -312,9 +312,9 @@ unfolding countsOf recordCount recordOf policyHead payloadOf decoded useOf
 allow-with-e = refused-5 refl refl refl refl refl
 
 -- a mask may be empty, or name what no kind 2 record gives
-pub empty-mask : Accepted (image 1 1 1 1 (chainOf 4) (allow 0 1 1 1 0 ∷ []))
+pub empty-mask : Accepted (image 1 1 1 1 (1 ∷ 0 ∷ 0 ∷ 2 ∷ 0 ∷ 0 ∷ 0 ∷ 0 ∷ 0 ∷ []) (domain 0 1 ∷ allow 0 1 1 1 0 ∷ []))
 unfolding countsOf recordCount recordOf policyHead payloadOf decoded useOf
-empty-mask = accepted refl refl refl refl refl refl
+empty-mask = accepted refl refl refl refl refl refl refl
 
 pub operand-of-same-role : Refused (image 1 1 1 1 (chainOf 9) (node 0 5 1 0 0 ∷ [])) 5
 unfolding countsOf recordCount recordOf policyHead payloadOf decoded useOf
@@ -353,7 +353,7 @@ right-no-node = refused-6 refl refl refl refl refl refl
 -- a root need not stand below its constraint ..
 pub root-above-constraint : Accepted (image 1 1 1 1 (0 ∷ 0 ∷ 0 ∷ 0 ∷ 0 ∷ 0 ∷ 0 ∷ 1 ∷ 2 ∷ []) (constraint 0 1 1 2 ∷ node 0 4 0 0 0 ∷ []))
 unfolding countsOf recordCount recordOf policyHead payloadOf decoded useOf
-root-above-constraint = accepted refl refl refl refl refl refl
+root-above-constraint = accepted refl refl refl refl refl refl refl
 
 -- .. a child stands below its node
 pub child-is-its-node : Refused (image 1 1 1 1 (chainOf 9) (node 0 1 0 1 0 ∷ [])) 6
@@ -380,16 +380,16 @@ left-and-right = refused-6 refl refl refl refl refl refl
 -- two nodes below an operator of two; no constraint uses it
 pub two-leaves : Accepted (image 1 1 1 1 (chainOf 9) (node 2 4 0 0 0 ∷ node 3 5 0 0 0 ∷ node 0 2 0 1 2 ∷ []))
 unfolding countsOf recordCount recordOf policyHead payloadOf decoded useOf
-two-leaves = accepted refl refl refl refl refl refl
+two-leaves = accepted refl refl refl refl refl refl refl
 
 -- `not` uses its left alone, `or` both
 pub not-of-left : Accepted (image 1 1 1 1 (chainOf 9) (node 2 4 0 0 0 ∷ node 0 1 0 1 0 ∷ []))
 unfolding countsOf recordCount recordOf policyHead payloadOf decoded useOf
-not-of-left = accepted refl refl refl refl refl refl
+not-of-left = accepted refl refl refl refl refl refl refl
 
 pub or-of-two : Accepted (image 1 1 1 1 (chainOf 9) (node 2 4 0 0 0 ∷ node 3 5 0 0 0 ∷ node 0 3 0 1 2 ∷ []))
 unfolding countsOf recordCount recordOf policyHead payloadOf decoded useOf
-or-of-two = accepted refl refl refl refl refl refl
+or-of-two = accepted refl refl refl refl refl refl refl
 
 pub or-of-one : Refused (image 1 1 1 1 (chainOf 9) (node 2 4 0 0 0 ∷ node 0 3 0 1 0 ∷ [])) 6
 unfolding countsOf recordCount recordOf policyHead payloadOf decoded useOf
@@ -398,6 +398,50 @@ or-of-one = refused-6 refl refl refl refl refl refl
 pub or-without-left : Refused (image 1 1 1 1 (chainOf 9) (node 2 4 0 0 0 ∷ node 0 3 0 0 1 ∷ [])) 6
 unfolding countsOf recordCount recordOf policyHead payloadOf decoded useOf
 or-without-left = refused-6 refl refl refl refl refl refl
+
+-- ---- question 14
+-- W9, as paper 02, b, has it: "Case W9 turns from 'authorizes nothing' into a refusal"; its allow record is the last of four
+pub w9-refused : Refused weirAllow31 14
+unfolding countsOf recordCount recordOf policyHead payloadOf decoded useOf
+w9-refused = refused-14 refl refl refl refl refl refl refl
+
+-- with its source a domain it passes, though the record that says so stands after the allow record
+pub w9-domain-accepted : Accepted weirDomain3
+unfolding countsOf recordCount recordOf policyHead payloadOf decoded useOf
+w9-domain-accepted = accepted refl refl refl refl refl refl refl
+
+pub domain-after-allow : Accepted (image 1 1 1 1 (2 ∷ 0 ∷ 0 ∷ 1 ∷ 0 ∷ 0 ∷ 0 ∷ 0 ∷ 0 ∷ []) (allow 0 1 0 1 1 ∷ domain 0 1 ∷ []))
+unfolding countsOf recordCount recordOf policyHead payloadOf decoded useOf
+domain-after-allow = accepted refl refl refl refl refl refl refl
+
+-- the first of two allow records is asked too
+pub first-source-no-domain : Refused (image 2 1 1 1 (3 ∷ 0 ∷ 0 ∷ 1 ∷ 0 ∷ 0 ∷ 0 ∷ 0 ∷ 0 ∷ []) (allow 2 1 2 1 1 ∷ allow 0 2 1 1 1 ∷ domain 0 2 ∷ [])) 14
+unfolding countsOf recordCount recordOf policyHead payloadOf decoded useOf
+first-source-no-domain = refused-14 refl refl refl refl refl refl refl
+
+-- the source is asked, and not the target
+pub target-no-domain : Accepted (image 2 1 1 1 (1 ∷ 0 ∷ 0 ∷ 2 ∷ 0 ∷ 0 ∷ 0 ∷ 0 ∷ 0 ∷ []) (domain 0 1 ∷ allow 0 1 2 1 1 ∷ []))
+unfolding countsOf recordCount recordOf policyHead payloadOf decoded useOf
+target-no-domain = accepted refl refl refl refl refl refl refl
+
+pub target-domain-alone : Refused (image 2 1 1 1 (1 ∷ 0 ∷ 0 ∷ 2 ∷ 0 ∷ 0 ∷ 0 ∷ 0 ∷ 0 ∷ []) (domain 0 2 ∷ allow 0 1 2 1 1 ∷ [])) 14
+unfolding countsOf recordCount recordOf policyHead payloadOf decoded useOf
+target-domain-alone = refused-14 refl refl refl refl refl refl refl
+
+-- self is asked like any other target
+pub self-no-domain : Refused (image 1 1 1 1 (chainOf 4) (allow 0 1 0 1 1 ∷ [])) 14
+unfolding countsOf recordCount recordOf policyHead payloadOf decoded useOf
+self-no-domain = refused-14 refl refl refl refl refl refl refl
+
+-- a record with an empty mask is asked like any other
+pub empty-mask-no-domain : Refused (image 1 1 1 1 (chainOf 4) (allow 0 1 1 1 0 ∷ [])) 14
+unfolding countsOf recordCount recordOf policyHead payloadOf decoded useOf
+empty-mask-no-domain = refused-14 refl refl refl refl refl refl refl
+
+-- a role that holds the source makes it no domain
+pub held-no-domain : Refused (image 1 1 1 1 (0 ∷ 0 ∷ 0 ∷ 1 ∷ 2 ∷ 0 ∷ 0 ∷ 0 ∷ 0 ∷ []) (allow 0 1 1 1 1 ∷ roleType 0 1 1 ∷ [])) 14
+unfolding countsOf recordCount recordOf policyHead payloadOf decoded useOf
+held-no-domain = refused-14 refl refl refl refl refl refl refl
 
 -- ---- the order: of two faults the earlier question gives the number, whichever record has it
 pub length-before-counts : Refused (image 0 1 1 1 noChain [] ++ (0 ∷ [])) 1
@@ -419,3 +463,7 @@ chains-before-fields = refused-4 refl refl refl refl
 pub fields-before-nodes : Refused (image 1 1 1 1 (2 ∷ 0 ∷ 0 ∷ 0 ∷ 0 ∷ 0 ∷ 0 ∷ 1 ∷ 0 ∷ []) (constraint 0 1 1 0 ∷ domain 0 2 ∷ [])) 5
 unfolding countsOf recordCount recordOf policyHead payloadOf decoded useOf
 fields-before-nodes = refused-5 refl refl refl refl refl
+
+pub nodes-before-sources : Refused (image 1 1 1 1 (0 ∷ 0 ∷ 0 ∷ 1 ∷ 0 ∷ 0 ∷ 0 ∷ 2 ∷ 0 ∷ []) (allow 0 1 1 1 1 ∷ constraint 0 1 1 0 ∷ [])) 6
+unfolding countsOf recordCount recordOf policyHead payloadOf decoded useOf
+nodes-before-sources = refused-6 refl refl refl refl refl refl

@@ -1,9 +1,9 @@
--- The six questions as tests that antt computes, with what each decides: for theorems on images that are written out.
+-- The questions as tests that antt computes, with what each decides: for theorems on images that are written out.
 -- The tests of questions 4 and 6 go as the code goes, over the same invariants.
 use Prim.Native.Nat.{ℕ, zero, suc, _+_, _*_, _/_, _%_, _≤_, _<_}
 use mathlib.Core.Path.{_≡_, refl, sym, subst, _∙_}
 use mathlib.Core.List.{List}
-use mathlib.Core.Bool.{Bool, true, false, _&&_, _||_, cond}
+use mathlib.Core.Bool.{Bool, true, false, not, _&&_, _||_, cond}
 use mathlib.Core.Logic.{inl, inr, ⊎-elim}
 use native.Mathlib.Omega.{arith}
 use borrow.Author.Tests.{eqb-true, eqb-false}
@@ -11,23 +11,26 @@ use lib.Dec.{leb, eqb}
 use lib.ListN.{length, drop}
 use Rattle.base.specs.inner.Decides.{Decides}
 use Rattle.base.specs.Ranges.{Within}
-use Rattle.base.specs.Upto.{allUpto}
+use Rattle.base.specs.Upto.{anyUpto, allUpto}
 use Rattle.base.specs.Questions.{AllYes, RefusedWith}
 use Rattle.base.proofs.Numbers.{split-eq, moved, moved-at, moved-off}
+use Rattle.base.proofs.BoolLaws.{clash}
 use Rattle.base.proofs.Decide.{Says, says-yes, says-no, says-iff, dec-le, dec-eq, _both_, _or_, withinB, dec-within, dec-all}
 use Rattle.policy_image.specs.declared.records.Record.{Record}
 use Rattle.policy_image.specs.declared.counts.Counts.{Counts}
 use Rattle.policy_image.specs.Layout.{PolicyExact, recordCount, countsOf}
 use Rattle.policy_image.specs.Counts.{CountsInRange}
 use Rattle.policy_image.specs.Policy.{Policy, policyOf}
-use Rattle.policy_chains.specs.Chains.{LinksRise, ChainsByKind}
-use Rattle.policy_chains.proofs.Walk.{Walk, walk-start, walk-step, walk-wrong, walk-end, walk-zero}
+use Rattle.policy_image.specs.OfKind.{some, every}
+use Rattle.policy_links.specs.Chains.{LinksRise, ChainsByKind}
+use Rattle.policy_links.proofs.Walk.{Walk, walk-start, walk-step, walk-wrong, walk-end, walk-zero}
 use Rattle.policy_fields.specs.declared.Limits.{Limits}
 use Rattle.policy_fields.specs.Fields.{limitsOf, WithinLimits, FieldsInRange}
-use Rattle.policy_nodes.specs.declared.Use.{Use}
-use Rattle.policy_nodes.specs.declared.Use.the-variants.{Nothing, Node}
-use Rattle.policy_nodes.specs.Nodes.{UsedWell, NodesInOrder}
-use Rattle.policy_nodes.proofs.Marks.{usedAt, uses-at, Marks, marks-start, marks-nothing, marks-node, marks-twice, marks-end}
+use Rattle.policy_expressions.specs.declared.Use.{Use}
+use Rattle.policy_expressions.specs.declared.Use.the-variants.{Nothing, Node}
+use Rattle.policy_expressions.specs.Nodes.{UsedWell, NodesInOrder}
+use Rattle.policy_expressions.proofs.Marks.{usedAt, uses-at, Marks, marks-start, marks-nothing, marks-node, marks-twice, marks-end}
+use Rattle.policy_sources.specs.Sources.{domain, AllowsFromDomains}
 use Rattle.policy_check.specs.Questions.{policyQuestions}
 
 -- ---- question 1
@@ -197,6 +200,22 @@ nodesB p = marksB p (2 * p .size) 2 (λ m. 0)
 pub dec-nodes : (p : Policy) → Says (nodesB p) (NodesInOrder p)
 dec-nodes p = dec-marks p (2 * p .size) 2 (λ m. 0) (omega arith) (omega arith) (marks-start p (λ m. 0) (λ m. refl))
 
+-- ---- question 14
+abbrev pub domainB : Policy → ℕ → Bool
+domainB p t = anyUpto (λ i. eqb (p .rec i .kind) 1 && eqb (p .rec i .a) t) (p .size)
+
+abbrev pub sourcesB : Policy → Bool
+sourcesB p = allUpto (λ i. not (eqb (p .rec i .kind) 4) || domainB p (p .rec i .a)) (p .size)
+
+-- a truth value says whether it is true
+dec-true : (b : Bool) → Says b (b ≡ true)
+dec-true true = record { it = refl }
+dec-true false = record { it = λ e. clash e refl }
+
+pub dec-sources : (p : Policy) → Says (sourcesB p) (AllowsFromDomains p)
+unfolding domain some every
+dec-sources p = dec-true (sourcesB p)
+
 -- ---- the answer, by the tests: those before the number pass, and the number's own does not. Records, so that antt reads
 -- the image off the type.
 pub record Refused (s : List ℕ) (n : ℕ) : Type 0 where
@@ -241,21 +260,27 @@ module _ {s : List ℕ} where
             pub refused-6 : nodesB (policyOf s) ≡ false → Refused s 6
             refused-6 e = after-4 {n = 6} (inr (says-yes (dec-fields (policyOf s)) e5, inl (says-no (dec-nodes (policyOf s)) e, refl)))
 
-            pub accepted : nodesB (policyOf s) ≡ true → Accepted s
-            accepted e6 =
-                let L = says-yes (dec-links (policyOf s)) e3 in
-                record {
-                  it = (
-                    says-yes (dec-exact s) e1,
-                    (
-                      says-yes (dec-range (countsOf s)) e2,
+            module _ (e6 : nodesB (policyOf s) ≡ true) where
+              pub refused-14 : sourcesB (policyOf s) ≡ false → Refused s 14
+              refused-14 e =
+                  after-4 {n = 14}
+                  (inr (says-yes (dec-fields (policyOf s)) e5, inr (says-yes (dec-nodes (policyOf s)) e6, inl (says-no (dec-sources (policyOf s)) e, refl))))
+
+              pub accepted : sourcesB (policyOf s) ≡ true → Accepted s
+              accepted e14 =
+                  let L = says-yes (dec-links (policyOf s)) e3 in
+                  record {
+                    it = (
+                      says-yes (dec-exact s) e1,
                       (
-                        L,
+                        says-yes (dec-range (countsOf s)) e2,
                         (
-                          says-yes (dec-chains (policyOf s) L) e4,
-                          (says-yes (dec-fields (policyOf s)) e5, (says-yes (dec-nodes (policyOf s)) e6, tt)),
+                          L,
+                          (
+                            says-yes (dec-chains (policyOf s) L) e4,
+                            (says-yes (dec-fields (policyOf s)) e5, (says-yes (dec-nodes (policyOf s)) e6, (says-yes (dec-sources (policyOf s)) e14, tt))),
+                          ),
                         ),
                       ),
-                    ),
-                  );
-                }
+                    );
+                  }

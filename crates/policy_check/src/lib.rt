@@ -1,11 +1,13 @@
-// Questions 1 to 6 of a policy image, in order.
-use policy_chains::chains_by_kind;
-use policy_chains::links_rise;
+// Questions 1 to 6 and 14 of a policy image, in order.
+use policy_expressions::nodes_in_order;
 use policy_fields::fields_in_range;
 use policy_image::counts::Checked;
 use policy_image::counts::check_counts;
-use policy_nodes::nodes_in_order;
-ghost use Rattle.policy_check.specs.inner.Answer.{PolicyAnswer};
+use policy_links::chains_by_kind;
+use policy_links::links_rise;
+use policy_sources::allows_from_domains;
+ghost use mathlib.Core.Path.{_≡_};
+ghost use Rattle.policy_check.specs.inner.Answer.{PolicyAnswer, refusalOf};
 
 // Accepted with the image's counts, or refused with the number of the first question whose answer is no.
 pub fn check(image: &[u8]) -> Checked
@@ -15,7 +17,7 @@ pub fn check(image: &[u8]) -> Checked
     let Checked::Accepted(counts) = counted else {
         return counted;
     };
-    if !links_rise(image, counts) {
+    if !links_rise(image) {
         return Checked::Refused(3);
     }
     if !chains_by_kind(image, counts) {
@@ -27,5 +29,18 @@ pub fn check(image: &[u8]) -> Checked
     if !nodes_in_order(image, counts) {
         return Checked::Refused(6);
     }
+    if !allows_from_domains(image) {
+        return Checked::Refused(14);
+    }
     Checked::Accepted(counts)
+}
+
+// The number of a refusal, or 0.
+pub fn refusal(checked: Checked) -> u32
+    ensures { λ r. ⌜ r ≡ refusalOf checked ⌝ }
+{
+    match checked {
+        Checked::Accepted(_) => 0,
+        Checked::Refused(k) => k,
+    }
 }

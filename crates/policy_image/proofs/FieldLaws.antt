@@ -1,4 +1,4 @@
--- The fields of equal records and of equal counts, one by one, so that omega can use them.
+-- The fields of equal records and of equal counts, one by one, so that omega can use them; and the other way round.
 use mathlib.Core.Path.{_≡_, ap}
 use Rattle.policy_image.specs.declared.counts.Counts.{Counts}
 use Rattle.policy_image.specs.declared.records.Record.{Record}
@@ -26,6 +26,9 @@ same-fields q =
       mask = ap (λ (x : Record). x .mask) q;
     }
 
+pub record-same : {r s : Record} → SameFields r s → r ≡ s
+record-same q = λ i. record { next = q .next i; kind = q .kind i; a = q .a i; b = q .b i; c = q .c i; d = q .d i; e = q .e i; mask = q .mask i }
+
 pub record SameCounts (c d : Counts) : Type 0 where
   pub types : c .types ≡ d .types
   pub roles : c .roles ≡ d .roles
@@ -42,3 +45,6 @@ same-counts q =
       classes = ap (λ (x : Counts). x .classes) q;
       records = ap (λ (x : Counts). x .records) q;
     }
+
+pub counts-same : {c d : Counts} → SameCounts c d → c ≡ d
+counts-same q = λ i. record { types = q .types i; roles = q .roles i; users = q .users i; classes = q .classes i; records = q .records i }

@@ -1,2 +1,4 @@
 pub mod FieldLaws
 pub mod LayoutLaws
+pub mod EncodingLaws
+pub mod Cases

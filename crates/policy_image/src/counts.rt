@@ -6,6 +6,13 @@ ghost use Rattle.base.specs.inner.Decides.{Decides};
 ghost use Rattle.policy_image.specs.Counts.{CountsInRange};
 ghost use Rattle.policy_image.specs.inner.Answer.{CountsAnswer};
 
+// The bytes before the records, those of a record, and how many records there may be.
+pub const HEADER: usize = 24;
+
+pub const RECORD: usize = 12;
+
+pub const MOST_RECORDS: usize = 4095;
+
 // How many types, roles, users, classes and records a policy has.
 pub struct Counts {
     pub types: u32,
@@ -41,14 +48,14 @@ fn counts_in_range(c: Counts) -> bool
 pub fn check_counts(image: &[u8]) -> Checked
     ensures { λ r. ⌜ CountsAnswer (now (image .entry)) r ⌝ }
 {
-    if image.len() < 24 {
+    if image.len() < HEADER {
         return Checked::Refused(1);
     }
     let n = u16_at(image, 4) as usize;
-    if 4095 < n {
+    if MOST_RECORDS < n {
         return Checked::Refused(1);
     }
-    if image.len() != 24 + 12 * n {
+    if image.len() != HEADER + RECORD * n {
         return Checked::Refused(1);
     }
     let counts = Counts {

@@ -18,7 +18,9 @@ pub const CONSTRAINT: u32 = 8;
 
 pub const NODE: u32 = 9;
 
-// The chains of two kinds, as heads are numbered.
+// The chains of three kinds, as heads are numbered.
+pub const DOMAINS: usize = 1;
+
 pub const ALLOWS: usize = 4;
 
 pub const CONSTRAINTS: usize = 8;

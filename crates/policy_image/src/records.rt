@@ -1,11 +1,17 @@
 // The heads and the records of a policy image.
+use crate::counts::HEADER;
+use crate::counts::MOST_RECORDS;
+use crate::counts::RECORD;
 use base::bytes::u16_at;
 use base::bytes::u32_at;
 use base::bytes::wide;
+use chains::Shape;
 ghost use mathlib.Core.Path.{_≡_};
 ghost use Prim.Native.Nat.{_≤_};
 ghost use lib.ListN.{length};
-ghost use Rattle.policy_image.specs.Layout.{PolicyExact, recordCount, payloadOf, decoded, recordOf, policyHead};
+ghost use Rattle.chains.specs.inner.Links.{ShapeOf};
+ghost use Rattle.policy_image.specs.Layout.{PolicyExact, recordCount, payloadOf, decoded, policyHead};
+ghost use Rattle.policy_image.specs.Policy.{policyOf, policyLinks};
 ghost use Rattle.policy_image.specs.inner.Reading.{Bytes, Reads};
 
 // A record, decoded. The bytes of the mask are also the numbers of an expression node's children.
@@ -27,10 +33,10 @@ pub fn payload(image: &[u8], k: usize) -> &[u8]
     if k < 1 {
         return &image[..0];
     }
-    if 4095 < k {
+    if MOST_RECORDS < k {
         return &image[..0];
     }
-    let at = 24 + 12 * (k - 1) + 2;
+    let at = HEADER + RECORD * (k - 1) + 2;
     let end = at + 10;
     if image.len() < end {
         return &image[..0];
@@ -38,12 +44,19 @@ pub fn payload(image: &[u8], k: usize) -> &[u8]
     &image[at..end]
 }
 
-// The number of record k's follower on its chain, 0 for none.
-fn link(image: &[u8], k: usize) -> usize
-    requires { ⌜ PolicyExact (now image) × (1 ≤ k) × (k ≤ recordCount (now image)) ⌝ }
-    ensures { λ r. ⌜ r ≡ recordOf (now (image .entry)) k .next ⌝ }
+// Where the heads, for kinds 1 to 9, and the records stand.
+pub fn policy_shape(image: &[u8]) -> Shape
+    requires { ⌜ PolicyExact (now image) ⌝ }
+    ensures { λ r. ⌜ ShapeOf (now (image .entry)) (policyLinks (policyOf (now (image .entry)))) 1 10 r ⌝ }
 {
-    u16_at(image, 24 + 12 * (k - 1)) as usize
+    Shape {
+        heads: 4,
+        first: 1,
+        end: 10,
+        records: HEADER,
+        stride: RECORD,
+        count: u16_at(image, 4) as usize,
+    }
 }
 
 // The record whose link is next and whose other bytes are p.
@@ -68,7 +81,7 @@ pub fn record_at(image: &[u8], k: usize) -> Record
     requires { ⌜ PolicyExact (now image) × (1 ≤ k) × (k ≤ recordCount (now image)) ⌝ }
     ensures { λ r. ⌜ Reads (now (image .entry)) k r ⌝ }
 {
-    let next = link(image, k);
+    let next = chains::next_at(image, policy_shape(image), k);
     decode(next, payload(image, k))
 }
 
@@ -77,5 +90,5 @@ pub fn head_at(image: &[u8], k: usize) -> usize
     requires { ⌜ PolicyExact (now image) × (1 ≤ k) × (k ≤ 9) ⌝ }
     ensures { λ r. ⌜ r ≡ policyHead (now (image .entry)) k ⌝ }
 {
-    u16_at(image, 4 + 2 * k) as usize
+    chains::head_at(image, policy_shape(image), k)
 }

@@ -8,9 +8,10 @@ use Rattle.policy_image.specs.Layout.{recordCount, recordOf, payloadOf, decoded
 use Rattle.policy_image.specs.Policy.{policyOf}
 use Rattle.policy_image.specs.OfKind.{some}
 use Rattle.policy_image.specs.cases.Written.{image, line, domain as domain-record, permissions, flow, allow, roleType, userRole, roleChange as role-change-record}
-use Rattle.policy_image.specs.cases.Weir.{weir, weirAllow31}
+use Rattle.policy_image.specs.cases.Weir.{weir, weirAllow31, weirDomain3}
 use Rattle.context.specs.Codes.{eventAt as event}
-use Rattle.relations.specs.Relations.{domain, Γ, writeLike, readLike, allowed, α, ρ, μ, roleChange}
+use Rattle.policy_sources.specs.Sources.{domain}
+use Rattle.relations.specs.Relations.{Γ, writeLike, readLike, allowed, α, ρ, μ, roleChange}
 
 -- an image with self and both ways of flow: type 1 is a domain, role 1 holds it, and masks of one key add up
 abbrev small : List ℕ
@@ -85,7 +86,7 @@ pub alpha-1-reads-no-2 : α (policyOf weir) 1 2 (event 2 0) ≡ false
 unfolding domain Γ writeLike readLike allowed α ρ μ roleChange some bit recordCount recordOf payloadOf decoded
 alpha-1-reads-no-2 = refl
 
--- an allow whose source is no domain
+-- an allow whose source is no domain: of the formula alone, since question 14 refuses such a policy ..
 pub alpha-from-file : α (policyOf weirAllow31) 3 1 (event 2 0) ≡ false
 unfolding domain Γ writeLike readLike allowed α ρ μ roleChange some bit recordCount recordOf payloadOf decoded
 alpha-from-file = refl
@@ -93,6 +94,11 @@ alpha-from-file = refl
 pub allowed-from-file : allowed (policyOf weirAllow31) 3 1 (event 2 0) ≡ true
 unfolding domain Γ writeLike readLike allowed α ρ μ roleChange some bit recordCount recordOf payloadOf decoded
 allowed-from-file = refl
+
+-- .. and the same with its source a domain
+pub alpha-from-domain : α (policyOf weirDomain3) 3 1 (event 2 0) ≡ true
+unfolding domain Γ writeLike readLike allowed α ρ μ roleChange some bit recordCount recordOf payloadOf decoded
+alpha-from-domain = refl
 
 -- self
 pub alpha-self : α (policyOf small) 1 1 (event 1 0) ≡ true

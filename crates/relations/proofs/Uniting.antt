@@ -9,11 +9,11 @@ use lib.Bits.{bitOr}
 use Rattle.base.specs.Bits.{bit}
 use Rattle.base.proofs.BitLaws.{bit-or, bit-zero}
 use Rattle.base.proofs.ChainLaws.{Visit, visit-map}
-use Rattle.base.proofs.UptoLaws.{or-true, or-left, or-cases, and-true, and-first, and-second, same-truth}
+use Rattle.base.proofs.BoolLaws.{or-true, or-left, or-cases, and-true, and-first, and-second, same-truth, clash}
 use Rattle.policy_image.specs.Layout.{policyHead}
 use Rattle.policy_image.specs.Policy.{Policy, policyOf, policyLinks}
 use Rattle.policy_image.specs.OfKind.{some}
-use Rattle.policy_chains.proofs.KindLaws.{some-yes, some-record}
+use Rattle.policy_links.proofs.KindLaws.{some-yes, some-record}
 use Rattle.policy_check.specs.inner.Sound.{Sound}
 use Rattle.relations.specs.declared.facts.Fact.{Fact}
 use Rattle.relations.specs.inner.Facts.{states, United}
@@ -35,7 +35,7 @@ module _ (s : List ℕ) (S : Sound s) (f : Fact) (low : 1 ≤ f .kind) (high : f
   uniting-start i e =
       record {
         visit = along-start s S (f .kind) low high (Has p f 0) i e;
-        from = λ q h. let z = bit-zero q in let o : _≡_ {A = ℕ} 0 1 = cc in absurd (omega arith);
+        from = λ q h. absurd (clash h (bit-zero q));
       }
 
   module _ (m i : ℕ) (n : i ≡ 0 → ⊥) (u : Uniting p f m i) (i′ : ℕ) (next : i′ ≡ p .rec i .next) where

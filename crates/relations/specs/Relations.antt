@@ -7,11 +7,8 @@ use Rattle.base.specs.Bits.{bit}
 use Rattle.policy_image.specs.declared.records.Record.{Record}
 use Rattle.policy_image.specs.Policy.{Policy}
 use Rattle.policy_image.specs.OfKind.{some}
+use Rattle.policy_sources.specs.Sources.{domain}
 use Rattle.context.specs.declared.Event.{Event}
-
--- "1: type a is a domain (a process type)."
-unfoldable pub domain : Policy → ℕ → Bool
-domain p t = some p 1 (λ r. eqb (r .a) t)
 
 -- "2: class a has the permissions in mask." "Γ holds (c,p) when a kind 2 record gives it."
 unfoldable pub Γ : Policy → Event → Bool

@@ -15,7 +15,7 @@ ghost use Rattle.policy_image.specs.Policy.{policyOf};
 ghost use Rattle.policy_image.specs.OfKind.{some};
 ghost use Rattle.policy_check.specs.inner.Sound.{Sound};
 ghost use Rattle.relations.specs.Relations.{targetOf};
-ghost use Rattle.relations.specs.inner.Facts.{statesOf, states, United};
+ghost use Rattle.relations.specs.inner.Facts.{statedAs, states, United};
 
 // What a record of the given kind may state: its fields a, b and c, as far as the kind names them.
 pub struct Fact {
@@ -26,7 +26,7 @@ pub struct Fact {
 }
 
 // The target type of an allow record, which is its source type where b is 0.
-fn target(r: Record) -> u32
+pub fn target(r: Record) -> u32
     ensures { λ t. ⌜ t ≡ targetOf r ⌝ }
 {
     if r.b == 0 { r.a } else { r.b }
@@ -34,27 +34,21 @@ fn target(r: Record) -> u32
 
 // Whether a flow record is of the fact's class and way; 3 is both ways.
 fn has_way(r: Record, f: Fact) -> bool
-    ensures { λ t. ⌜ t ≡ statesOf f 3 r ⌝ }
+    ensures { λ t. ⌜ t ≡ statedAs f 3 r ⌝ }
 {
     (r.a == f.a) & ((r.b == f.b) | (r.b == BOTH))
 }
 
 // Whether an allow record is of the fact's source, target and class.
 fn allows(r: Record, f: Fact) -> bool
-    ensures { λ t. ⌜ t ≡ statesOf f 4 r ⌝ }
+    ensures { λ t. ⌜ t ≡ statedAs f 4 r ⌝ }
 {
-    if r.a != f.a {
-        return false;
-    }
-    if target(r) != f.b {
-        return false;
-    }
-    r.c == f.c
+    (r.a == f.a) & ((target(r) == f.b) & (r.c == f.c))
 }
 
 // Whether a record holds the fact's pair.
 fn has_pair(r: Record, f: Fact) -> bool
-    ensures { λ t. ⌜ t ≡ statesOf f 5 r ⌝ }
+    ensures { λ t. ⌜ t ≡ statedAs f 5 r ⌝ }
 {
     (r.a == f.a) & (r.b == f.b)
 }
@@ -74,14 +68,14 @@ fn is_stated(r: Record, f: Fact) -> bool
 }
 
 // Whether some record of the fact's kind states it.
-pub fn is_given(image: &[u8], f: Fact) -> bool
-    requires { ⌜ Sound (now image) × (1 ≤ f .kind) × (f .kind ≤ 9) ⌝ }
-    ensures { λ r. ⌜ r ≡ some (policyOf (now (image .entry))) (f .kind) (states f) ⌝ }
+pub fn is_given(policy: &[u8], f: Fact) -> bool
+    requires { ⌜ Sound (now policy) × (1 ≤ f .kind) × (f .kind ≤ 9) ⌝ }
+    ensures { λ r. ⌜ r ≡ some (policyOf (now (policy .entry))) (f .kind) (states f) ⌝ }
 {
     let kind = f.kind as usize;
-    let mut i = head_at(image, kind);
+    let mut i = head_at(policy, kind);
     while i != 0 {
-        let r = record_at(image, i);
+        let r = record_at(policy, i);
         if is_stated(r, f) {
             return true;
         }
@@ -91,15 +85,15 @@ pub fn is_given(image: &[u8], f: Fact) -> bool
 }
 
 // The union of the masks of the records of the fact's kind that state it.
-pub fn united(image: &[u8], f: Fact) -> u32
-    requires { ⌜ Sound (now image) × (1 ≤ f .kind) × (f .kind ≤ 9) ⌝ }
-    ensures { λ r. ⌜ United (policyOf (now (image .entry))) f r ⌝ }
+pub fn united(policy: &[u8], f: Fact) -> u32
+    requires { ⌜ Sound (now policy) × (1 ≤ f .kind) × (f .kind ≤ 9) ⌝ }
+    ensures { λ r. ⌜ United (policyOf (now (policy .entry))) f r ⌝ }
 {
     let kind = f.kind as usize;
     let mut mask = 0;
-    let mut i = head_at(image, kind);
+    let mut i = head_at(policy, kind);
     while i != 0 {
-        let r = record_at(image, i);
+        let r = record_at(policy, i);
         if is_stated(r, f) {
             mask = mask | r.mask;
         }

@@ -2,15 +2,15 @@
 use Prim.Native.Nat.{ℕ}
 use mathlib.Core.List.{List}
 use native.Mathlib.Omega.{arith}
-use Rattle.flowgoal.specs.declared.goal.Outcome.{Outcome}
-use Rattle.flowgoal.specs.declared.goal.Outcome.the-variants as outcome
-use Rattle.flowgoal.specs.GoalQuestion.{GoalPromise}
-use Rattle.report.specs.inner.Printing.{Shown}
+use Rattle.goal_question.specs.declared.goal.Outcome.{Outcome}
+use Rattle.goal_question.specs.declared.goal.Outcome.the-variants as outcome
+use Rattle.goal_question.specs.GoalQuestion.{GoalPromise}
+use Rattle.report.specs.inner.Printing.{Printable}
 
--- what is shown fits the slice
-pub shown : (s g : List ℕ) (work1 work2 : ℕ) (before after : List ℕ) (r : Outcome) → GoalPromise s g work1 work2 before after r → Shown r after
-shown s g work1 work2 before after outcome.Holds p = tt
-shown s g work1 work2 before after (outcome.Order m) p = omega (arith, p .2 .room, p .2 .whole)
-shown s g work1 work2 before after (outcome.Events m) p = omega (arith, p .2 .room, p .2 .whole)
-shown s g work1 work2 before after (outcome.Refused k) p = tt
-shown s g work1 work2 before after (outcome.NoRoom m) p = tt
+-- what is printable fits the slice
+pub printable : (s g : List ℕ) (work1 work2 : ℕ) (before after : List ℕ) (r : Outcome) → GoalPromise s g work1 work2 before after r → Printable r after
+printable s g work1 work2 before after outcome.Holds p = tt
+printable s g work1 work2 before after (outcome.Order m) p = omega (arith, p .2 .room, p .2 .whole)
+printable s g work1 work2 before after (outcome.Events m) p = omega (arith, p .2 .room, p .2 .whole)
+printable s g work1 work2 before after (outcome.Refused k) p = tt
+printable s g work1 work2 before after (outcome.NoRoom m) p = tt

@@ -1,15 +1,21 @@
-// What the programs share: reading an image from a file, and printing the answer to the goal question.
+// What the programs share: images are read from files, the goal question is asked of them, and its answer is printed.
 use context::Context;
 use context::Event;
-use flowgoal::goal::Outcome;
+use goal_question::goal::Outcome;
+use goal_question::goal::goal_question;
 use libc::STDOUT_FILENO;
 ghost use Prim.Native.Nat.{_+_, _*_, _≤_};
 ghost use lib.ListN.{length};
 ghost use Rattle.io.specs.Counts.{Counts};
-ghost use Rattle.report.specs.inner.Printing.{Shown};
+ghost use Rattle.report.specs.inner.Printing.{Printable};
+
+// One byte more than the largest images, so that a file that is longer is refused for its length.
+const POLICY_BYTES: usize = 49165;
+
+const GOAL_BYTES: usize = 2075;
 
 // Reads the file, as far as the buffer reaches. One that cannot be opened or read counts as 0 bytes.
-pub fn read_image(name: &[u8], buf: &mut [u8]) -> usize
+fn read_image(name: &[u8], buf: &mut [u8]) -> usize
     ensures { λ r. ⌜ Counts r (now (buf .exit)) ⌝ }
 {
     let file = os::open_read(name);
@@ -52,7 +58,7 @@ fn print_event(e: Event) {
 }
 
 // The word, and a number after it, on a line.
-pub fn print_line(word: &[u8], n: u32) {
+fn print_line(word: &[u8], n: u32) {
     io::write_all(STDOUT_FILENO, word);
     print_space();
     print_number(n);
@@ -74,8 +80,8 @@ fn print_path(path: &[u32], m: u32)
 }
 
 // The answer, and the path where one is shown.
-pub fn print_outcome(outcome: Outcome, path: &[u32])
-    requires { ⌜ Shown outcome (now path) ⌝ }
+fn print_outcome(outcome: Outcome, path: &[u32])
+    requires { ⌜ Printable outcome (now path) ⌝ }
 {
     match outcome {
         Outcome::Holds => {
@@ -96,4 +102,20 @@ pub fn print_outcome(outcome: Outcome, path: &[u32])
             print_line(b"refused 12", m);
         }
     }
+}
+
+// Asks whether the goal of one file holds of the policy of the other, in the slices, and prints the answer.
+pub fn ask(
+    policy_name: &[u8],
+    goal_name: &[u8],
+    work1: &mut [u32],
+    work2: &mut [u32],
+    path: &mut [u32],
+) {
+    let mut policy = [0u8; POLICY_BYTES];
+    let mut goal = [0u8; GOAL_BYTES];
+    let p = read_image(policy_name, &mut policy);
+    let g = read_image(goal_name, &mut goal);
+    let outcome = goal_question(&policy[..p], &goal[..g], work1, work2, path);
+    print_outcome(outcome, path);
 }

@@ -1,14 +1,14 @@
 // The search of the nodes of a plan, each a context and a monitor's state, level by level.
 pub mod levels;
 
-use crate::levels::Found;
+use crate::levels::LeastEnd;
 use crate::levels::search_levels;
 use context::Context;
-use nodes::seed::Seeded;
-use nodes::seed::seed;
-use nodes::task::Task;
-ghost use Rattle.nodes.specs.inner.Seeds.{Roomy};
-ghost use Rattle.nodes.specs.inner.Tasks.{Given};
+use search_graph::seed::Seeded;
+use search_graph::seed::seed;
+use search_graph::task::Task;
+ghost use Rattle.search_graph.specs.inner.Seeds.{Roomy};
+ghost use Rattle.search_graph.specs.inner.Tasks.{Given};
 ghost use Rattle.search.specs.inner.Found.{FoundLeast};
 
 // The least number of steps to a bad end, for a task, where it is at most the bound. The plan is made once, and serves every search. The slices
@@ -20,15 +20,15 @@ pub fn search(
     bound: u32,
     queue: &mut [u32],
     back: &mut [u32],
-) -> Found
+) -> LeastEnd
     requires { ⌜ Given (now policy) (now plan) task × Roomy task (now queue) (now back) ⌝ }
     ensures { λ r. ⌜ FoundLeast (now (policy .entry)) (now (plan .entry)) task bound (now (back .exit)) r ⌝ }
 {
-    let seeded = seed(policy, plan, task, queue, back);
+    let seeded = seed(plan, task, queue, back);
     match seeded {
         Seeded::Start(y) => {
             let counts = task.counts;
-            Found::Start(Context::at(y, counts).code())
+            LeastEnd::Start(Context::at(y, counts).code())
         }
         Seeded::Nodes(tail) => search_levels(policy, plan, task, bound, tail, queue, back),
     }

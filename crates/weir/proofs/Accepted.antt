@@ -9,7 +9,7 @@ use Rattle.base.specs.Questions.{Question, ask, AllYes, RefusedWith}
 use Rattle.base.proofs.QuestionLaws.{refused-then, passed-both}
 use Rattle.policy_image.specs.Layout.{countsOf, recordCount, recordOf, policyHead, payloadOf, decoded}
 use Rattle.policy_image.specs.cases.Weir.{weir}
-use Rattle.policy_nodes.specs.Nodes.{useOf}
+use Rattle.policy_expressions.specs.Nodes.{useOf}
 use Rattle.policy_check.specs.Questions.{policyQuestions}
 use Rattle.policy_check.proofs.Tests.{Accepted, accepted}
 use Rattle.policy_check.proofs.Cases.{weir-accepted}
@@ -18,7 +18,7 @@ use Rattle.goal_image.specs.Questions.{goalQuestions}
 use Rattle.goal_image.specs.cases.WeirGoal.{goalG}
 use Rattle.goal_image.proofs.Tests.{Accepted as GoalAccepted, accepted as goal-accepted}
 use Rattle.goal_model.specs.cases.OwnGoals.{writeOnly}
-use Rattle.flowgoal.specs.GoalQuestion.{workLength, WorkFits, allQuestions}
+use Rattle.goal_question.specs.GoalQuestion.{workLength, WorkFits, allQuestions}
 use Rattle.weir.specs.cases.Goals.{weirAllow41, exceptType, endTypeOne, oneLeg, noStart}
 use Rattle.weir.specs.cases.Wrong.{noMiddle, noEvents, twoStarts, eitherEnd}
 
@@ -43,7 +43,7 @@ enough s g a b e = passed s g 32 32 a b (record { first = e; second = e })
 -- ---- W5's policy; the weir policy is accepted in policy_check/proofs/Cases
 pub weir41-accepted : Accepted weirAllow41
 unfolding countsOf recordCount recordOf policyHead payloadOf decoded useOf
-weir41-accepted = accepted refl refl refl refl refl refl
+weir41-accepted = accepted refl refl refl refl refl refl refl
 
 -- ---- the goals
 pub g-accepted : GoalAccepted (countsOf weir) goalG

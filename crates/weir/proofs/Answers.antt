@@ -2,8 +2,8 @@
 use mathlib.Core.Bool.{Bool, not, _&&_, _||_}
 use mathlib.Core.List.{List, [], _∷_}
 use mathlib.Core.Logic.{_⊎_, inl, inr}
-use mathlib.Core.Path.{_≡_, subst}
-use Prim.Native.Nat.{ℕ, suc, _<_}
+use mathlib.Core.Path.{_≡_}
+use Prim.Native.Nat.{ℕ, suc, _≤_, _<_}
 use native.Mathlib.Omega.{arith}
 use lib.Dec.{T, eqb, eqb→eq, T-not}
 use Rattle.base.specs.Bits.{bit}
@@ -12,7 +12,8 @@ use Rattle.policy_image.specs.Policy.{policyOf}
 use Rattle.policy_image.specs.OfKind.{some, every}
 use Rattle.policy_image.specs.cases.Weir.{weir}
 use Rattle.context.specs.Codes.{contextOf}
-use Rattle.relations.specs.Relations.{domain, Γ, writeLike, readLike, allowed, α, ρ, μ, roleChange}
+use Rattle.policy_sources.specs.Sources.{domain}
+use Rattle.relations.specs.Relations.{Γ, writeLike, readLike, allowed, α, ρ, μ, roleChange}
 use Rattle.constraints.specs.Constraints.{constraintsHold}
 use Rattle.access.specs.Authorization.{χ, roleRule, authorized, flow}
 use Rattle.goal_image.specs.Layout.{legsOf, flagsOf, goalCount, goalHead, nextOf, contextRecordOf, eventRecordOf}
@@ -23,7 +24,7 @@ use Rattle.paths.specs.Paths.{IsPath, Holds, OrderAt, EventsAt}
 use Rattle.paths.proofs.Any.{or-cases, and-T}
 use Rattle.paths.proofs.Decide.{holds-by, order-by, events-by}
 use Rattle.goal_model.specs.Images.{inRange, meetsρμ, model}
-use Rattle.goal_model.proofs.Cover.{Step, uncovered, finite, every-step, allIn}
+use Rattle.goal_model.proofs.Cover.{Step, context, step as flows-by, uncovered, finite, every-step, allIn}
 use Rattle.goal_model.proofs.Cases.{step, steps, covers}
 use Rattle.goal_model.specs.cases.OwnGoals.{writeOnly}
 use Rattle.weir.specs.cases.Goals.{weirAllow41, exceptType, endTypeOne, oneLeg, noStart}
@@ -93,7 +94,7 @@ w5-path x e P =
     go (inl t) = absurd (T-not (starts (x 0) && ends (x 1)) t (and-T (starts (x 0)) (ends (x 1)) .1 (P .starts, P .arrives)))
     go (inr t) = let (a, (b, c)) = simp and-T at t in (eqb→eq (x 0) 273 a, eqb→eq (e 0) 64 b, eqb→eq (x 1) 1057 c)
 
--- ---- W2's path: the weir policy's steps are three, and there is one way through them from σ0
+-- ---- W2's path: the weir policy's steps are three, and there is one way through them
 abbrev is : ℕ → ℕ → ℕ → ℕ → ℕ → ℕ → Bool
 is a b c x e y = eqb x a && (eqb e b && eqb y c)
 
@@ -117,39 +118,34 @@ weir-step x e y t = go (or-cases (is 273 64 545 x e y) (is 545 65 785 x e y || i
     go (inl k) = inl (is-eq k)
     go (inr k) = last (or-cases (is 545 65 785 x e y) (is 785 64 1057 x e y) k)
 
--- σ0 has neither 545 nor 785
-starts2 : ℕ → Bool
-starts2 x = contextIn (goalOf writeOnly) 0 (contextOf x)
-
-not-545 : T (not (starts2 545))
-unfolding starts2 bit goalCount goalHead nextOf contextRecordOf contextIn
-not-545 = tt
-
-not-785 : T (not (starts2 785))
-unfolding starts2 bit goalCount goalHead nextOf contextRecordOf contextIn
-not-785 = tt
-
-pub w2-path : (x e : ℕ → ℕ) → IsPath (model weir writeOnly) 3 x e
+-- three steps one after the other are these, wherever they start
+pub weir-walk : (x e : ℕ → ℕ) → ((j : ℕ) → j ≤ 3 → T (context (policyOf weir) (x j))) → ((j : ℕ) → j < 3 → T (flows-by (policyOf weir) (x j) (e j) (x (suc j))))
     → (x 0 ≡ 273) × (e 0 ≡ 64) × (x 1 ≡ 545) × (e 1 ≡ 65) × (x 2 ≡ 785) × (e 2 ≡ 64) × (x 3 ≡ 1057)
-unfolding starts2
-w2-path x e P = go (at 0 (omega arith)) (at 1 (omega arith)) (at 2 (omega arith))
+weir-walk x e C W = go (at 0 (omega arith)) (at 1 (omega arith)) (at 2 (omega arith))
   where
     at : (j : ℕ) → j < 3 → ((x j ≡ 273) × (e j ≡ 64) × (x (suc j) ≡ 545)) ⊎ (((x j ≡ 545) × (e j ≡ 65) × (x (suc j) ≡ 785)) ⊎ ((x j ≡ 785) × (e j ≡ 64) × (x (suc j) ≡ 1057)))
     at j h =
         weir-step (x j) (e j) (x (suc j))
-        (every-step (policyOf weir) steps covers listed listed-steps (x j) (e j) (x (suc j)) (P .contexts j (omega arith)) (P .contexts (suc j) (omega arith)) (P .flows j h))
-
-    first : {b : ℕ} → T (not (starts2 b)) → x 0 ≡ b → ⊥
-    first {b} n q = T-not (starts2 b) n (subst (λ (i : ℕ). T (starts2 i)) q (P .starts))
+        (every-step (policyOf weir) steps covers listed listed-steps (x j) (e j) (x (suc j)) (C j (omega arith)) (C (suc j) (omega arith)) (W j h))
 
     go : ((x 0 ≡ 273) × (e 0 ≡ 64) × (x 1 ≡ 545)) ⊎ (((x 0 ≡ 545) × (e 0 ≡ 65) × (x 1 ≡ 785)) ⊎ ((x 0 ≡ 785) × (e 0 ≡ 64) × (x 1 ≡ 1057)))
         → ((x 1 ≡ 273) × (e 1 ≡ 64) × (x 2 ≡ 545)) ⊎ (((x 1 ≡ 545) × (e 1 ≡ 65) × (x 2 ≡ 785)) ⊎ ((x 1 ≡ 785) × (e 1 ≡ 64) × (x 2 ≡ 1057)))
         → ((x 2 ≡ 273) × (e 2 ≡ 64) × (x 3 ≡ 545)) ⊎ (((x 2 ≡ 545) × (e 2 ≡ 65) × (x 3 ≡ 785)) ⊎ ((x 2 ≡ 785) × (e 2 ≡ 64) × (x 3 ≡ 1057)))
         → (x 0 ≡ 273) × (e 0 ≡ 64) × (x 1 ≡ 545) × (e 1 ≡ 65) × (x 2 ≡ 785) × (e 2 ≡ 64) × (x 3 ≡ 1057)
     go (inl a) (inr (inl b)) (inr (inr c)) = (a .0, a .1, a .2, b .1, b .2, c .1, c .2)
-    go (inr (inl a)) b c = absurd (first not-545 (a .0))
-    go (inr (inr a)) b c = absurd (first not-785 (a .0))
     go (inl a) (inl b) c = absurd (omega (arith, a .2, b .0))
     go (inl a) (inr (inr b)) c = absurd (omega (arith, a .2, b .0))
     go (inl a) (inr (inl b)) (inl c) = absurd (omega (arith, b .2, c .0))
     go (inl a) (inr (inl b)) (inr (inl c)) = absurd (omega (arith, b .2, c .0))
+    go (inr (inl a)) (inl b) c = absurd (omega (arith, a .2, b .0))
+    go (inr (inl a)) (inr (inl b)) c = absurd (omega (arith, a .2, b .0))
+    go (inr (inl a)) (inr (inr b)) (inl c) = absurd (omega (arith, b .2, c .0))
+    go (inr (inl a)) (inr (inr b)) (inr (inl c)) = absurd (omega (arith, b .2, c .0))
+    go (inr (inl a)) (inr (inr b)) (inr (inr c)) = absurd (omega (arith, b .2, c .0))
+    go (inr (inr a)) (inl b) c = absurd (omega (arith, a .2, b .0))
+    go (inr (inr a)) (inr (inl b)) c = absurd (omega (arith, a .2, b .0))
+    go (inr (inr a)) (inr (inr b)) c = absurd (omega (arith, a .2, b .0))
+
+pub w2-path : (x e : ℕ → ℕ) → IsPath (model weir writeOnly) 3 x e
+    → (x 0 ≡ 273) × (e 0 ≡ 64) × (x 1 ≡ 545) × (e 1 ≡ 65) × (x 2 ≡ 785) × (e 2 ≡ 64) × (x 3 ≡ 1057)
+w2-path x e P = weir-walk x e (P .contexts) (P .flows)

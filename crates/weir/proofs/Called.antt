@@ -1,35 +1,40 @@
 -- W1 to W12 carried to the outward calls, by their promises.
-use Prim.Native.Nat.{ℕ, _+_, _*_, _≤_, _<_}
+use Prim.Native.Nat.{ℕ, zero, suc, _+_, _*_, _≤_, _<_}
 use mathlib.Core.List.{List, [], _∷_, _++_}
-use mathlib.Core.Logic.{_⊎_, inl, inr}
+use mathlib.Core.Bool.{Bool}
+use mathlib.Core.Logic.{_⊎_, inl, inr, ⊎-elim}
 use mathlib.Core.Path.{_≡_, refl, ap, _∙_}
 use native.Mathlib.Omega.{arith}
 use lib.ListN.{length}
+use Rattle.base.specs.Numbers.{Numbered}
 use Rattle.base.specs.Questions.{Question, ask, AllYes, RefusedWith}
-use Rattle.base.proofs.QuestionLaws.{passed-both, passed-not-refused, one-number, refused-first}
+use Rattle.base.proofs.QuestionLaws.{passed-not-refused, one-number, refused-first}
 use Rattle.policy_image.specs.Layout.{countsOf}
+use Rattle.policy_image.specs.Policy.{policyOf}
 use Rattle.policy_image.specs.cases.Weir.{weir, weirAllow31}
 use Rattle.policy_check.specs.Questions.{policyQuestions}
-use Rattle.policy_check.proofs.Cases.{w10-short, w10-empty, w11}
+use Rattle.policy_check.proofs.Cases.{w9-refused, w10-short, w10-empty, w11}
 use Rattle.context.specs.declared.Context.{Context}
 use Rattle.context.specs.declared.Event.{Event}
-use Rattle.access.proofs.NoDomain.{w9-accepted, w9-nothing}
+use Rattle.access.specs.Authorization.{authorized, flow}
 use Rattle.goal_image.specs.cases.WeirGoal.{goalG}
 use Rattle.goal_image.specs.Questions.{goalQuestions}
+use Rattle.goal_image.proofs.Cases as goals
 use Rattle.paths.specs.Paths.{Holds, OrderAt, EventsAt}
 use Rattle.goal_model.specs.Images.{model}
-use Rattle.flowgoal.specs.declared.bare.Answer.{Answer}
-use Rattle.flowgoal.specs.declared.bare.Answer.the-variants as answer
-use Rattle.flowgoal.specs.Bare.{AskedInRange, bareQuestions, AuthorizationAnswer, numberOf, NumberOf}
-use Rattle.flowgoal.specs.declared.goal.Outcome.{Outcome}
-use Rattle.flowgoal.specs.declared.goal.Outcome.the-variants as outcome
-use Rattle.flowgoal.specs.GoalQuestion.{WorkFits, allQuestions, GoalPromise, outcomeNumber}
-use Rattle.flowgoal.proofs.GoalLaws.{order-one, events-one, not-both, not-holds-order, not-holds-events, not-holds, least-one}
+use Rattle.bare_questions.specs.declared.Answer.the-variants as answer
+use Rattle.bare_questions.specs.Bare.{BareAnswer, numberOf}
+use Rattle.bare_questions.proofs.BareLaws.{last, one-answer}
+use Rattle.goal_question.specs.declared.goal.Outcome.{Outcome}
+use Rattle.goal_question.specs.declared.goal.Outcome.the-variants as outcome
+use Rattle.goal_question.specs.GoalQuestion.{WorkFits, allQuestions, GoalPromise, outcomeNumber}
+use Rattle.goal_question.proofs.GoalLaws.{order-one, events-one, not-both, not-holds-order, not-holds-events, not-holds, least-one}
 use Rattle.goal_model.specs.cases.OwnGoals.{writeOnly}
 use Rattle.weir.specs.cases.Goals.{weirAllow41, empty, exceptType, endTypeOne, oneLeg, noStart}
 use Rattle.weir.specs.cases.Called.{Gives, SaysHolds, Refuses, SaysBroken, Prints, WeirCalled}
 use Rattle.weir.proofs.Answers.{w1, w2, w3, w4, w5, w6, w7, w8}
 use Rattle.weir.proofs.Accepted.{w1-enough, w2-enough, w3-enough, w4-enough, w5-enough, w6-enough, w7-enough, w8-enough}
+use Rattle.weir.proofs.Steps.{steps-cases, refuses as refuses-steps}
 use Rattle.weir.proofs.Theorem.{w12-first, w12-second, w5-slice}
 
 -- ---- one outcome for each answer of the definitions
@@ -77,62 +82,61 @@ module _ (s g : List ℕ) (work1 work2 : ℕ) where
 -- ---- the numbers that C gets
 pub refuses : {k : ℕ} (s g : List ℕ) (work1 work2 : ℕ) → RefusedWith (allQuestions s g work1 work2) k → Refuses s g work1 work2 k
 refuses s g work1 work2 h b a n G =
-    let r = refused-only s g work1 work2 b a (G .outcome) h (G .promised) in
+    let r = refused-only s g work1 work2 b a (G .answer) h (G .promised) in
     (G .number ∙ ap outcomeNumber (r .0), r .1)
 
 module _ (s g : List ℕ) (all : AllYes (allQuestions s g 32 32)) where
   pub says-holds : Holds (model s g) → SaysHolds s g
   says-holds h b a n G =
-      let r = holds-only s g 32 32 all b a (G .outcome) h (G .promised) in
+      let r = holds-only s g 32 32 all b a (G .answer) h (G .promised) in
       (G .number ∙ ap outcomeNumber (r .0), r .1)
 
   says-short : {m : ℕ} → OrderAt (model s g) m ⊎ EventsAt (model s g) m → (b a : List ℕ) (n : ℕ) → length b < 2 * m + 1 → Gives s g 32 32 b a n
       → (n ≡ 256 * m + 51) × (a ≡ b)
   says-short h b a n short G =
-      let r = short-only s g 32 32 all b a (G .outcome) h short (G .promised) in
+      let r = short-only s g 32 32 all b a (G .answer) h short (G .promised) in
       let q = G .number ∙ ap outcomeNumber (r .0) in
       (omega arith, r .1)
 
   pub says-order : {m : ℕ} → OrderAt (model s g) m → SaysBroken s g m 1
   says-order h =
       record {
-        room = λ b a n room G. G .number ∙ ap outcomeNumber (order-only s g 32 32 all b a (G .outcome) h room (G .promised));
+        room = λ b a n room G. G .number ∙ ap outcomeNumber (order-only s g 32 32 all b a (G .answer) h room (G .promised));
         no-room = says-short (inl h);
       }
 
   pub says-events : {m : ℕ} → EventsAt (model s g) m → SaysBroken s g m 2
   says-events h =
       record {
-        room = λ b a n room G. G .number ∙ ap outcomeNumber (events-only s g 32 32 all b a (G .outcome) h room (G .promised));
+        room = λ b a n room G. G .number ∙ ap outcomeNumber (events-only s g 32 32 all b a (G .answer) h room (G .promised));
         no-room = says-short (inr h);
       }
 
 -- ---- W5's path, W9 and W10
 called-path : (before after : List ℕ) (n : ℕ) → 3 ≤ length before → Gives weirAllow41 goalG 32 32 before after n → Prints before after
 called-path before after n room G =
-    let z = w5-slice before after (G .outcome) room (G .promised) in
+    let z = w5-slice before after (G .answer) room (G .promised) in
     record { whole = z .whole; x0 = z .x0; e0 = z .e0; x1 = z .x1; rest = z .rest }
 
-never-yes : (x y : Context) (e : Event) (n : ℕ) → x .ty ≡ 3 → AskedInRange (countsOf weirAllow31) x y e → NumberOf (AuthorizationAnswer weirAllow31 x y e) n
-    → n ≡ 0
-never-yes x y e n q r N = go (N .answer) (N .promised) (N .number)
-  where
-    go : (a : Answer) → AuthorizationAnswer weirAllow31 x y e a → n ≡ numberOf a → n ≡ 0
-    go answer.Yes p k = let t = p .1 in let f = w9-nothing e x y q in let z : _≡_ {A = ℕ} 0 1 = cc in absurd (omega arith)
-    go answer.No p k = k
-    go (answer.Refused i) p k =
-        absurd (passed-not-refused (bareQuestions weirAllow31 x y e) i
-        (passed-both (policyQuestions weirAllow31) (ask 13 (AskedInRange (countsOf weirAllow31) x y e) ∷ []) (w9-accepted .it) (r, tt)) p)
+-- a refusal by the policy's questions is one by each call, before it reads what else it is asked
+bare-refuses : {k : ℕ} (s : List ℕ) → RefusedWith (policyQuestions s) k → (x y : Context) (e : Event) (holds : Bool) (n : ℕ)
+    → Numbered numberOf (BareAnswer s x y e holds) n → n ≡ 4 * k + 3
+bare-refuses {k} s r x y e holds n N =
+    N .number ∙ ap numberOf (one-answer s x y e holds (N .answer) (answer.Refused k) (N .promised) (refused-first (policyQuestions s) (last s x y e) k r))
 
--- a refusal by questions that are numbered from n on has a number from n on
-abbrev From : ℕ → List Question → Type 0
-From n [] = Unit
-From n (q ∷ qs) = (n ≤ q .number) × From n qs
+policy-refuses : {k : ℕ} (s : List ℕ) → RefusedWith (policyQuestions s) k → (g : List ℕ) (work1 work2 : ℕ) → Refuses s g work1 work2 k
+policy-refuses {k} s r g work1 work2 =
+    refuses s g work1 work2 (refused-first (policyQuestions s) (goalQuestions (countsOf s) g ++ (ask 11 (WorkFits s g work1 work2) ∷ [])) k r)
 
-refused-from : (n k : ℕ) (qs : List Question) → From n qs → RefusedWith qs k → n ≤ k
-refused-from n k [] f r = absurd r
-refused-from n k (q ∷ qs) f (inl r) = omega (arith, f .0, r .1)
-refused-from n k (q ∷ qs) f (inr r) = refused-from n k qs (f .1) (r .1)
+-- what is so of the numbers of all questions is so of that of a refusal
+abbrev pub AllNumbers : (ℕ → Type 0) → List Question → Type 0
+AllNumbers P [] = Unit
+AllNumbers P (q ∷ qs) = P (q .number) × AllNumbers P qs
+
+pub refused-among : (P : ℕ → Type 0) (k : ℕ) (qs : List Question) → AllNumbers P qs → RefusedWith qs k → P k
+refused-among P k [] f r = absurd r
+refused-among P k (q ∷ qs) f (inl r) = rw (r .1) (f .0)
+refused-among P k (q ∷ qs) f (inr r) = refused-among P k qs (f .1) (r .1)
 
 -- what is refused after the policy's questions is refused by the others
 refused-later : (k : ℕ) (qs rs : List Question) → AllYes qs → RefusedWith (qs ++ rs) k → RefusedWith rs k
@@ -140,19 +144,19 @@ refused-later k [] rs a r = r
 refused-later k (q ∷ qs) rs a (inl r) = absurd (r .0 (a .0))
 refused-later k (q ∷ qs) rs a (inr r) = refused-later k qs rs (a .1) (r .1)
 
-empty-passed : (g : List ℕ) (work1 work2 : ℕ) (before after : List ℕ) (n k : ℕ) → Gives empty g work1 work2 before after n → k ≤ 6 → n ≡ 4 * k + 3 → ⊥
-empty-passed g work1 work2 before after n k G small e = go (G .outcome) (G .promised) (G .number)
+empty-passed : (g : List ℕ) (work1 work2 : ℕ) (before after : List ℕ) (n k : ℕ) → Gives empty g work1 work2 before after n → (k ≤ 6) ⊎ (k ≡ 14) → n ≡ 4 * k + 3 → ⊥
+empty-passed g work1 work2 before after n k G of-policy e = go (G .answer) (G .promised) (G .number)
   where
     go : (r : Outcome) → GoalPromise empty g work1 work2 before after r → n ≡ outcomeNumber r → ⊥
     go outcome.Holds p q = omega arith
     go (outcome.Order m) p q = omega arith
     go (outcome.Events m) p q = omega arith
     go (outcome.Refused i) p q =
-        let l = refused-from 7 i (goalQuestions (countsOf empty) g ++ (ask 11 (WorkFits empty g work1 work2) ∷ []))
-        (omega arith, (omega arith, (omega arith, (omega arith, (omega arith, tt)))))
+        let l = refused-among (λ k. (7 ≤ k) × (k ≤ 11)) i (goalQuestions (countsOf empty) g ++ (ask 11 (WorkFits empty g work1 work2) ∷ [])) (omega arith)
         (refused-later i (policyQuestions empty) (goalQuestions (countsOf empty) g ++ (ask 11 (WorkFits empty g work1 work2) ∷ [])) (w10-empty .it) (p .0)) in
-        omega arith
-    go (outcome.NoRoom m) p q = omega arith
+        ⊎-elim (λ h. omega arith) (λ h. omega arith) of-policy
+    go (outcome.NoRoom zero) p q = ⊎-elim (λ h. omega arith) (λ h. omega arith) of-policy
+    go (outcome.NoRoom (suc m)) p q = ⊎-elim (λ h. omega arith) (λ h. omega arith) of-policy
 
 -- THE SECOND THEOREM: the same twelve, of the outward calls
 pub weir-called : WeirCalled
@@ -167,12 +171,14 @@ weir-called =
       w6 = says-order weir endTypeOne w6-enough w6;
       w7 = says-events weir oneLeg w7-enough w7;
       w8 = says-holds weir noStart w8-enough w8;
-      w9 = never-yes;
-      w10 = λ s g work1 work2 h. refuses s g work1 work2
-          (refused-first (policyQuestions s) (goalQuestions (countsOf s) g ++ (ask 11 (WorkFits s g work1 work2) ∷ [])) 1 (w10-short s h .it));
+      w9-authorized = λ x y e. bare-refuses weirAllow31 (w9-refused .it) x y e (authorized (policyOf weirAllow31) e x y);
+      w9-flows = λ x y e. bare-refuses weirAllow31 (w9-refused .it) x y e (flow (policyOf weirAllow31) e x y);
+      w9-steps = λ x y work1 work2. refuses-steps weirAllow31 x y work1 work2 (steps-cases .fourteen-before-13 x y work1 work2);
+      w9-check = policy-refuses weirAllow31 (w9-refused .it);
+      w9-short-goal = λ g work1 work2 h. (goals.short (countsOf weirAllow31) g h .it, policy-refuses weirAllow31 (w9-refused .it) g work1 work2);
+      w10 = λ s g work1 work2 h. policy-refuses s (w10-short s h .it) g work1 work2;
       w10-empty = empty-passed;
-      w11 = λ s g work1 work2 x c i lo hi h. refuses s g work1 work2
-          (refused-first (policyQuestions s) (goalQuestions (countsOf s) g ++ (ask 11 (WorkFits s g work1 work2) ∷ [])) 3 (w11 s x c i lo hi h .it));
+      w11 = λ s g work1 work2 x c i lo hi h. policy-refuses s (w11 s x c i lo hi h .it) g work1 work2;
       w12-first = λ work. refuses weir goalG 31 work (w12-first work);
       w12-second = λ work. refuses weir goalG work 31 (w12-second work);
     }

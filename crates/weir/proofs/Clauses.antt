@@ -1,5 +1,5 @@
 -- Every clause of the outward promises is needed.
-use Prim.Native.Nat.{ℕ, zero, suc, _≤_}
+use Prim.Native.Nat.{ℕ}
 use mathlib.Core.Bool.{true, false}
 use mathlib.Core.List.{List, [], _∷_}
 use mathlib.Core.Logic.{inl}
@@ -7,6 +7,7 @@ use mathlib.Core.Path.{_≡_, refl, sym, ap, subst}
 use native.Mathlib.Omega.{arith}
 use lib.Dec.{T}
 use lib.ListN.{getD}
+use Rattle.base.specs.Numbers.{Numbered}
 use Rattle.base.specs.Bits.{bit}
 use Rattle.base.specs.Questions.{RefusedWith}
 use Rattle.base.proofs.QuestionLaws.{passed-not-refused}
@@ -16,35 +17,36 @@ use Rattle.policy_image.specs.OfKind.{some, every}
 use Rattle.policy_image.specs.cases.Weir.{weir}
 use Rattle.policy_check.proofs.Cases.{weir-accepted}
 use Rattle.context.specs.Codes.{contextAt as at, eventAt as event}
-use Rattle.relations.specs.Relations.{domain, Γ, writeLike, readLike, allowed, α, ρ, μ, roleChange}
+use Rattle.policy_sources.specs.Sources.{domain}
+use Rattle.relations.specs.Relations.{Γ, writeLike, readLike, allowed, α, ρ, μ, roleChange}
 use Rattle.constraints.specs.Constraints.{constraintsHold}
 use Rattle.access.specs.Authorization.{χ, roleRule, authorized, flow}
 use Rattle.goal_image.specs.Layout.{legsOf, flagsOf, goalCount, goalHead, nextOf, contextRecordOf, eventRecordOf}
 use Rattle.goal_image.specs.Goal.{goalOf}
 use Rattle.goal_image.specs.Sets.{contextIn, eventIn}
 use Rattle.goal_image.specs.cases.WeirGoal.{goalG}
-use Rattle.paths.specs.Paths.{IsPath, BreaksOrder, BreaksEvents, SomeOrder, Holds, OrderAt, EventsAt}
+use Rattle.paths.specs.Paths.{IsPath, BreaksOrder, BreaksEvents, SomeOrder, OrderAt, EventsAt}
 use Rattle.paths.specs.Slice.{contextsIn, eventsIn, Shows}
 use Rattle.paths.proofs.Decide.{order-by, events-by}
 use Rattle.paths.proofs.Monitors.{order-verdict, events-verdict}
 use Rattle.goal_model.specs.Images.{inRange, meetsρμ, model}
 use Rattle.goal_model.specs.cases.OwnGoals.{writeOnly}
 use Rattle.goal_model.proofs.Cover.{finite}
-use Rattle.flowgoal.specs.declared.bare.Answer.the-variants as answer
-use Rattle.flowgoal.specs.declared.goal.Outcome.{Outcome}
-use Rattle.flowgoal.specs.declared.goal.Outcome.the-variants as outcome
-use Rattle.flowgoal.specs.Bare.{bareQuestions, AuthorizationAnswer, NumberOf, numberOf}
-use Rattle.flowgoal.specs.GoalQuestion.{allQuestions, GoalPromise, outcomeNumber, OutcomeNumber}
-use Rattle.flowgoal.proofs.BareLaws.{one-answer}
-use Rattle.flowgoal.proofs.Cases.{reads, reads-not, not-always-yes, not-always-no, second-user-2, not-refusing as never-refused}
-use Rattle.flowgoal.proofs.GoalLaws.{order-one, events-one, least-one, one-outcome}
+use Rattle.bare_questions.specs.declared.Answer.the-variants as answer
+use Rattle.goal_question.specs.declared.goal.Outcome.{Outcome}
+use Rattle.goal_question.specs.declared.goal.Outcome.the-variants as outcome
+use Rattle.bare_questions.specs.Bare.{bareQuestions, AuthorizationAnswer, numberOf}
+use Rattle.goal_question.specs.GoalQuestion.{allQuestions, GoalPromise, outcomeNumber}
+use Rattle.bare_questions.proofs.BareLaws.{one-answer}
+use Rattle.bare_questions.proofs.Cases.{reads, reads-not, not-always-yes, not-always-no, second-user-2, not-refusing as never-refused}
+use Rattle.goal_question.proofs.GoalLaws.{order-one, events-one, least-one, one-outcome}
 use Rattle.weir.specs.cases.Goals.{weirAllow41}
 use Rattle.weir.specs.cases.Wrong.{noMiddle, noEvents, twoStarts, eitherEnd}
 use Rattle.weir.specs.cases.Clauses.{short, long, fromThree, noStep, zeros, moreZeros, Clauses}
 use Rattle.weir.proofs.Accepted.{weir41-accepted, g41-accepted, write-only-accepted, refused-11, work41-length, write-only-length, w1-enough, w2-enough, w5-enough, no-middle-enough, no-events-enough, two-starts-enough, either-end-enough}
 use Rattle.weir.proofs.Answers.{steps41, covers41, w1, w2, w5}
 use Rattle.weir.proofs.Theorem.{w12-first, w5-slice}
-use Rattle.weir.proofs.Shown.{path-by, shows-by}
+use Rattle.weir.proofs.Shown.{behind, path-by, shows-by}
 use Rattle.weir.proofs.StandIns.{not-always-holds, not-refusing, not-unsearched, not-other-room, not-events-on-tie, not-one-slice}
 
 -- ---- the answers of the goals
@@ -65,7 +67,7 @@ unfolding inRange meetsρμ flow authorized χ roleRule constraintsHold domain �
 either-end-at = events-by (model weirAllow41 eitherEnd) (finite (policyOf weirAllow41) steps41 covers41 (goalOf eitherEnd)) 1 tt
 
 -- ---- the slices, each shown to be a path
-short-path : Shows (model weirAllow41 goalG) 1 short short
+short-path : Shows (IsPath (model weirAllow41 goalG)) 1 short short
 unfolding inRange meetsρμ flow authorized χ roleRule constraintsHold domain Γ writeLike readLike allowed α ρ μ roleChange some every bit countsOf recordCount recordOf payloadOf decoded legsOf flagsOf goalCount goalHead nextOf contextRecordOf eventRecordOf contextIn eventIn
 short-path = shows-by (model weirAllow41 goalG) 1 short (omega arith) tt
 
@@ -77,23 +79,23 @@ changed-path : IsPath (model weirAllow41 goalG) 1 (contextsIn (273 ∷ 64 ∷ 10
 unfolding inRange meetsρμ flow authorized χ roleRule constraintsHold domain Γ writeLike readLike allowed α ρ μ roleChange some every bit countsOf recordCount recordOf payloadOf decoded legsOf flagsOf goalCount goalHead nextOf contextRecordOf eventRecordOf contextIn eventIn
 changed-path = path-by (model weirAllow41 goalG) 1 (contextsIn (273 ∷ 64 ∷ 1057 ∷ 8 ∷ [])) (eventsIn (273 ∷ 64 ∷ 1057 ∷ 8 ∷ [])) tt
 
-no-middle-path : Shows (model weirAllow41 noMiddle) 3 long long
+no-middle-path : Shows (IsPath (model weirAllow41 noMiddle)) 3 long long
 unfolding inRange meetsρμ flow authorized χ roleRule constraintsHold domain Γ writeLike readLike allowed α ρ μ roleChange some every bit countsOf recordCount recordOf payloadOf decoded legsOf flagsOf goalCount goalHead nextOf contextRecordOf eventRecordOf contextIn eventIn
 no-middle-path = shows-by (model weirAllow41 noMiddle) 3 long (omega arith) tt
 
-no-events-path : Shows (model weirAllow41 noEvents) 3 long long
+no-events-path : Shows (IsPath (model weirAllow41 noEvents)) 3 long long
 unfolding inRange meetsρμ flow authorized χ roleRule constraintsHold domain Γ writeLike readLike allowed α ρ μ roleChange some every bit countsOf recordCount recordOf payloadOf decoded legsOf flagsOf goalCount goalHead nextOf contextRecordOf eventRecordOf contextIn eventIn
 no-events-path = shows-by (model weirAllow41 noEvents) 3 long (omega arith) tt
 
-write-only-path : Shows (model weir writeOnly) 3 long long
+write-only-path : Shows (IsPath (model weir writeOnly)) 3 long long
 unfolding inRange meetsρμ flow authorized χ roleRule constraintsHold domain Γ writeLike readLike allowed α ρ μ roleChange some every bit countsOf recordCount recordOf payloadOf decoded legsOf flagsOf goalCount goalHead nextOf contextRecordOf eventRecordOf contextIn eventIn
 write-only-path = shows-by (model weir writeOnly) 3 long (omega arith) tt
 
-two-starts-path : Shows (model weirAllow41 twoStarts) 1 fromThree fromThree
+two-starts-path : Shows (IsPath (model weirAllow41 twoStarts)) 1 fromThree fromThree
 unfolding inRange meetsρμ flow authorized χ roleRule constraintsHold domain Γ writeLike readLike allowed α ρ μ roleChange some every bit countsOf recordCount recordOf payloadOf decoded legsOf flagsOf goalCount goalHead nextOf contextRecordOf eventRecordOf contextIn eventIn
 two-starts-path = shows-by (model weirAllow41 twoStarts) 1 fromThree (omega arith) tt
 
-either-end-path : Shows (model weirAllow41 eitherEnd) 1 short short
+either-end-path : Shows (IsPath (model weirAllow41 eitherEnd)) 1 short short
 unfolding inRange meetsρμ flow authorized χ roleRule constraintsHold domain Γ writeLike readLike allowed α ρ μ roleChange some every bit countsOf recordCount recordOf payloadOf decoded legsOf flagsOf goalCount goalHead nextOf contextRecordOf eventRecordOf contextIn eventIn
 either-end-path = shows-by (model weirAllow41 eitherEnd) 1 short (omega arith) tt
 
@@ -140,7 +142,7 @@ zeros-events : BreaksEvents (model weir writeOnly) 3 (contextsIn moreZeros) (eve
 unfolding bit legsOf goalCount goalHead nextOf contextRecordOf contextIn
 zeros-events f = subst (λ (i : ℕ). T (model weir writeOnly .σ 0 (contextsIn moreZeros i))) (f .from) (f .stands 0 (omega arith))
 
-zeros-no-path : Shows (model weir writeOnly) 3 moreZeros moreZeros → ⊥
+zeros-no-path : Shows (IsPath (model weir writeOnly)) 3 moreZeros moreZeros → ⊥
 unfolding bit legsOf goalCount goalHead nextOf contextRecordOf contextIn
 zeros-no-path s = s .path .starts
 
@@ -152,23 +154,15 @@ w2-refused : RefusedWith (allQuestions weir writeOnly 31 32) 11
 w2-refused = refused-11 weir writeOnly 31 32 weir-accepted write-only-accepted (λ h. let a = h .first in let b = write-only-length in omega arith)
 
 -- ---- a slice that was zeros before and shows a path after is not as it was
-changed : zeros ≡ short → ⊥
+pub changed : zeros ≡ short → ⊥
 changed e = let z : _≡_ {A = ℕ} 0 273 = ap (λ (l : List ℕ). getD l 0 0) e in omega arith
-
--- a slice is as it was behind its end
-behind : (i : ℕ) → 3 ≤ i → getD (273 ∷ 64 ∷ 1057 ∷ 0 ∷ []) i 0 ≡ getD zeros i 0
-behind zero h = absurd (omega arith)
-behind (suc zero) h = absurd (omega arith)
-behind (suc (suc zero)) h = absurd (omega arith)
-behind (suc (suc (suc zero))) h = refl
-behind (suc (suc (suc (suc i)))) h = refl
 
 -- ---- the numbers: 0 is that of no outcome that W5 has, and 1 of none that W1 has
 told : {A : Type 0} (number : A → ℕ) (n : ℕ) (r q : A) → r ≡ q → n ≡ number r → n ≡ number q
 told {A} number n r q e h = subst (λ (o : A). n ≡ number o) e h
 
-w5-not-0 : OutcomeNumber (GoalPromise weirAllow41 goalG 32 32 [] []) 0 → ⊥
-w5-not-0 N = go (N .outcome) (N .promised) (N .number)
+w5-not-0 : Numbered outcomeNumber (GoalPromise weirAllow41 goalG 32 32 [] []) 0 → ⊥
+w5-not-0 N = go (N .answer) (N .promised) (N .number)
   where
     go : (r : Outcome) → GoalPromise weirAllow41 goalG 32 32 [] [] r → 0 ≡ outcomeNumber r → ⊥
     go outcome.Holds p q = not-always-holds [] [] p
@@ -180,9 +174,9 @@ w5-not-0 N = go (N .outcome) (N .promised) (N .number)
 w1-holds : GoalPromise weir goalG 32 32 [] [] outcome.Holds
 w1-holds = (w1-enough, w1, refl)
 
-w1-not-1 : OutcomeNumber (GoalPromise weir goalG 32 32 [] []) 1 → ⊥
+w1-not-1 : Numbered outcomeNumber (GoalPromise weir goalG 32 32 [] []) 1 → ⊥
 w1-not-1 N =
-    let e = told outcomeNumber 1 (N .outcome) outcome.Holds (one-outcome weir goalG 32 32 [] [] [] (N .outcome) outcome.Holds (N .promised) w1-holds) (N .number) in
+    let e = told outcomeNumber 1 (N .answer) outcome.Holds (one-outcome weir goalG 32 32 [] [] [] (N .answer) outcome.Holds (N .promised) w1-holds) (N .number) in
     omega arith
 
 -- ---- the bare questions
@@ -194,13 +188,13 @@ user-2-writes-not : authorized (policyOf weir) (event 2 1) (at 2 2 1) (at 1 1 2)
 unfolding authorized χ roleRule constraintsHold domain Γ allowed α ρ μ roleChange some every bit countsOf recordCount recordOf payloadOf decoded
 user-2-writes-not = refl
 
-reads-not-1 : NumberOf (AuthorizationAnswer weir (at 4 2 1) (at 1 1 1) (event 2 0)) 1 → ⊥
+reads-not-1 : Numbered numberOf (AuthorizationAnswer weir (at 4 2 1) (at 1 1 1) (event 2 0)) 1 → ⊥
 reads-not-1 N =
     let q = one-answer weir (at 4 2 1) (at 1 1 1) (event 2 0) _ (N .answer) answer.No (N .promised) reads-not in
     let z = told numberOf 1 (N .answer) answer.No q (N .number) in
     omega arith
 
-reads-not-0 : NumberOf (AuthorizationAnswer weir (at 2 2 1) (at 1 1 1) (event 2 0)) 0 → ⊥
+reads-not-0 : Numbered numberOf (AuthorizationAnswer weir (at 2 2 1) (at 1 1 1) (event 2 0)) 0 → ⊥
 reads-not-0 N =
     let q = one-answer weir (at 2 2 1) (at 1 1 1) (event 2 0) _ (N .answer) answer.Yes (N .promised) reads in
     let z = told numberOf 0 (N .answer) answer.Yes q (N .number) in
@@ -224,7 +218,7 @@ clauses =
             hold = (w5-enough, w5, no-step-order);
             rejected = λ p. let z : _≡_ {A = ℕ} 65 64 = w5-slice noStep noStep (outcome.Order 1) (omega arith) p .e0 in omega arith;
           };
-      shown-whole = record { hold = (omega arith, behind, longer-path); rejected = λ s. let z : _≡_ {A = ℕ} 4 3 = s .whole in omega arith };
+      shown-whole = record { hold = (omega arith, behind short zeros refl, longer-path); rejected = λ s. let z : _≡_ {A = ℕ} 4 3 = s .whole in omega arith };
       shown-rest = record { hold = changed-path; rejected = λ s. let z : _≡_ {A = ℕ} 8 7 = s .rest 3 (omega arith) in omega arith };
       order-breaks = record { hold = (two-starts-enough, two-starts-at, two-starts-path); rejected = λ p. two-starts-keeps (p .3) };
       events-asked =

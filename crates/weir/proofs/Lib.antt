@@ -7,3 +7,8 @@ pub mod Own
 pub mod Bytes
 pub mod Shown
 pub mod Clauses
+pub mod Walks
+pub mod StepsPaths
+pub mod Steps
+pub mod StepsClauses
+pub mod StepsStandIns

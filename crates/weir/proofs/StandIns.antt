@@ -1,11 +1,11 @@
 -- Checkers that the promise of the goal question keeps out, each on a named input ("Four tests of a promise", 3, and ours).
-use Prim.Native.Nat.{ℕ, _≤_, _<_}
+use Prim.Native.Nat.{ℕ, zero, suc, _+_, _*_, _≤_, _<_}
 use mathlib.Core.List.{List, [], _∷_, _++_}
 use mathlib.Core.Logic.{inl, inr}
-use mathlib.Core.Path.{_≡_, refl, ap, subst}
+use mathlib.Core.Path.{_≡_, refl, sym, ap, subst}
 use native.Mathlib.Omega.{arith}
 use lib.ListN.{length, getD}
-use Rattle.base.specs.Questions.{Question, ask, RefusedWith}
+use Rattle.base.specs.Questions.{ask}
 use Rattle.base.proofs.QuestionLaws.{passed-not-refused, passed-then, one-number}
 use Rattle.policy_image.specs.Layout.{countsOf}
 use Rattle.policy_image.specs.cases.Weir.{weir}
@@ -15,15 +15,15 @@ use Rattle.goal_image.specs.cases.WeirGoal.{goalG}
 use Rattle.goal_image.specs.Questions.{goalQuestions}
 use Rattle.paths.specs.Slice.{contextsIn, eventsIn}
 use Rattle.goal_model.specs.Images.{model}
-use Rattle.flowgoal.specs.declared.goal.Outcome.{Outcome}
-use Rattle.flowgoal.specs.declared.goal.Outcome.the-variants as outcome
-use Rattle.flowgoal.specs.GoalQuestion.{WorkFits, allQuestions, GoalPromise, outcomeNumber}
-use Rattle.flowgoal.proofs.GoalLaws.{order-one, not-both, not-holds-order, not-holds-events, not-holds, least-one}
+use Rattle.goal_question.specs.declared.goal.Outcome.{Outcome}
+use Rattle.goal_question.specs.declared.goal.Outcome.the-variants as outcome
+use Rattle.goal_question.specs.GoalQuestion.{WorkFits, allQuestions, GoalPromise, outcomeNumber}
+use Rattle.goal_question.proofs.GoalLaws.{order-one, not-both, not-holds-order, not-holds-events, not-holds, least-one}
 use Rattle.goal_model.specs.cases.OwnGoals.{writeOnly}
 use Rattle.weir.specs.cases.Goals.{weirAllow41}
 use Rattle.weir.proofs.Answers.{w1, w2, w5, w2-path}
 use Rattle.weir.proofs.Accepted.{w1-enough, w2-enough, refused-11, g-accepted, work-length}
-use Rattle.weir.proofs.Called.{events-only}
+use Rattle.weir.proofs.Called.{refused-among, events-only}
 use Rattle.weir.proofs.Theorem.{w12-second, w5-slice}
 
 -- what may be said of W5's input
@@ -159,34 +159,31 @@ number-refused = refl
 pub number-no-room : outcomeNumber (outcome.NoRoom 3) ≡ 819
 number-no-room = refl
 
--- a refusal of the list of questions has a number up to 11, so a promised outcome is one of those of number-tells
-abbrev Within11 : List Question → Type 0
-Within11 [] = Unit
-Within11 (q ∷ qs) = (q .number ≤ 11) × Within11 qs
+-- a refusal of the list of questions has a number up to 14, and never 12, so a promised outcome is one of those of number-tells
+abbrev pub But12 : ℕ → Type 0
+But12 k = (k ≤ 14) × (k ≡ 12 → ⊥)
 
-refused-within : (k : ℕ) (qs : List Question) → Within11 qs → RefusedWith qs k → k ≤ 11
-refused-within k [] f r = absurd r
-refused-within k (q ∷ qs) f (inl r) = omega (arith, f .0, r .1)
-refused-within k (q ∷ qs) f (inr r) = refused-within k qs (f .1) (r .1)
+abbrev RefusedBut12 : Outcome → Type 0
+RefusedBut12 outcome.Holds = Unit
+RefusedBut12 (outcome.Order m) = Unit
+RefusedBut12 (outcome.Events m) = Unit
+RefusedBut12 (outcome.Refused i) = But12 i
+RefusedBut12 (outcome.NoRoom m) = Unit
 
-abbrev UpTo11 : Outcome → Type 0
-UpTo11 outcome.Holds = Unit
-UpTo11 (outcome.Order m) = Unit
-UpTo11 (outcome.Events m) = Unit
-UpTo11 (outcome.Refused i) = i ≤ 11
-UpTo11 (outcome.NoRoom m) = Unit
+pub promised-but-12 : (s g : List ℕ) (w1 w2 : ℕ) (b a : List ℕ) (r : Outcome) → GoalPromise s g w1 w2 b a r → RefusedBut12 r
+promised-but-12 s g w1 w2 b a outcome.Holds p = tt
+promised-but-12 s g w1 w2 b a (outcome.Order m) p = tt
+promised-but-12 s g w1 w2 b a (outcome.Events m) p = tt
+promised-but-12 s g w1 w2 b a (outcome.Refused k) p = refused-among But12 k (allQuestions s g w1 w2) (omega arith) (p .0)
+promised-but-12 s g w1 w2 b a (outcome.NoRoom m) p = tt
 
-pub promised-up-to-11 : (s g : List ℕ) (w1 w2 : ℕ) (b a : List ℕ) (r : Outcome) → GoalPromise s g w1 w2 b a r → UpTo11 r
-promised-up-to-11 s g w1 w2 b a outcome.Holds p = tt
-promised-up-to-11 s g w1 w2 b a (outcome.Order m) p = tt
-promised-up-to-11 s g w1 w2 b a (outcome.Events m) p = tt
-promised-up-to-11 s g w1 w2 b a (outcome.Refused k) p =
-    refused-within k (allQuestions s g w1 w2)
-    (omega arith, (omega arith, (omega arith, (omega arith, (omega arith, (omega arith, (omega arith, (omega arith, (omega arith, (omega arith, (omega arith, tt))))))))))) (p .0)
-promised-up-to-11 s g w1 w2 b a (outcome.NoRoom m) p = tt
+-- so its number is none of those of 12 with an m
+pub not-12 : (i m : ℕ) → But12 i → 4 * i + 3 ≡ 256 * m + 4 * 12 + 3 → ⊥
+not-12 i zero h e = h .1 (omega arith)
+not-12 i (suc m) h e = omega (arith, h .0)
 
 -- two answers never share a number: what C gets tells which it was
-pub number-tells : (q r : Outcome) → UpTo11 q → UpTo11 r → outcomeNumber q ≡ outcomeNumber r → q ≡ r
+pub number-tells : (q r : Outcome) → RefusedBut12 q → RefusedBut12 r → outcomeNumber q ≡ outcomeNumber r → q ≡ r
 number-tells outcome.Holds outcome.Holds h k e = refl
 number-tells outcome.Holds (outcome.Order m′) h k e = absurd (omega arith)
 number-tells outcome.Holds (outcome.Events m′) h k e = absurd (omega arith)
@@ -206,15 +203,15 @@ number-tells (outcome.Refused i) outcome.Holds h k e = absurd (omega arith)
 number-tells (outcome.Refused i) (outcome.Order m′) h k e = absurd (omega arith)
 number-tells (outcome.Refused i) (outcome.Events m′) h k e = absurd (omega arith)
 number-tells (outcome.Refused i) (outcome.Refused i′) h k e = ap outcome.Refused (omega arith)
-number-tells (outcome.Refused i) (outcome.NoRoom m′) h k e = absurd (omega arith)
+number-tells (outcome.Refused i) (outcome.NoRoom m′) h k e = absurd (not-12 i m′ h e)
 number-tells (outcome.NoRoom m) outcome.Holds h k e = absurd (omega arith)
 number-tells (outcome.NoRoom m) (outcome.Order m′) h k e = absurd (omega arith)
 number-tells (outcome.NoRoom m) (outcome.Events m′) h k e = absurd (omega arith)
-number-tells (outcome.NoRoom m) (outcome.Refused i′) h k e = absurd (omega arith)
+number-tells (outcome.NoRoom m) (outcome.Refused i′) h k e = absurd (not-12 i′ m k (sym e))
 number-tells (outcome.NoRoom m) (outcome.NoRoom m′) h k e = ap outcome.NoRoom (omega arith)
 
 -- .. of any two inputs
 pub number-one : (s g s′ g′ : List ℕ) (w1 w2 w1′ w2′ : ℕ) (b a b′ a′ : List ℕ) (q r : Outcome) → GoalPromise s g w1 w2 b a q → GoalPromise s′ g′ w1′ w2′ b′ a′ r
     → outcomeNumber q ≡ outcomeNumber r → q ≡ r
 number-one s g s′ g′ w1 w2 w1′ w2′ b a b′ a′ q r p p′ e =
-    number-tells q r (promised-up-to-11 s g w1 w2 b a q p) (promised-up-to-11 s′ g′ w1′ w2′ b′ a′ r p′) e
+    number-tells q r (promised-but-12 s g w1 w2 b a q p) (promised-but-12 s′ g′ w1′ w2′ b′ a′ r p′) e

@@ -9,15 +9,16 @@ use Rattle.base.specs.Questions.{RefusedWith}
 use Rattle.base.proofs.QuestionLaws.{passed-not-refused}
 use Rattle.policy_image.specs.cases.Weir.{weir}
 use Rattle.policy_check.proofs.Tests.{accepted}
-use Rattle.policy_check.proofs.Cases.{weir-accepted, w10-short, w10-empty, w11}
-use Rattle.access.proofs.NoDomain.{w9-accepted, w9-nothing, w9-authorized, w9-flow}
+use Rattle.policy_check.proofs.Cases.{weir-accepted, w9-refused, w9-domain-accepted, w10-short, w10-empty, w11}
+use Rattle.access.proofs.NoDomain.{w9-nothing, w9-authorized, w9-flow}
 use Rattle.goal_image.specs.cases.WeirGoal.{goalG}
 use Rattle.goal_model.specs.Images.{model}
-use Rattle.flowgoal.specs.declared.goal.Outcome.{Outcome}
-use Rattle.flowgoal.specs.declared.goal.Outcome.the-variants as outcome
+use Rattle.goal_question.specs.declared.goal.Outcome.{Outcome}
+use Rattle.goal_question.specs.declared.goal.Outcome.the-variants as outcome
+use Rattle.paths.specs.Paths.{IsPath}
 use Rattle.paths.specs.Slice.{contextsIn, eventsIn, Shows}
-use Rattle.flowgoal.specs.GoalQuestion.{allQuestions, GoalPromise}
-use Rattle.flowgoal.proofs.GoalLaws.{order-one, not-both, not-holds-order, least-one}
+use Rattle.goal_question.specs.GoalQuestion.{allQuestions, GoalPromise}
+use Rattle.goal_question.proofs.GoalLaws.{order-one, not-both, not-holds-order, least-one}
 use Rattle.weir.specs.cases.Goals.{weirAllow41}
 use Rattle.weir.specs.cases.Weir.{W5Slice, Weir}
 use Rattle.weir.proofs.Accepted.{g-accepted, refused-11, work-length, w1-enough, w2-enough, w3-enough, w4-enough, w5-enough, w6-enough, w7-enough, w8-enough}
@@ -35,9 +36,9 @@ pub w5-slice : (before after : List ℕ) (r : Outcome) → 3 ≤ length before �
 w5-slice before after outcome.Holds room p = absurd (not-holds-order (model weirAllow41 goalG) 1 (p .1) w5)
 w5-slice before after (outcome.Order m) room p = shown m (order-one (model weirAllow41 goalG) m 1 (p .1) w5) (p .2)
   where
-    shown : (m : ℕ) → m ≡ 1 → Shows (model weirAllow41 goalG) m before after → W5Slice before after (outcome.Order m)
+    shown : (m : ℕ) → m ≡ 1 → Shows (IsPath (model weirAllow41 goalG)) m before after → W5Slice before after (outcome.Order m)
     shown m e h =
-        let k : Shows (model weirAllow41 goalG) 1 before after = subst (λ (i : ℕ). Shows (model weirAllow41 goalG) i before after) e h in
+        let k : Shows (IsPath (model weirAllow41 goalG)) 1 before after = subst (λ (i : ℕ). Shows (IsPath (model weirAllow41 goalG)) i before after) e h in
         let q = w5-path (contextsIn after) (eventsIn after) (k .path) in
         record { answer = ap outcome.Order e; whole = k .whole; x0 = q .0; e0 = q .1; x1 = q .2; rest = k .rest }
 w5-slice before after (outcome.Events m) room p = absurd (not-both (model weirAllow41 goalG) 1 m w5 (p .1))
@@ -60,8 +61,9 @@ weir-cases =
       w6 = record { accepted = w6-enough; answer = w6 };
       w7 = record { accepted = w7-enough; answer = w7 };
       w8 = record { accepted = w8-enough; answer = w8 };
-      w9-accepted = w9-accepted .it;
-      w9 = w9-nothing;
+      w9 = w9-refused .it;
+      w9-near = w9-domain-accepted .it;
+      w9-nothing = w9-nothing;
       w9-authorized = w9-authorized;
       w9-flow = w9-flow;
       w10 = λ s h. w10-short s h .it;

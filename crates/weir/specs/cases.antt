@@ -6,3 +6,6 @@ pub mod Weir
 pub mod Called
 pub mod Own
 pub mod Bytes
+pub mod StepsPolicies
+pub mod Steps
+pub mod StepsClauses

@@ -16,22 +16,34 @@ use Rattle.paths.specs.Slice.{contextsIn, eventsIn}
 use Rattle.paths.specs.inner.Monitor.{Edge, run}
 use Rattle.paths.proofs.Monitor.{run-is}
 use Rattle.paths.proofs.Monitors.{order-verdict, events-verdict}
-use Rattle.nodes.specs.declared.monitor.Mode.{Mode}
-use Rattle.nodes.specs.declared.monitor.Mode.the-variants.{Order, Events}
-use Rattle.nodes.specs.declared.task.Task.{Task}
-use Rattle.nodes.specs.inner.Tasks.{statesOf, States, Given, modelBy, watchBy, graphOf}
-use Rattle.nodes.specs.inner.Graph.{Graph, Chain, Chain.root, Chain.link}
-use Rattle.nodes.specs.inner.Nodes.{Watch, watchOf, monitorOf, stateOf, codeOf, StartAt, EdgeAt, EndAt, BadStart}
-use Rattle.nodes.proofs.SearchLaws.{chain-bound}
-use Rattle.memory.proofs.StandLaws.{at-place}
-use Rattle.witness.specs.inner.Links.{Linked}
-use Rattle.witness.specs.inner.Shown.{BreaksBy, Shown, NodeIn}
+use Rattle.search_graph.specs.declared.monitor.Mode.{Mode}
+use Rattle.search_graph.specs.declared.monitor.Mode.the-variants.{Order, Events, Any}
+use Rattle.search_graph.specs.declared.task.Task.{Task}
+use Rattle.search_graph.specs.inner.Tasks.{bitsIn, statesIn, States, Given, modelBy, watchBy, graphOf}
+use Rattle.search_graph.specs.inner.Graph.{Graph, Chain, Chain.root, Chain.link}
+use Rattle.search_graph.specs.inner.Nodes.{Watch, watchOf, monitorOf, stateOf, codeOf, StartAt, EdgeAt, EndAt, BadStart}
+use Rattle.search_graph.proofs.SearchLaws.{chain-bound}
+use Rattle.search_memory.proofs.StandLaws.{at-place}
+use Rattle.search.specs.declared.levels.LastStep.{LastStep}
+use Rattle.search.specs.declared.levels.LeastEnd.{LeastEnd}
+use Rattle.search.specs.declared.levels.LeastEnd.the-variants.{Start, At}
+use Rattle.search.specs.inner.Found.{FoundBy, FoundLeast}
+use Rattle.witness.specs.inner.Links.{LinkedNodes}
+use Rattle.witness.specs.inner.Shown.{BreaksBy, ShownPath, SearchFound, NodeIn}
+
+-- ---- what a search found, where it is a start, and where it is a step
+module _ {s plan : List ℕ} {t : Task} {back : List ℕ} {r : LeastEnd} (F : SearchFound s plan t back r) where
+  pub start-found : {x : ℕ} → r ≡ Start x → BadStart (modelBy s plan t) (watchBy s plan t) x
+  start-found q = subst (FoundLeast s plan t (F .bound) back) q (F .found) .bad
+
+  pub step-found : {l : LastStep} → r ≡ At l → FoundBy (graphOf s plan t) back l
+  step-found q = subst (FoundLeast s plan t (F .bound) back) q (F .found) .0 .found
 
 -- ---- the links
 pub record Last (g : Graph) (back : List ℕ) (d v : ℕ) : Type 0 where
   pub chain : Chain g back (d - 1) (getD back v 0 - 1)
   pub marked : 0 < getD back v 0
-  pub linked : Linked g (getD back v 0 - 1) v
+  pub linked : LinkedNodes g (getD back v 0 - 1) v
 
 -- the last link of a chain: to the node's parent
 pub unlink : {g : Graph} {back : List ℕ} {d v : ℕ} → Chain g back d v → 0 < d → Last g back d v
@@ -109,7 +121,7 @@ module _ (M : Model) (n : Counts) (W : Watch) (K : ℕ) where
 pub record Written (s plan : List ℕ) (t : Task) (back : List ℕ) (u v m : ℕ) (before path : List ℕ) (i : ℕ) : Type 0 where
   pub whole : length path ≡ length before
   pub rest : (j : ℕ) → 2 * m + 1 ≤ j → getD path j 0 ≡ getD before j 0
-  pub contexts : (j : ℕ) → i ≤ j → j ≤ m → contextsIn path j ≡ codeOf (t .counts) (statesOf t) (nodeAt back u v m j)
+  pub contexts : (j : ℕ) → i ≤ j → j ≤ m → contextsIn path j ≡ codeOf (t .counts) (statesIn t) (nodeAt back u v m j)
   pub steps : (j : ℕ) → i ≤ j → j < m → graphOf s plan t .Edge (nodeAt back u v m j) (eventsIn path j) (nodeAt back u v m (suc j))
 
 -- .. and the step before them is from w by e
@@ -123,7 +135,7 @@ pub record Writing (s plan : List ℕ) (t : Task) (back : List ℕ) (u v m : ℕ
 
 module _ {s plan : List ℕ} {t : Task} {back : List ℕ} {u v m : ℕ} (before : List ℕ) where
   -- the loop begins where the end is written
-  pub write-begin : {c e d : ℕ} → m ≡ d + 1 → 2 * m + 1 ≤ length before → c ≡ codeOf (t .counts) (statesOf t) v → graphOf s plan t .Edge u e v
+  pub write-begin : {c e d : ℕ} → m ≡ d + 1 → 2 * m + 1 ≤ length before → c ≡ codeOf (t .counts) (statesIn t) v → graphOf s plan t .Edge u e v
       → Chain (graphOf s plan t) back d u → Writing s plan t back u v m (set before (2 * m) c) (set before (2 * m) c) m u e
   write-begin {c} {e} {d} q room p ed ch =
       record {
@@ -132,7 +144,7 @@ module _ {s plan : List ℕ} {t : Task} {back : List ℕ} {u v m : ℕ} (before 
         written = record {
           whole = refl;
           rest = λ j h. refl;
-          contexts = λ j lo hi. let k : m ≡ j = omega arith in subst (λ (i : ℕ). contextsIn (set before (2 * m) c) i ≡ codeOf (t .counts) (statesOf t) (nodeAt back u v m i)) k at-end;
+          contexts = λ j lo hi. let k : m ≡ j = omega arith in subst (λ (i : ℕ). contextsIn (set before (2 * m) c) i ≡ codeOf (t .counts) (statesIn t) (nodeAt back u v m i)) k at-end;
           steps = λ j lo hi. absurd (omega arith);
         };
         node = ap (λ (i : ℕ). nodeBack back u v (suc i)) none;
@@ -143,15 +155,15 @@ module _ {s plan : List ℕ} {t : Task} {back : List ℕ} {u v m : ℕ} (before 
       none : m - m ≡ 0
       none = omega arith
 
-      at-end : contextsIn (set before (2 * m) c) m ≡ codeOf (t .counts) (statesOf t) (nodeAt back u v m m)
-      at-end = getD-set-same before (2 * m) c 0 (omega arith) ∙ p ∙ ap (λ (i : ℕ). codeOf (t .counts) (statesOf t) (nodeBack back u v i)) (sym none)
+      at-end : contextsIn (set before (2 * m) c) m ≡ codeOf (t .counts) (statesIn t) (nodeAt back u v m m)
+      at-end = getD-set-same before (2 * m) c 0 (omega arith) ∙ p ∙ ap (λ (i : ℕ). codeOf (t .counts) (statesIn t) (nodeBack back u v i)) (sym none)
 
   module _ {path : List ℕ} {i w e : ℕ} (R : Writing s plan t back u v m before path i w e) (room : 2 * m + 1 ≤ length before) where
     -- how far k, the place before i, is from the end
     far : {k : ℕ} → i ≡ suc k → m - k ≡ suc (m - i)
     far q = omega (arith, R .high)
 
-    module _ {k c : ℕ} (q : i ≡ suc k) (p : c ≡ codeOf (t .counts) (statesOf t) w) where
+    module _ {k c : ℕ} (q : i ≡ suc k) (p : c ≡ codeOf (t .counts) (statesIn t) w) where
       abbrev new : List ℕ
       new = set (set path (2 * k + 1) e) (2 * k) c
 
@@ -164,8 +176,8 @@ module _ {s plan : List ℕ} {t : Task} {back : List ℕ} {u v m : ℕ} (before 
       node : nodeAt back u v m k ≡ w
       node = ap (nodeBack back u v) (far q) ∙ R .node
 
-      here : contextsIn new k ≡ codeOf (t .counts) (statesOf t) (nodeAt back u v m k)
-      here = getD-set-same (set path (2 * k + 1) e) (2 * k) c 0 (omega (arith, R .high, size, length-set path (2 * k + 1) e)) ∙ p ∙ ap (codeOf (t .counts) (statesOf t)) (sym node)
+      here : contextsIn new k ≡ codeOf (t .counts) (statesIn t) (nodeAt back u v m k)
+      here = getD-set-same (set path (2 * k + 1) e) (2 * k) c 0 (omega (arith, R .high, size, length-set path (2 * k + 1) e)) ∙ p ∙ ap (codeOf (t .counts) (statesIn t)) (sym node)
 
       event : eventsIn new k ≡ e
       event = getD-set-other (set path (2 * k + 1) e) (2 * k) (2 * k + 1) c 0 (λ a. omega arith) ∙ getD-set-same path (2 * k + 1) e 0 (omega (arith, R .high, size))
@@ -178,7 +190,7 @@ module _ {s plan : List ℕ} {t : Task} {back : List ℕ} {u v m : ℕ} (before 
           record {
             whole = length-set (set path (2 * k + 1) e) (2 * k) c ∙ length-set path (2 * k + 1) e ∙ R .written .whole;
             rest = λ j h. other j (λ z. omega (arith, R .high)) (λ z. omega (arith, R .high)) ∙ R .written .rest j h;
-            contexts = λ j lo hi. ⊎-elim (λ (z : k ≡ j). subst (λ (a : ℕ). contextsIn new a ≡ codeOf (t .counts) (statesOf t) (nodeAt back u v m a)) z here)
+            contexts = λ j lo hi. ⊎-elim (λ (z : k ≡ j). subst (λ (a : ℕ). contextsIn new a ≡ codeOf (t .counts) (statesIn t) (nodeAt back u v m a)) z here)
                 (λ (z : k < j). other (2 * j) (λ a. omega arith) (λ a. omega arith) ∙ R .written .contexts j (omega arith) hi) (eq-or-lt-of-le lo);
             steps = λ j lo hi. ⊎-elim (λ (z : k ≡ j). subst (λ (a : ℕ). graphOf s plan t .Edge (nodeAt back u v m a) (eventsIn new a) (nodeAt back u v m (suc a))) z step)
                 (λ (z : k < j). subst (λ (a : ℕ). graphOf s plan t .Edge (nodeAt back u v m j) a (nodeAt back u v m (suc j))) (sym (other (2 * j + 1) (λ a. omega arith) (λ a. omega arith)))
@@ -200,15 +212,15 @@ module _ {s plan : List ℕ} {t : Task} {back : List ℕ} {u v m : ℕ} (before 
           }
 
       -- all is written
-      pub write-end : k ≡ 0 → EndAt (modelBy s plan t) (t .counts) (watchBy s plan t) (statesOf t) v → T (watchBy s plan t .bad (stateOf (statesOf t) v))
-          → Trail (modelBy s plan t) (t .counts) (watchBy s plan t) (statesOf t) m (nodeAt back u v m) (contextsIn new) (eventsIn new)
+      pub write-end : k ≡ 0 → EndAt (modelBy s plan t) (t .counts) (watchBy s plan t) (statesIn t) v → T (watchBy s plan t .bad (stateOf (statesIn t) v))
+          → Trail (modelBy s plan t) (t .counts) (watchBy s plan t) (statesIn t) m (nodeAt back u v m) (contextsIn new) (eventsIn new)
       write-end z en b =
           record {
             contexts = λ j hi. write-step .contexts j (omega arith) hi;
-            starts = subst (StartAt (modelBy s plan t) (t .counts) (watchBy s plan t) (statesOf t)) (sym node ∙ ap (nodeAt back u v m) z) (chain-start (R .chain) (omega arith));
+            starts = subst (StartAt (modelBy s plan t) (t .counts) (watchBy s plan t) (statesIn t)) (sym node ∙ ap (nodeAt back u v m) z) (chain-start (R .chain) (omega arith));
             steps = λ j hi. write-step .steps j (omega arith) hi;
-            ends = subst (λ (a : ℕ). EndAt (modelBy s plan t) (t .counts) (watchBy s plan t) (statesOf t) (nodeBack back u v a)) (sym none) en;
-            bad = subst (λ (a : ℕ). T (watchBy s plan t .bad (stateOf (statesOf t) (nodeBack back u v a)))) (sym none) b;
+            ends = subst (λ (a : ℕ). EndAt (modelBy s plan t) (t .counts) (watchBy s plan t) (statesIn t) (nodeBack back u v a)) (sym none) en;
+            bad = subst (λ (a : ℕ). T (watchBy s plan t .bad (stateOf (statesIn t) (nodeBack back u v a)))) (sym none) b;
           }
         where
           none : m - m ≡ 0
@@ -224,14 +236,15 @@ module _ {M : Model} {n : Counts} {K m : ℕ} {nodes : ℕ → ℕ} (after : Lis
   pub breaks-by : (mode : Mode) → 0 < M .legs → Trail M n (watchOf mode M) K m nodes (contextsIn after) (eventsIn after) → BreaksBy mode M m (contextsIn after) (eventsIn after)
   breaks-by Order some R = order-verdict M some (contextsIn after) (eventsIn after) m .0 (trail-bad M n (watchOf Order M) K R)
   breaks-by Events some R = events-verdict M (contextsIn after) (eventsIn after) m (trail-path M n (watchOf Events M) K R .starts) .0 (trail-bad M n (watchOf Events M) K R)
+  breaks-by Any some R = tt
 
   pub shown-by : {before : List ℕ} (mode : Mode) → 0 < M .legs → 2 * m + 1 ≤ length before → length after ≡ length before
-      → ((j : ℕ) → 2 * m + 1 ≤ j → getD after j 0 ≡ getD before j 0) → Trail M n (watchOf mode M) K m nodes (contextsIn after) (eventsIn after) → Shown M mode m before after
+      → ((j : ℕ) → 2 * m + 1 ≤ j → getD after j 0 ≡ getD before j 0) → Trail M n (watchOf mode M) K m nodes (contextsIn after) (eventsIn after) → ShownPath M mode m before after
   shown-by mode some room whole rest R =
       record { shows = record { room = room; whole = whole; rest = rest; path = trail-path M n (watchOf mode M) K R }; breaks = breaks-by mode some R }
 
 -- a start that is a bad end is a path of no steps
-pub shown-start : (M : Model) {x : ℕ} (mode : Mode) (before : List ℕ) → 0 < M .legs → 0 < length before → BadStart M (watchOf mode M) x → Shown M mode 0 before (set before 0 x)
+pub shown-start : (M : Model) {x : ℕ} (mode : Mode) (before : List ℕ) → 0 < M .legs → 0 < length before → BadStart M (watchOf mode M) x → ShownPath M mode 0 before (set before 0 x)
 shown-start M {x} mode before some room B =
     record {
       shows = record {
@@ -253,7 +266,7 @@ shown-start M {x} mode before some room B =
           flows = λ j h. absurd (omega arith);
           starts = rw here (B .begins .starts);
           meets = rw here (B .begins .meets);
-          arrives = rw here (B .arrives);
+          arrives = rw here (B .ends .arrives);
           first = λ j h. absurd (omega arith);
           free = λ j h. absurd (omega arith);
           freeE = λ j h. absurd (omega arith);
@@ -261,14 +274,15 @@ shown-start M {x} mode before some room B =
 
     breaks : (mode : Mode) → BadStart M (watchOf mode M) x → BreaksBy mode M 0 (contextsIn (set before 0 x)) (eventsIn (set before 0 x))
     breaks Order B =
-        order-verdict M some (contextsIn (set before 0 x)) (eventsIn (set before 0 x)) 0 .0 (subst (λ (a : ℕ). T (watchOf Order M .bad (watchOf Order M .start a))) (sym here) (B .verdict))
+        order-verdict M some (contextsIn (set before 0 x)) (eventsIn (set before 0 x)) 0 .0 (subst (λ (a : ℕ). T (watchOf Order M .bad (watchOf Order M .start a))) (sym here) (B .ends .verdict))
     breaks Events B =
         events-verdict M (contextsIn (set before 0 x)) (eventsIn (set before 0 x)) 0 (path .starts) .0
-        (subst (λ (a : ℕ). T (watchOf Events M .bad (watchOf Events M .start a))) (sym here) (B .verdict))
+        (subst (λ (a : ℕ). T (watchOf Events M .bad (watchOf Events M .start a))) (sym here) (B .ends .verdict))
+    breaks Any B = tt
 
 -- a node of the graph has a context with a code
-module _ {s plan : List ℕ} {t : Task} {k : ℕ} (A : Given s plan t) (S : States t k) where
-  pub node-in : {v : ℕ} → v < contextCount (t .counts) * statesOf t → NodeIn (t .counts) k v
+module _ {s plan : List ℕ} {t : Task} {k : ℕ} (A : Given s plan t) (S : States (bitsIn t) k) where
+  pub node-in : {v : ℕ} → v < contextCount (t .counts) * statesIn t → NodeIn (t .counts) k v
   node-in {v} h =
       let N = A .readable .sets .counts in
       record {
@@ -277,11 +291,11 @@ module _ {s plan : List ℕ} {t : Task} {k : ℕ} (A : Given s plan t) (S : Stat
         roles = omega (arith, N .roles);
         users = omega (arith, N .users);
         some = S .some;
-        below = at-place v (record { given = A; states-are = S }) h;
+        below = at-place v (record { readable = A .readable; states-are = S }) h;
       }
 
-  pub code-at : {c : ℕ} (v : ℕ) → c ≡ codeOf (t .counts) k v → c ≡ codeOf (t .counts) (statesOf t) v
+  pub code-at : {c : ℕ} (v : ℕ) → c ≡ codeOf (t .counts) k v → c ≡ codeOf (t .counts) (statesIn t) v
   code-at v q = q ∙ ap (λ (i : ℕ). codeOf (t .counts) i v) (S .same)
 
-  pub node-small : {v : ℕ} → v < contextCount (t .counts) * statesOf t → v < 2 ^ 26
+  pub node-small : {v : ℕ} → v < contextCount (t .counts) * statesIn t → v < 2 ^ 26
   node-small h = omega (arith, A .readable .nodes)

@@ -20,45 +20,44 @@ use Rattle.policy_image.specs.Policy.{policyOf}
 use Rattle.context.specs.declared.Context.{Context}
 use Rattle.context.specs.Codes.{eventOf}
 use Rattle.context.specs.Ranges.{ContextInRange}
-use Rattle.context.specs.inner.Places.{contextCount, contextAtIndex}
+use Rattle.context.specs.inner.Places.{contextCount, contextAtIndex, OfType}
 use Rattle.context.proofs.PlaceLaws.{at-in-range}
 use Rattle.access.specs.Authorization.{flow}
 use Rattle.goal_image.specs.Goal.{γeChain}
 use Rattle.paths.specs.Model.{Model}
 use Rattle.goal_model.specs.Images.{meetsρμ}
-use Rattle.plan.specs.inner.Entries.{specialAt, eventsAt}
+use Rattle.plan.specs.inner.Entries.{specialAt, eventSetsAt}
 use Rattle.plan.specs.inner.Plan.{special, PlanCounts}
-use Rattle.plan.specs.inner.Types.{OfType}
-use Rattle.steps.specs.declared.nearest.Asker.{Asker}
-use Rattle.steps.specs.declared.nearest.Offer.{Offer}
-use Rattle.steps.specs.inner.Nearest.{closed, Passed}
-use Rattle.steps.specs.inner.Steps.{heldBy, Offering, ResumesFrom, Facing, NextOffer}
-use Rattle.steps.proofs.FlowLaws.{flow-held}
-use Rattle.steps.proofs.FlowLaws as flow-laws
-use Rattle.steps.proofs.OfferLaws.{held-is}
-use Rattle.nodes.specs.declared.arrival.Arrival.{Arrival}
-use Rattle.nodes.specs.declared.arrival.Arrival.the-variants.{Enter, Dropped, Broken}
-use Rattle.nodes.specs.inner.Nodes.{Watch, codeAt, placeOf}
-use Rattle.nodes.specs.inner.Model.{barred}
-use Rattle.nodes.specs.inner.Arrivals.{Lands, LandsOpen, LandsGood, LandsBad, Arriving}
-use Rattle.nodes.specs.declared.task.Task.{Task}
-use Rattle.nodes.specs.inner.Tasks.{statesOf, States, Given, modelBy, watchBy, graphOf, typeOf, Stands}
-use Rattle.memory.specs.inner.Memory.{keepsOf}
-use Rattle.witness.specs.inner.Links.{LeastBelow, Linked, OfferedBetween}
-use Rattle.nodes.proofs.ModelLaws.{bounded, states-some, states-few}
-use Rattle.base.proofs.UptoLaws.{clash}
-use Rattle.memory.proofs.MemoryLaws.{AskerOf, memory-begin, edge-like, passed as remembered}
-use Rattle.nodes.proofs.LevelLaws.{place-lt, edge-flow, edge-free, edge-freeE, range-at, only-at, edge-at}
-use Rattle.memory.proofs.StandLaws.{Around, at-place, stand}
+use Rattle.search_steps.specs.declared.nearest.Asker.{Asker}
+use Rattle.search_steps.specs.declared.nearest.Offer.{Offer}
+use Rattle.search_steps.specs.inner.Nearest.{closed, PassedOver}
+use Rattle.search_steps.specs.inner.Steps.{heldBy, Offering, ResumesFrom, Facing, NextOffer}
+use Rattle.search_steps.proofs.FlowLaws.{flow-held}
+use Rattle.search_steps.proofs.FlowLaws as flow-laws
+use Rattle.search_steps.proofs.OfferLaws.{held-is}
+use Rattle.search_graph.specs.declared.arrival.Arrival.{Arrival}
+use Rattle.search_graph.specs.declared.arrival.Arrival.the-variants.{Enter, Dropped, Broken}
+use Rattle.search_graph.specs.inner.Nodes.{Watch, codeAt, placeOf}
+use Rattle.search_graph.specs.inner.Model.{barred}
+use Rattle.search_graph.specs.inner.Arrivals.{Lands, LandsOpen, LandsGood, LandsBad, Arriving}
+use Rattle.search_graph.specs.declared.task.Task.{Task}
+use Rattle.search_graph.specs.inner.Tasks.{bitsIn, statesIn, States, Given, modelBy, watchBy, graphOf, typeOf, Stands}
+use Rattle.search_memory.specs.inner.Memory.{keepsOf, AskerOf}
+use Rattle.witness.specs.inner.Links.{LeastBelow, LinkedNodes, OfferedBetween}
+use Rattle.search_graph.proofs.ModelLaws.{bounded, states-some, states-few}
+use Rattle.base.proofs.BoolLaws.{clash}
+use Rattle.search_memory.proofs.MemoryLaws.{memory-begin, edge-like, passed as remembered}
+use Rattle.search_graph.proofs.LevelLaws.{place-lt, edge-flow, edge-free, edge-freeE, range-at, only-at, edge-at}
+use Rattle.search_memory.proofs.StandLaws.{Around, at-place, stand}
 
 -- what has been looked for: no step before the offer leads from u to w
 pub record Looking (s plan : List ℕ) (t : Task) (u w : ℕ) (x : Context) (o : Offer) : Type 0 where
-  pub high : o .at ≤ 4194304
-  pub none : (j : ℕ) → 4096 * j + typeOf t w < o .at → graphOf s plan t .Edge u j w → ⊥
-  pub offers : o .at < 4194304 → Offering (policyOf s) plan (x .ty) (o .at / 4096) (o .at % 4096) (o .entry)
-  pub resumes : o .at < 4194304 → ResumesFrom plan x o
+  pub high : o .step ≤ 4194304
+  pub none : (j : ℕ) → 4096 * j + typeOf t w < o .step → graphOf s plan t .Edge u j w → ⊥
+  pub offers : o .step < 4194304 → Offering (policyOf s) plan (x .ty) (o .step / 4096) (o .step % 4096) (o .entry)
+  pub resumes : o .step < 4194304 → ResumesFrom plan x o
 
-module _ {s plan : List ℕ} {t : Task} (A : Given s plan t) {u w states : ℕ} (L : Linked (graphOf s plan t) u w) (St : States t states) where
+module _ {s plan : List ℕ} {t : Task} (A : Given s plan t) {u w states : ℕ} (L : LinkedNodes (graphOf s plan t) u w) (St : States (bitsIn t) states) where
   abbrev n : Counts
   n = t .counts
 
@@ -69,13 +68,13 @@ module _ {s plan : List ℕ} {t : Task} (A : Given s plan t) {u w states : ℕ} 
   W = watchBy s plan t
 
   abbrev K : ℕ
-  K = statesOf t
+  K = statesIn t
 
   N₀ : PlanCounts n
   N₀ = A .readable .sets .counts
 
-  fixed : Around s plan t states
-  fixed = record { given = A; states-are = St }
+  fixed : Around plan t states
+  fixed = record { readable = A .readable; states-are = St }
 
   pub from-below : u / states < contextCount n
   from-below = at-place u fixed (L .from)
@@ -120,16 +119,16 @@ module _ {s plan : List ℕ} {t : Task} (A : Given s plan t) {u w states : ℕ} 
     -- there
     pub passed : {a : Asker} {from : ℕ} {r : Offer} {swept : List ℕ} → AskerOf (t .mode) (replicate 256 0) x (u % states) a → getD swept (typeOf t w) 0 ≡ 0
         → NextOffer (policyOf s) plan swept a x from r → ((e : ℕ) → 4096 * e + typeOf t w < from → graphOf s plan t .Edge u e w → ⊥)
-        → (j : ℕ) → from ≤ 4096 * j + typeOf t w → 4096 * j + typeOf t w < r .at → graphOf s plan t .Edge u j w → ⊥
+        → (j : ℕ) → from ≤ 4096 * j + typeOf t w → 4096 * j + typeOf t w < r .step → graphOf s plan t .Edge u j w → ⊥
     passed {a} {swept = swept} Q Z N past j lo hi ed =
         ⊎-elim (λ h. remembered A (memory-begin s plan t []) (stand u fixed (L .from) q) (L .from) Q (L .to) ed (forgotten h) .seen refl)
-        (λ E. past (E .at) (E .before)
+        (λ E. past (E .event) (E .before)
         (edge-like A (memory-begin s plan t []) (stand u fixed (L .from) q) (L .from) Q (L .event .holds .edge .first) (L .to) ed (E .sets) (E .flows)))
         (N .none j (contextAtIndex n (placeOf K w)) (range-at A (stand u fixed (L .from) q) (L .to)) lo hi (flows j ed))
       where
-        forgotten : Passed plan swept a j (typeOf t w) → Passed plan (replicate 256 0) a j (typeOf t w)
+        forgotten : PassedOver plan swept a j (typeOf t w) → PassedOver plan (replicate 256 0) a j (typeOf t w)
         forgotten =
-            subst (λ (v : ℕ). (closed a (eventsAt plan j) v ≡ true) ⊎ ((a .spent ≡ true) × (bit (specialAt plan (j / 32)) (j % 32) ≡ false)))
+            subst (λ (v : ℕ). (closed a (eventSetsAt plan j) v ≡ true) ⊎ ((a .spent ≡ true) × (bit (specialAt plan (j / 32)) (j % 32) ≡ false)))
             (Z ∙ sym (zeros 256 (typeOf t w)))
 
     -- who asks
@@ -142,7 +141,7 @@ module _ {s plan : List ℕ} {t : Task} (A : Given s plan t) {u w states : ℕ} 
           few = omega (arith, mod-lt u (St .some), St .same, states-few t (A .readable .few-legs));
         }
 
-  module _ {x : Context} (q : x ≡ contextAtIndex n (u / states)) (e : ℕ) {by : ℕ} (E : by ≡ eventsAt plan e) where
+  module _ {x : Context} (q : x ≡ contextAtIndex n (u / states)) (e : ℕ) {by : ℕ} (E : by ≡ eventSetsAt plan e) where
     stands : Stands t u x (u % states)
     stands = stand u fixed (L .from) q
 
@@ -174,7 +173,7 @@ module _ {s plan : List ℕ} {t : Task} (A : Given s plan t) {u w states : ℕ} 
       no-break {v} k ed =
           let z : LandsBad M n W K (w / states) (W .step (u % states) e (codeAt n (w / states))) v
           = subst (Lands M n W K (w / states) (W .step (u % states) e (codeAt n (w / states)))) k lands in
-          no-end (z .arrives)
+          no-end (z .ends .arrives)
 
       module _ {b c : Bool} {x′ : Context} (p : b ≡ bit by γeChain) (off : b ≡ false) (q′ : x′ ≡ contextAtIndex n (w / states)) (f : c ≡ flow (policyOf s) (eventOf e) x x′) (on : not c ≡ false) where
         pub decided : (v : ℕ) → r ≡ Enter v → Decides (eqb v w) (graphOf s plan t .Edge u e w)
@@ -217,33 +216,33 @@ module _ {s plan : List ℕ} {t : Task} (A : Given s plan t) {u w states : ℕ} 
         record { high = N .high; none = λ j h. passed q Q Z N (λ e k. absurd (omega arith)) j (omega arith) h; offers = N .offers; resumes = N .resumes }
 
     module _ {o : Offer} (K : Looking s plan t u w x o) where
-      pub offered : {y : Context} → y ≡ contextAtIndex n (w / states) → o .at < 4194304 → o .at % 4096 ≡ y .ty → OfferedBetween s plan t u (o .at / 4096) (o .entry) w
+      pub offered : {y : Context} → y ≡ contextAtIndex n (w / states) → o .step < 4194304 → o .step % 4096 ≡ y .ty → OfferedBetween s plan t u (o .step / 4096) (o .entry) w
       offered q′ h k =
-          subst₂ (λ (a b : ℕ). Offering (policyOf s) plan a (o .at / 4096) b (o .entry)) (ap (λ (z : Context). z .ty) (stand u fixed (L .from) q .place)) (k ∙ type-is q′)
+          subst₂ (λ (a b : ℕ). Offering (policyOf s) plan a (o .step / 4096) b (o .entry)) (ap (λ (z : Context). z .ty) (stand u fixed (L .from) q .place)) (k ∙ type-is q′)
           (K .offers h)
 
       -- a step at the offer is by its event to its type
-      pub only-here : (j : ℕ) → o .at ≡ 4096 * j + typeOf t w → (o .at / 4096 ≡ j) × (o .at % 4096 ≡ typeOf t w)
+      pub only-here : (j : ℕ) → o .step ≡ 4096 * j + typeOf t w → (o .step / 4096 ≡ j) × (o .step % 4096 ≡ typeOf t w)
       only-here j h = let k = type-small in (omega arith, omega arith)
 
-      pub look-more : {r : Offer} {swept : List ℕ} → getD swept (typeOf t w) 0 ≡ 0 → NextOffer (policyOf s) plan swept a x (o .at + 1) r → ((j : ℕ) → o .at ≡ 4096 * j + typeOf t w → graphOf s plan t .Edge u j w → ⊥)
+      pub look-more : {r : Offer} {swept : List ℕ} → getD swept (typeOf t w) 0 ≡ 0 → NextOffer (policyOf s) plan swept a x (o .step + 1) r → ((j : ℕ) → o .step ≡ 4096 * j + typeOf t w → graphOf s plan t .Edge u j w → ⊥)
           → Looking s plan t u w x r
       look-more {r} Z N here =
-          record { high = N .high; none = λ j h ed. go j h ed (decLt (4096 * j + typeOf t w) (o .at)); offers = N .offers; resumes = N .resumes }
+          record { high = N .high; none = λ j h ed. go j h ed (decLt (4096 * j + typeOf t w) (o .step)); offers = N .offers; resumes = N .resumes }
         where
-          past : (e : ℕ) → 4096 * e + typeOf t w < o .at + 1 → graphOf s plan t .Edge u e w → ⊥
+          past : (e : ℕ) → 4096 * e + typeOf t w < o .step + 1 → graphOf s plan t .Edge u e w → ⊥
           past e h ed =
-              ⊎-elim (λ (z : 4096 * e + typeOf t w ≡ o .at). here e (sym z) ed) (λ (z : 4096 * e + typeOf t w < o .at). K .none e z ed) (eq-or-lt-of-le (omega arith))
+              ⊎-elim (λ (z : 4096 * e + typeOf t w ≡ o .step). here e (sym z) ed) (λ (z : 4096 * e + typeOf t w < o .step). K .none e z ed) (eq-or-lt-of-le (omega arith))
 
-          go : (j : ℕ) → 4096 * j + typeOf t w < r .at → graphOf s plan t .Edge u j w → Dec (4096 * j + typeOf t w < o .at) → ⊥
+          go : (j : ℕ) → 4096 * j + typeOf t w < r .step → graphOf s plan t .Edge u j w → Dec (4096 * j + typeOf t w < o .step) → ⊥
           go j h ed (yes k) = K .none j k ed
           go j h ed (no k) =
-              ⊎-elim (λ (z : o .at ≡ 4096 * j + typeOf t w). here j z ed) (λ (z : o .at < 4096 * j + typeOf t w). passed q Q Z N past j (omega arith) h ed)
+              ⊎-elim (λ (z : o .step ≡ 4096 * j + typeOf t w). here j z ed) (λ (z : o .step < 4096 * j + typeOf t w). passed q Q Z N past j (omega arith) h ed)
               (eq-or-lt-of-le (omega arith))
 
-      pub look-found : o .at < 4194304 → graphOf s plan t .Edge u (o .at / 4096) w → LeastBelow (λ e. graphOf s plan t .Edge u e w) 1024 (o .at / 4096)
+      pub look-found : o .step < 4194304 → graphOf s plan t .Edge u (o .step / 4096) w → LeastBelow (λ e. graphOf s plan t .Edge u e w) 1024 (o .step / 4096)
       look-found h ed =
           record { within = omega arith; holds = ed; before = λ j k. K .none j (let z = type-small in omega arith) }
 
-      pub look-end : 4194304 ≤ o .at → ⊥
+      pub look-end : 4194304 ≤ o .step → ⊥
       look-end h = K .none (L .event .which) (let z = type-small in omega (arith, L .event .within)) (L .event .holds)

@@ -3,48 +3,48 @@
 use base::bits::has_bit;
 use context::Context;
 use goal_image::sets::EXCEPTED_EVENTS;
-use memory::keeps_of;
-use nodes::arrival::Arrival;
-use nodes::arrival::arrive;
-use nodes::task::Task;
-use nodes::task::states_of;
-use plan::regions::EVENTS;
+use plan::regions::EVENT_SETS_START;
 use plan::regions::TYPE_CODES;
-use steps::nearest::Asker;
-use steps::nearest::NONE;
-use steps::offers::first_offer;
-use steps::offers::next_offer;
-use steps::targets::is_held;
-use steps::targets::is_special;
-use steps::targets::is_target;
-use tables::tables::TYPES;
+use plan_tables::TYPES;
+use search_graph::arrival::Arrival;
+use search_graph::arrival::arrive;
+use search_graph::task::Task;
+use search_graph::task::states_in;
+use search_memory::keeps_of;
+use search_steps::nearest::Asker;
+use search_steps::nearest::NONE;
+use search_steps::offers::first_offer;
+use search_steps::offers::next_offer;
+use search_steps::targets::is_held;
+use search_steps::targets::is_special;
+use search_steps::targets::is_target;
 ghost use Rattle.base.specs.inner.Decides.{Decides};
 ghost use Rattle.plan.specs.inner.Regions.{eventEntries};
-ghost use Rattle.nodes.specs.inner.Tasks.{Given, graphOf};
-ghost use Rattle.witness.specs.inner.Links.{LeastBelow, Linked, OfferedBetween};
+ghost use Rattle.search_graph.specs.inner.Tasks.{Given, graphOf};
+ghost use Rattle.witness.specs.inner.Links.{LeastBelow, LinkedNodes, OfferedBetween};
 
 // Whether the event, which the entry offers from u's type to w's, leads from node u to node w.
 fn is_step(policy: &[u8], plan: &[u32], task: Task, u: u32, e: u32, entry: usize, w: u32) -> bool
-    requires { ⌜ Given (now policy) (now plan) task × Linked (graphOf (now policy) (now plan) task) u w × OfferedBetween (now policy) (now plan) task u e entry w ⌝ }
+    requires { ⌜ Given (now policy) (now plan) task × LinkedNodes (graphOf (now policy) (now plan) task) u w × OfferedBetween (now policy) (now plan) task u e entry w ⌝ }
     ensures { λ r. ⌜ Decides r (graphOf (now (policy .entry)) (now (plan .entry)) task .Edge u e w) ⌝ }
 {
     let counts = task.counts;
-    let states = states_of(task);
-    let by = plan[EVENTS + (e as usize)];
+    let states = states_in(task);
+    let by = plan[EVENT_SETS_START + (e as usize)];
     if has_bit(by, EXCEPTED_EVENTS) {
         return false;
     }
     let x = Context::at(u / states, counts);
-    let y = w / states;
-    let ty = Context::at(y, counts).ty;
-    if !is_held(counts, plan, ty, y) {
+    let place = w / states;
+    let ty = Context::at(place, counts).ty;
+    if !is_held(counts, plan, ty, place) {
         return false;
     }
-    let guarded = is_special(plan, e);
-    if !is_target(policy, counts, plan, x, e, entry, guarded, y) {
+    let special = is_special(plan, e);
+    if !is_target(policy, counts, plan, x, e, entry, special, place) {
         return false;
     }
-    match arrive(plan, task, u % states, by, ty, y) {
+    match arrive(plan, task, u % states, by, ty, place) {
         Arrival::Enter(v) => v == w,
         Arrival::Dropped => false,
         Arrival::Broken(_) => false,
@@ -53,12 +53,12 @@ fn is_step(policy: &[u8], plan: &[u32], task: Task, u: u32, e: u32, entry: usize
 
 // The least event that leads from node u to node w, of which there is one.
 pub fn least_event(policy: &[u8], plan: &[u32], task: Task, u: u32, w: u32) -> u32
-    requires { ⌜ Given (now policy) (now plan) task × Linked (graphOf (now policy) (now plan) task) u w ⌝ }
+    requires { ⌜ Given (now policy) (now plan) task × LinkedNodes (graphOf (now policy) (now plan) task) u w ⌝ }
     ensures { λ r. ⌜ LeastBelow (λ e. graphOf (now (policy .entry)) (now (plan .entry)) task .Edge u e w) eventEntries r ⌝ }
 {
     let counts = task.counts;
     let mode = task.mode;
-    let states = states_of(task);
+    let states = states_in(task);
     let x = Context::at(u / states, counts);
     let y = Context::at(w / states, counts);
     // only the steps to w's type are asked
@@ -71,9 +71,9 @@ pub fn least_event(policy: &[u8], plan: &[u32], task: Task, u: u32, w: u32) -> u
         spent: false,
     };
     let mut offer = first_offer(plan, &swept, a, x.ty);
-    while offer.at < NONE {
-        let e = offer.at / TYPE_CODES;
-        if offer.at % TYPE_CODES == y.ty {
+    while offer.step < NONE {
+        let e = offer.step / TYPE_CODES;
+        if offer.step % TYPE_CODES == y.ty {
             if is_step(policy, plan, task, u, e, offer.entry, w) {
                 return e;
             }

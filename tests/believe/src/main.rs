@@ -1,5 +1,5 @@
 //! What has to be believed for the outward promises, computed from the files, and whether the files and `docs/BELIEVE.md` are
-//! in step with it. The only thing written down here is the name of the outward crate.
+//! in step with it. Only the names of the outward crates are written down here.
 mod closure;
 mod modules;
 mod page;

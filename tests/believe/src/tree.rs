@@ -6,8 +6,8 @@ use std::collections::BTreeMap;
 use std::fs;
 use std::path::Path;
 
-/// The crate whose `pub` functions are the outward calls, but for those of modules that it keeps to itself and has no C call in.
-pub const OUTWARD: &str = "flowgoal";
+/// The crates whose `pub` functions are the outward calls, but for those of modules that a crate keeps to itself and has no C call in.
+pub const OUTWARD: [&str; 4] = ["bare_questions", "goal_question", "least_steps", "flowgoal"];
 
 pub struct Tree {
     pub specs: BTreeMap<Module, SpecFile>,
@@ -59,12 +59,16 @@ impl Tree {
         Tree { specs, code, page, readme }
     }
 
-    /// The files of the outward crate's code that have something to call: for another crate, which is all of them where some file passes
-    /// anything on by `pub use`, or for C, which asks no module.
+    /// The files of the outward crates' code that have something to call.
     pub fn outward(&self) -> impl Iterator<Item = (&String, &RattleFile)> {
-        let folder = format!("crates/{OUTWARD}/src/");
-        let own = move |path: &str| path.starts_with(&folder);
-        let of_crate: Vec<_> = self.code.iter().filter(|(path, _)| own(path)).collect();
+        OUTWARD.into_iter().flat_map(|of| self.outward_of(of))
+    }
+
+    /// Those of one crate: for another crate, which is all of them where some file passes anything on by `pub use`, or for C, which asks no
+    /// module.
+    pub fn outward_of(&self, of: &str) -> impl Iterator<Item = (&String, &RattleFile)> {
+        let folder = format!("crates/{of}/src/");
+        let of_crate: Vec<_> = self.code.iter().filter(|(path, _)| path.starts_with(&folder)).collect();
         let passes_on = of_crate.iter().any(|(_, file)| file.passes_on);
         let private: Vec<String> = of_crate
             .iter()

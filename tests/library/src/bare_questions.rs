@@ -1,9 +1,9 @@
 //! One case of the bare questions: contexts and events of the policy, and some that are out of range.
-use crate::calls::bare;
-use crate::cases::Case;
+use crate::asking::Asker;
+use crate::cases::{landed, Case};
 use crate::tally::Tally;
-use flowgoal_calls::Bare;
-use second_search::answer::bare_question;
+use flowgoal_calls::{Answer, Bare};
+use second_search::answer::bare_question_landed;
 use second_search::gen::Rng;
 use second_search::policy::{Context, Event};
 
@@ -11,7 +11,7 @@ use second_search::policy::{Context, Event};
 const ASKED: usize = 6;
 
 /// A number from 1 to the count mostly; at times 0, one more than the count, or one that is right in its low byte only.
-fn near(rng: &mut Rng, count: u32) -> u32 {
+pub fn near(rng: &mut Rng, count: u32) -> u32 {
     match rng.range(0, 99) {
         0 => 0,
         1 => count + 1,
@@ -22,7 +22,7 @@ fn near(rng: &mut Rng, count: u32) -> u32 {
 }
 
 /// What the header's bytes say of the counts, accepted or not.
-fn counts(policy: &[u8]) -> [u32; 4] {
+pub fn counts(policy: &[u8]) -> [u32; 4] {
     [0, 1, 2, 3].map(|i| policy.get(i).map_or(1, |&count| (count as u32).max(1)))
 }
 
@@ -55,18 +55,25 @@ fn arguments(rng: &mut Rng, policy: &[u8]) -> (Context, Context, Event) {
     (x, y, e)
 }
 
-pub fn ask(case: &mut Case, tally: &mut Tally) -> Result<(), String> {
+pub fn ask(asker: Asker, case: &mut Case, tally: &mut Tally) -> Result<(), String> {
     for question in [Bare::Authorized, Bare::Flows] {
         for _ in 0..ASKED {
             let (x, y, e) = arguments(&mut case.rng, &case.policy);
-            let wanted = match bare_question(&case.policy, question == Bare::Flows, x, y, e) {
-                Ok(yes) => yes as u64,
-                Err(number) => 4 * number as u64 + 3,
+            let wanted = match bare_question_landed(landed(), &case.policy, question == Bare::Flows, x, y, e) {
+                Ok(true) => Answer::Yes,
+                Ok(false) => Answer::No,
+                Err(number) => Answer::Refused(number),
             };
-            let number = bare(question, &case.policy, x, y, e);
-            tally.bare(question, number);
-            if number != wanted {
-                return Err(format!("{question:?} of {x:?}, {y:?}, {e:?}: {number}, expected {wanted}"));
+            let asked = || format!("{question:?} of {x:?}, {y:?}, {e:?}");
+            let answer = asker.library.bare(question, &case.policy, x, y, e);
+            asker.say(|| match answer {
+                Ok(answer) => format!("{}: the second search says {wanted}, the library {answer}", asked()),
+                Err(stray) => format!("{}: the second search says {wanted}, and from the library {stray}", asked()),
+            });
+            let answer = answer.map_err(|stray| format!("{}: {stray}", asked()))?;
+            tally.bare(question, answer);
+            if answer != wanted {
+                return Err(format!("{}: {answer}, expected {wanted}", asked()));
             }
         }
     }

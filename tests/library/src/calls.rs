@@ -1,5 +1,5 @@
-//! The outward calls, and the slices that are lent to them.
-use flowgoal_calls::Bare;
+//! The outward calls of a library, and the slices that are lent to them.
+use flowgoal_calls::{Answer, Bare, Outcome, Steps, Stray};
 use second_search::policy::{Context, Event};
 
 /// Entries on either side of a lent slice that no call may touch.
@@ -37,12 +37,47 @@ impl Lent {
     }
 }
 
-/// The goal question; both work slices and the path slice keep what the call left in them.
-pub fn check(policy: &[u8], goal: &[u8], work: &mut [Lent; 2], path: &mut Lent) -> u64 {
-    let [work1, work2] = work;
-    flowgoal_calls::check(policy, goal, work1.lend(), work2.lend(), path.lend())
+/// The goal question: policy, goal, both work slices and the path slice.
+pub type GoalQuestion = fn(&[u8], &[u8], &mut [u32], &mut [u32], &mut [u32]) -> Result<Outcome, Stray>;
+/// A bare question: which, the policy, either context and the event.
+pub type BareQuestion = fn(Bare, &[u8], [u32; 3], [u32; 3], [u32; 2]) -> Result<Answer, Stray>;
+
+/// Least steps: the policy, either context, both work slices and the path slice.
+pub type LeastSteps = fn(&[u8], [u32; 3], [u32; 3], &mut [u32], &mut [u32], &mut [u32]) -> Result<Steps, Stray>;
+
+/// The calls of a library: of the one that is linked, or, in the trials, of one that is wrong.
+#[derive(Clone, Copy)]
+pub struct Library {
+    pub goal_question: GoalQuestion,
+    pub bare_question: BareQuestion,
+    pub least_steps: LeastSteps,
 }
 
-pub fn bare(question: Bare, policy: &[u8], x: Context, y: Context, e: Event) -> u64 {
-    flowgoal_calls::bare(question, policy, [x.t, x.r, x.u], [y.t, y.r, y.u], [e.c, e.p])
+pub const LINKED: Library = Library {
+    goal_question: flowgoal_calls::check,
+    bare_question: flowgoal_calls::bare,
+    least_steps: flowgoal_calls::least_steps,
+};
+
+fn numbers(x: Context) -> [u32; 3] {
+    [x.t, x.r, x.u]
+}
+
+impl Library {
+    /// The goal question; both work slices and the path slice keep what the call left in them.
+    pub fn check(&self, policy: &[u8], goal: &[u8], work: &mut [Lent; 2], path: &mut Lent) -> Result<Outcome, Stray> {
+        let [work1, work2] = work;
+        (self.goal_question)(policy, goal, work1.lend(), work2.lend(), path.lend())
+    }
+
+    pub fn bare(&self, question: Bare, policy: &[u8], x: Context, y: Context, e: Event) -> Result<Answer, Stray> {
+        (self.bare_question)(question, policy, numbers(x), numbers(y), [e.c, e.p])
+    }
+
+    /// Least steps; the slices keep what the call left in them.
+    pub fn steps(&self, policy: &[u8], pair: [Context; 2], work: &mut [Lent; 2], path: &mut Lent) -> Result<Steps, Stray> {
+        let [work1, work2] = work;
+        let [x, y] = pair.map(numbers);
+        (self.least_steps)(policy, x, y, work1.lend(), work2.lend(), path.lend())
+    }
 }

@@ -1,97 +1,76 @@
 //! One case of the goal question: the library's answers for every length of the lent slices against the second search's one.
-use crate::calls::{check, Lent};
-use crate::cases::{nodes, Case, LIMIT};
+use crate::asking::Asker;
+use crate::calls::{Lent, Library};
+use crate::cases::{landed, nodes, Case, LIMIT};
+use crate::lending::{on_one_line, Asking, Lengths, Question, Shortest};
 use crate::tally::Tally;
-use second_search::answer::{check_both, goal_question, Answer};
-use second_search::paths::{validate, Sort};
+use flowgoal_calls::{Outcome, Stray};
+use second_search::answer::{check_both_landed, goal_question_landed, Answer};
+use second_search::paths::{validate, Path, Sort};
 
-/// With more nodes than this, not every length of the path slice is tried.
-const EVERY_LENGTH: usize = 4096;
-
-/// The library's number for the case, each work slice being lent as many entries as are needed, or the limit where more are.
-pub fn ask(case: &mut Case, limit: usize, tally: &mut Tally) -> Result<u64, String> {
-    let both = check_both(&case.policy, &case.goal);
+/// The library's answer to the case, each work slice being lent as many entries as are needed, or the limit where more are.
+pub fn ask(asker: Asker, case: &mut Case, limit: usize, tally: &mut Tally) -> Result<Outcome, String> {
+    let Case { policy, goal, rng, .. } = case;
+    let both = check_both_landed(landed(), policy, goal);
     let need = both.as_ref().map_or(LIMIT, |(p, g)| nodes(p, g));
     let searched = both.is_ok() && need <= limit;
     tally.nodes(if searched { need } else { 0 });
     let lent = need.min(limit);
-    let ours = goal_question(&case.policy, &case.goal, [lent; 2], &mut vec![0; 2 * lent + 1]);
-    let number = ours.number();
-    match &ours {
-        Answer::Broken(sort, path) => {
-            let m = path.steps();
-            for length in path_lengths(m, need) {
-                broken(case, [lent; 2], length, *sort, m, tally)?;
-            }
-            broken(case, [lent + 1, lent + 5], 2 * m + 1, *sort, m, tally)?;
+    let ours = goal_question_landed(landed(), policy, goal, [lent; 2], &mut vec![0; 2 * lent + 1]);
+    asker.say(|| format!("the second search says: {}", on_one_line(&ours.print())));
+    // the second search has a formula of its own for the number, so that both are held to it
+    let wanted = Outcome::from_raw(ours.number()).map_err(|stray| format!("the second search: {stray}"))?;
+    let mut asking = Asking { asker, question: OfGoal { policy, goal }, tally };
+    match (&ours, &both) {
+        (Answer::Broken(sort, path), Ok((p, g))) => {
+            let steps = path.steps();
+            let valid = |shown: &[u32]| validate(p, g, shown, *sort, steps);
+            asking.every_length(lent, &Shortest { steps, answer: wanted, validate: &valid })?;
         }
         _ => {
-            let length = case.rng.range(0, 9) as usize;
-            untouched(case, [lent; 2], length, number, tally)?;
+            let path = rng.range(0, 9) as usize;
+            asking.untouched(Lengths { work: [lent; 2], path }, wanted)?;
         }
     }
     if searched {
-        for work in [[need - 1, need], [need, need - 1]] {
-            untouched(case, work, 9, 4 * 11 + 3, tally)?;
-        }
+        asking.too_little_work(need)?;
     } else if both.is_err() {
         // a refused image comes before the work slices
-        untouched(case, [0, 0], 0, number, tally)?;
+        asking.untouched(Lengths { work: [0, 0], path: 0 }, wanted)?;
     }
-    Ok(number)
+    Ok(wanted)
 }
 
-/// Every length from 0 to 2m + 2, or the ones around the turns where the search takes long.
-fn path_lengths(m: usize, nodes: usize) -> Vec<usize> {
-    match nodes <= EVERY_LENGTH {
-        true => (0..=2 * m + 2).collect(),
-        false => vec![0, 2 * m, 2 * m + 1, 2 * m + 2],
-    }
+struct OfGoal<'a> {
+    policy: &'a [u8],
+    goal: &'a [u8],
 }
 
-/// One call, with what must hold of every call; gives the number and the path slice.
-fn call(case: &Case, work: [usize; 2], length: usize, tally: &mut Tally) -> Result<(u64, Lent), String> {
-    let mut lent = work.map(Lent::new);
-    let mut path = Lent::new(length);
-    let (policy, goal) = (case.policy.clone(), case.goal.clone());
-    let number = check(&policy, &goal, &mut lent, &mut path);
-    tally.goal(number);
-    let with = || format!("work slices {work:?}, path slice {length}");
-    if policy != case.policy || goal != case.goal {
-        return Err(format!("an image was changed ({})", with()));
+impl Question for OfGoal<'_> {
+    type Answer = Outcome;
+    const NO_WORK: Outcome = Outcome::Refused(11);
+    fn no_room(steps: u32) -> Outcome {
+        Outcome::NoRoom(steps)
     }
-    if !lent.iter().all(Lent::kept_inside) || !path.kept_inside() {
-        return Err(format!("an entry outside a lent slice was changed ({})", with()));
+    fn images(&self) -> Vec<&[u8]> {
+        vec![self.policy, self.goal]
     }
-    Ok((number, path))
-}
-
-/// A call that must give the number and leave the path slice alone.
-fn untouched(case: &Case, work: [usize; 2], length: usize, wanted: u64, tally: &mut Tally) -> Result<(), String> {
-    let (number, path) = call(case, work, length, tally)?;
-    if number != wanted {
-        return Err(format!("{number}, expected {wanted} (work slices {work:?}, path slice {length})"));
+    fn call(&self, library: Library, images: &[Vec<u8>], work: &mut [Lent; 2], path: &mut Lent) -> Result<Outcome, Stray> {
+        library.check(&images[0], &images[1], work, path)
     }
-    match path.unchanged_from(0) {
-        true => Ok(()),
-        false => Err(format!("the path slice was changed with the number {number} (path slice {length})")),
+    fn count(outcome: Outcome, tally: &mut Tally) {
+        tally.goal(outcome);
     }
-}
-
-/// A call on a goal that m steps break: 12 with m where the path has no room, and else a path that breaks what is named.
-fn broken(case: &Case, work: [usize; 2], length: usize, sort: Sort, m: usize, tally: &mut Tally) -> Result<(), String> {
-    let steps = 256 * m as u64;
-    if length < 2 * m + 1 {
-        return untouched(case, work, length, steps + 4 * 12 + 3, tally);
+    /// As the goal program would print it.
+    fn record(outcome: Outcome, slice: &[u32]) -> String {
+        let path = slice.get(..2 * outcome.steps() as usize + 1).map(Path::from_entries);
+        match (outcome, path) {
+            (Outcome::Order(_), Some(path)) => on_one_line(&Answer::Broken(Sort::Order, path).print()),
+            (Outcome::Events(_), Some(path)) => on_one_line(&Answer::Broken(Sort::Events, path).print()),
+            _ => outcome.to_string(),
+        }
     }
-    let wanted = steps + if sort == Sort::Order { 1 } else { 2 };
-    let (number, path) = call(case, work, length, tally)?;
-    if number != wanted {
-        return Err(format!("{number}, expected {wanted} (work slices {work:?}, path slice {length})"));
+    fn asked(&self) -> String {
+        String::new()
     }
-    if !path.unchanged_from(2 * m + 1) {
-        return Err(format!("an entry from 2m + 1 on was changed (path slice {length})"));
-    }
-    let (policy, goal) = check_both(&case.policy, &case.goal).expect("accepted above");
-    validate(&policy, &goal, &path.entries()[..2 * m + 1], sort, m).map_err(|why| format!("the path shown: {why}"))
 }

@@ -1,92 +1,103 @@
-//! The static library's outward calls against the second search, on generated and on damaged cases; or, given folders with
-//! images, on those. Its last line is 'N passed, M failed'.
+//! The static library's outward calls against the second search, on generated and on damaged cases; or on one of them alone; or,
+//! given folders with images, on those. Its last line is 'N passed, M failed'.
+mod asking;
 mod bare_questions;
 mod calls;
 mod cases;
 mod goal_question;
+mod kept;
+mod least_steps;
+mod lending;
 mod misread;
+mod numbers;
+mod pairs;
 mod tally;
+mod trials;
+mod wrong_libraries;
 
-use cases::{damaged, generated, stored, Case, DAMAGED, GENERATED, LIMIT};
-use misread::Asked;
+use asking::{ask, ask_all, Asked, Asker};
+use calls::LINKED;
+use cases::{stored, Numbered, DAMAGED, GENERATED, LIMIT};
+use std::path::{Path, PathBuf};
 use tally::Tally;
 
-/// Failing cases that are shown.
-const SHOWN: usize = 10;
+const USAGE: &str = "usage: tests/library/run [generated NUMBER | damaged NUMBER | FOLDER..]
+Each FOLDER has policy.img and goal.img. (The program itself is first given the folder for the images that it keeps.)";
 
-/// All questions of one case; the library's number for the goal question where nothing failed.
-fn ask(mut case: Case, limit: usize, tally: &mut Tally) -> Option<u64> {
-    let goal = goal_question::ask(&mut case, limit, tally);
-    let bare = bare_questions::ask(&mut case, tally);
-    for failure in [goal.as_ref().err(), bare.as_ref().err()].into_iter().flatten() {
-        tally.fail(format!("{}: {failure}", case.name));
-    }
-    goal.ok()
+/// How many passed and how many failed, of one thing that is tested.
+fn result(passed: bool) -> (u64, u64) {
+    (passed as u64, !passed as u64)
 }
 
-/// The cases numbered 0 to count - 1, in as many threads as the machine has processors.
-fn ask_all(case: fn(u64) -> Case, count: u64, threads: usize) -> (Tally, Vec<Option<u64>>) {
-    let part = |of: usize| {
-        let mut tally = Tally::default();
-        let answers: Vec<_> = (of as u64..count).step_by(threads).map(|k| (k, ask(case(k), LIMIT, &mut tally))).collect();
-        (tally, answers)
-    };
-    std::thread::scope(|scope| {
-        let parts: Vec<_> = (0..threads).map(|of| scope.spawn(move || part(of))).collect();
-        let (mut tally, mut answers) = (Tally::default(), vec![None; count as usize]);
-        for part in parts {
-            let (counted, some) = part.join().expect("a thread of the cases");
-            tally.add(counted);
-            for (k, answer) in some {
-                answers[k as usize] = answer;
-            }
-        }
-        (tally, answers)
-    })
+fn report(asked: &Asked, kept: &Path) -> (u64, u64) {
+    kept::told(asked, kept).iter().for_each(|line| println!("{line}"));
+    println!("{} {} cases: {} failed", asked.cases.count, asked.cases.sort, asked.failures.len());
+    result(asked.failures.is_empty())
 }
 
-fn report(what: &str, count: u64, tally: &Tally) -> (u64, u64) {
-    let failures = tally.failures();
-    for failure in failures.iter().take(SHOWN) {
-        println!("{failure}");
-    }
-    println!("{count} {what} cases: {} failed", failures.len());
-    (failures.is_empty() as u64, !failures.is_empty() as u64)
-}
-
-/// Generated and damaged cases, what they met, and the misreadings that they tell apart.
-fn ask_seeded() -> Vec<(u64, u64)> {
+/// Generated and damaged cases, what they met, the misreadings that they tell apart, and the wrong libraries.
+fn ask_numbered(kept: &Path) -> Vec<(u64, u64)> {
     let threads = std::thread::available_parallelism().map_or(2, |n| n.get());
-    println!("the library against the second search, {GENERATED} generated cases and {DAMAGED} damaged ones ..");
-    let (mut tally, answers) = ask_all(generated, GENERATED, threads);
-    let mut results = vec![report("generated", GENERATED, &tally)];
-    let whole = Asked { case: generated, answers };
-    let (more, answers) = ask_all(damaged, DAMAGED, threads);
-    let hurt = Asked { case: damaged, answers };
-    results.push(report("damaged", DAMAGED, &more));
-    tally.add(more);
+    println!("the library against the second search, {} generated cases and {} damaged ones ..", GENERATED.count, DAMAGED.count);
+    let mut results = vec![numbers::check_all()];
+    let whole = ask_all(LINKED, GENERATED, threads);
+    results.push(report(&whole, kept));
+    let hurt = ask_all(LINKED, DAMAGED, threads);
+    results.push(report(&hurt, kept));
+    let mut tally = Tally::default();
+    tally.add(&whole.tally);
+    tally.add(&hurt.tally);
     results.push(tally.print());
-    let largest = tally.most_nodes() == LIMIT;
     println!("the largest search went over {} nodes; the program has room for {LIMIT}", tally.most_nodes());
-    results.push((largest as u64, !largest as u64));
+    results.push(result(tally.most_nodes() == LIMIT));
+    println!("the longest least path had {} steps", tally.longest());
     results.extend(misread::tables(&whole, &hurt, threads));
+    results.push(trials::check_all(kept, threads));
     results
+}
+
+/// One case by its number, with what each side says.
+fn ask_one(cases: Numbered, number: u64, kept: &Path) -> Vec<(u64, u64)> {
+    let case = cases.case(number);
+    println!("{}: {}", case.name, kept::kept_in(&cases, number, kept));
+    let asked = ask(Asker { library: LINKED, aloud: true }, case, LIMIT, &mut Tally::default());
+    for why in asked.as_ref().err().into_iter().flatten() {
+        println!("FAILED: {why}");
+    }
+    vec![result(asked.is_ok())]
 }
 
 /// The cases of the folders, one result each.
 fn ask_stored(folders: &[String]) -> Vec<(u64, u64)> {
     let one = |folder: &String| {
-        let mut tally = Tally::default();
-        ask(stored(folder), usize::MAX, &mut tally);
-        tally.failures().iter().for_each(|failure| println!("{failure}"));
-        (tally.failures().is_empty() as u64, !tally.failures().is_empty() as u64)
+        let asked = match stored(folder) {
+            Ok(case) => ask(Asker::silent(LINKED), case, usize::MAX, &mut Tally::default()),
+            Err(why) => Err(vec![why]),
+        };
+        for why in asked.as_ref().err().into_iter().flatten() {
+            println!("{folder}: {why}");
+        }
+        result(asked.is_ok())
     };
     folders.iter().map(one).collect()
 }
 
+fn usage() -> ! {
+    eprintln!("{USAGE}");
+    std::process::exit(2)
+}
+
 fn main() {
-    let folders: Vec<String> = std::env::args().skip(1).collect();
-    let results = if folders.is_empty() { ask_seeded() } else { ask_stored(&folders) };
+    let arguments: Vec<String> = std::env::args().skip(1).collect();
+    let Some((kept, asked)) = arguments.split_first() else { usage() };
+    let kept = PathBuf::from(kept);
+    let cases = asked.first().and_then(|sort| [GENERATED, DAMAGED].into_iter().find(|cases| cases.sort == sort));
+    let results = match (cases, asked) {
+        (Some(cases), [_, number]) => ask_one(cases, number.parse().unwrap_or_else(|_| usage()), &kept),
+        (Some(_), _) => usage(),
+        (None, []) => ask_numbered(&kept),
+        (None, folders) => ask_stored(folders),
+    };
     let (passed, failed) = results.iter().fold((0, 0), |sum, part| (sum.0 + part.0, sum.1 + part.1));
     println!("{passed} passed, {failed} failed");
     std::process::exit((failed > 0) as i32);

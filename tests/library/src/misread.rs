@@ -1,51 +1,79 @@
 //! Do the cases tell each misreading apart from the library? Cases are gone through in order until enough do.
-use crate::cases::{nodes, Case, LIMIT};
-use misreadings::{number, NAMES, OF_IMAGES};
-use second_search::answer::check_both;
+use crate::asking::{Asked, Said};
+use crate::cases::{contexts, landed, nodes, Case, LIMIT};
+use misreadings::{number, steps_number, Misreading, OF_FLOW, OF_GOALS, OF_IMAGES, OF_STEPS};
+use second_search::answer::check_both_landed;
+use second_search::policy::check_policy_landed;
 
 /// So many cases must tell a misreading apart.
 const WANTED: usize = 20;
 /// Cases with more nodes are left out: they take long, and small ones tell as much.
 const NODES: usize = 2048;
+/// So many cases are gone through at the most for least steps, each of which asks of several pairs.
+const FOR_STEPS: usize = 5000;
 
-/// Numbered cases, and the numbers that the library gave for them.
-pub struct Asked {
-    pub case: fn(u64) -> Case,
-    pub answers: Vec<Option<u64>>,
+/// How the specification is read: with a misreading or with none, and that in words.
+struct Read {
+    misreading: Option<Misreading>,
+    words: &'static str,
+}
+
+/// Does one who reads so answer a case in another way than the library?
+type Apart = fn(Option<Misreading>, &Case, &Said) -> bool;
+
+fn by_goal(misreading: Option<Misreading>, case: &Case, said: &Said) -> bool {
+    number(misreading, &case.policy, &case.goal, LIMIT) != said.goal.raw()
+}
+
+fn by_steps(misreading: Option<Misreading>, case: &Case, said: &Said) -> bool {
+    let work = check_policy_landed(landed(), &case.policy).map_or(LIMIT, |policy| contexts(&policy));
+    said.steps.iter().any(|(pair, steps)| {
+        let pair = pair.map(|x| [x.t, x.r, x.u]);
+        steps_number(misreading, &case.policy, &case.goal, pair, work) != steps.raw()
+    })
+}
+
+/// The cases that are gone through: small ones, by their numbers.
+struct Gone<'a> {
+    /// stands before the words of each misreading
+    question: &'static str,
+    asked: &'a Asked,
+    small: Vec<(u64, &'a Said)>,
+    apart: Apart,
 }
 
 impl Asked {
-    /// The cases that are small enough, each with the library's number.
-    fn small(&self) -> Vec<(u64, u64)> {
+    /// The cases that are small enough, each with what the library said.
+    fn small(&self) -> Vec<(u64, &Said)> {
         let size = |k: u64| {
-            let case = (self.case)(k);
-            check_both(&case.policy, &case.goal).map_or(0, |(p, g)| nodes(&p, &g))
+            let case = self.cases.case(k);
+            check_both_landed(landed(), &case.policy, &case.goal).map_or(0, |(p, g)| nodes(&p, &g))
         };
-        let known = self.answers.iter().enumerate().filter_map(|(k, answer)| answer.map(|answer| (k as u64, answer)));
+        let known = self.answers.iter().enumerate().filter_map(|(k, said)| said.as_ref().map(|said| (k as u64, said)));
         known.filter(|&(k, _)| size(k) <= NODES).collect()
     }
+}
 
+impl Gone<'_> {
     /// How many of the small cases were gone through, and how many of them tell the misreading apart.
-    fn told(&self, misreading: usize, small: &[(u64, u64)]) -> (usize, usize) {
+    fn told(&self, misreading: Option<Misreading>) -> (usize, usize) {
         let mut apart = 0;
-        for (gone, &(k, answer)) in small.iter().enumerate() {
-            let case = (self.case)(k);
-            apart += (number(misreading, &case.policy, &case.goal, LIMIT) != answer) as usize;
+        for (gone, &(k, said)) in self.small.iter().enumerate() {
+            apart += (self.apart)(misreading, &self.asked.cases.case(k), said) as usize;
             if apart == WANTED {
                 return (gone + 1, apart);
             }
         }
-        (small.len(), apart)
+        (self.small.len(), apart)
     }
 
     /// `told` for each of the misreadings, in threads.
-    fn told_all(&self, misreadings: &[usize], threads: usize) -> Vec<(usize, usize)> {
-        let small = &self.small();
+    fn told_all(&self, misreadings: &[Read], threads: usize) -> Vec<(usize, usize)> {
         std::thread::scope(|scope| {
             let part = |of: usize| {
                 scope.spawn(move || {
                     let mine = misreadings.iter().enumerate().skip(of).step_by(threads);
-                    mine.map(|(i, &k)| (i, self.told(k, small))).collect::<Vec<_>>()
+                    mine.map(|(i, read)| (i, self.told(read.misreading))).collect::<Vec<_>>()
                 })
             };
             let parts: Vec<_> = (0..threads).map(part).collect();
@@ -55,16 +83,19 @@ impl Asked {
         })
     }
 
-    /// One line for each misreading; gives how many are told apart often enough and how many are not.
-    fn table(&self, what: &str, misreadings: &[usize], threads: usize) -> (u64, u64) {
+    /// One line for each misreading, after one for none at all; gives how many are told apart as often as they should be, and how
+    /// many are not.
+    fn table(&self, lists: &[&[(Misreading, &'static str)]], threads: usize) -> (u64, u64) {
+        // the copy with nothing switched on must be the second search itself
+        let none = Read { misreading: None, words: "nothing misread: no case may tell it apart" };
+        let read = lists.concat().into_iter().map(|(misreading, words)| Read { misreading: Some(misreading), words });
+        let all: Vec<Read> = [none].into_iter().chain(read).collect();
         let mut counts = (0, 0);
-        for (&misreading, (gone, apart)) in misreadings.iter().zip(self.told_all(misreadings, threads)) {
-            // the copy with nothing switched on must be the second search itself
-            let (name, right) = match misreading {
-                0 => ("nothing misread: no case may tell it apart", apart == 0),
-                k => (NAMES[k - 1], apart >= WANTED),
-            };
-            println!("{apart:5} of the first {gone:5} {what} cases: {name}{}", if right { "" } else { "  (FAILED)" });
+        for (Read { misreading, words }, (gone, apart)) in all.iter().zip(self.told_all(&all, threads)) {
+            let right = if misreading.is_some() { apart >= WANTED } else { apart == 0 };
+            let (sort, question) = (self.asked.cases.sort, self.question);
+            let note = if right { "" } else { "  (FAILED)" };
+            println!("{apart:5} of the first {gone:5} {sort} cases: {question}{words}{note}");
             if right {
                 counts.0 += 1;
             } else {
@@ -75,10 +106,14 @@ impl Asked {
     }
 }
 
-/// Misreadings of what breaks a goal are for the generated cases to tell apart, those of the images for the damaged ones.
-pub fn tables(generated: &Asked, damaged: &Asked, threads: usize) -> [(u64, u64); 2] {
+/// Misreadings of what breaks a goal and of least steps are for the generated cases to tell apart, those of the images for the
+/// damaged ones. Those of flow are for both questions.
+pub fn tables(generated: &Asked, damaged: &Asked, threads: usize) -> [(u64, u64); 3] {
     println!("misreadings that the cases tell apart (at least {WANTED} of the cases must):");
-    let of_goals: Vec<usize> = (0..OF_IMAGES).collect();
-    let of_images: Vec<usize> = [0].into_iter().chain(OF_IMAGES..=NAMES.len()).collect();
-    [generated.table("generated", &of_goals, threads), damaged.table("damaged", &of_images, threads)]
+    let small = generated.small();
+    let few = small.iter().copied().take(FOR_STEPS).collect();
+    let goals = Gone { question: "", asked: generated, small, apart: by_goal };
+    let steps = Gone { question: "least steps: ", asked: generated, small: few, apart: by_steps };
+    let images = Gone { question: "", asked: damaged, small: damaged.small(), apart: by_goal };
+    [goals.table(&[OF_GOALS, OF_FLOW], threads), steps.table(&[OF_STEPS, OF_FLOW], threads), images.table(&[OF_IMAGES], threads)]
 }

@@ -1,5 +1,5 @@
 //! How often each answer and each refusal was met.
-use flowgoal_calls::Bare;
+use flowgoal_calls::{Answer, Bare, Outcome, Steps};
 use std::collections::BTreeMap;
 
 /// Each answer must be met at least so often.
@@ -7,19 +7,25 @@ const LEAST: u64 = 10;
 
 #[derive(Default)]
 pub struct Tally {
-    goal: BTreeMap<u64, u64>,
-    bare: BTreeMap<(Bare, u64), u64>,
+    /// by their names: m is not part of what is counted
+    goal: BTreeMap<String, u64>,
+    bare: BTreeMap<(Bare, Answer), u64>,
+    /// by their names
+    steps: BTreeMap<String, u64>,
     nodes: usize,
-    failures: Vec<String>,
+    longest: u32,
 }
 
 impl Tally {
-    /// The goal question gave this number; m is not part of what is counted.
-    pub fn goal(&mut self, number: u64) {
-        *self.goal.entry(number % 256).or_default() += 1;
+    pub fn goal(&mut self, outcome: Outcome) {
+        *self.goal.entry(outcome.name()).or_default() += 1;
     }
-    pub fn bare(&mut self, question: Bare, number: u64) {
-        *self.bare.entry((question, number)).or_default() += 1;
+    pub fn bare(&mut self, question: Bare, answer: Answer) {
+        *self.bare.entry((question, answer)).or_default() += 1;
+    }
+    pub fn steps(&mut self, answer: Steps) {
+        *self.steps.entry(answer.name()).or_default() += 1;
+        self.longest = self.longest.max(answer.count());
     }
     /// A search went over so many nodes.
     pub fn nodes(&mut self, count: usize) {
@@ -28,42 +34,48 @@ impl Tally {
     pub fn most_nodes(&self) -> usize {
         self.nodes
     }
-    pub fn fail(&mut self, what: String) {
-        self.failures.push(what);
+    /// The most steps of a least path.
+    pub fn longest(&self) -> u32 {
+        self.longest
     }
-    pub fn failures(&self) -> &[String] {
-        &self.failures
-    }
-    pub fn add(&mut self, other: Tally) {
-        for (number, times) in other.goal {
-            *self.goal.entry(number).or_default() += times;
+    pub fn add(&mut self, other: &Tally) {
+        for (name, times) in &other.goal {
+            *self.goal.entry(name.clone()).or_default() += times;
         }
-        for (what, times) in other.bare {
-            *self.bare.entry(what).or_default() += times;
+        for (what, times) in &other.bare {
+            *self.bare.entry(*what).or_default() += times;
+        }
+        for (name, times) in &other.steps {
+            *self.steps.entry(name.clone()).or_default() += times;
         }
         self.nodes = self.nodes.max(other.nodes);
-        self.failures.extend(other.failures);
+        self.longest = self.longest.max(other.longest);
     }
 
     /// One line for each answer that there is; gives how many were met often enough and how many were not.
     pub fn print(&self) -> (u64, u64) {
-        let refused = |k: u64| (format!("refused {k}"), 4 * k + 3);
         let mut lines = Vec::new();
-        let plain = [("holds", 0), ("order", 1), ("events", 2)].map(|(name, number)| (name.to_string(), number));
-        for (name, number) in plain.into_iter().chain((1..=12).map(refused)) {
-            lines.push((format!("goal question: {name}"), self.goal.get(&number).copied().unwrap_or(0)));
+        let broken = [Outcome::Holds, Outcome::Order(0), Outcome::Events(0)];
+        for outcome in broken.into_iter().chain((1..=11).chain([14]).map(Outcome::Refused)).chain([Outcome::NoRoom(0)]) {
+            let name = outcome.name();
+            lines.push((format!("goal question: {name}"), self.goal.get(&name).copied().unwrap_or(0)));
         }
         for question in [Bare::Authorized, Bare::Flows] {
-            let plain = [("no", 0), ("yes", 1)].map(|(name, number)| (name.to_string(), number));
-            for (name, number) in plain.into_iter().chain((1..=6).chain([13]).map(refused)) {
-                let times = self.bare.get(&(question, number)).copied().unwrap_or(0);
-                lines.push((format!("{}: {name}", format!("{question:?}").to_lowercase()), times));
+            for answer in [Answer::No, Answer::Yes].into_iter().chain((1..=6).chain([14, 13]).map(Answer::Refused)) {
+                let times = self.bare.get(&(question, answer)).copied().unwrap_or(0);
+                lines.push((format!("{}: {answer}", format!("{question:?}").to_lowercase()), times));
             }
+        }
+        let refused = (1..=6).chain([14, 13, 11]).map(Steps::Refused);
+        for answer in [Steps::None, Steps::Shown(0)].into_iter().chain(refused).chain([Steps::NoRoom(0)]) {
+            let name = answer.name();
+            lines.push((format!("least steps: {name}"), self.steps.get(&name).copied().unwrap_or(0)));
         }
         let mut counts = (0, 0);
         for (name, times) in lines {
             let enough = times >= LEAST;
-            println!("{times:9}  {name}{}", if enough { "" } else { "  (too few: at least 10 are wanted)" });
+            let note = if enough { String::new() } else { format!("  (too few: at least {LEAST} are wanted)") };
+            println!("{times:9}  {name}{note}");
             if enough {
                 counts.0 += 1;
             } else {

@@ -1,7 +1,8 @@
 //! The must-fail edits, and the page that is made of them and of the logs of their refusal.
-use crate::quote::first_error;
+use crate::quote::{errors, without_numbers};
 use crate::repository::Repository;
 use crate::wrap::wrapped;
+use std::collections::BTreeMap;
 use std::fs;
 use std::path::Path;
 
@@ -19,7 +20,10 @@ This page is made by `tests/trace/run`, from the edits and the logs of their ref
 written by hand.
 ";
 
-#[derive(Default)]
+/// A reason of fewer words says nothing.
+const WORDS: usize = 3;
+
+#[derive(Clone, Default)]
 pub struct Edit {
     /// the misreading in words: the first line, after `why: `
     pub why: Option<String>,
@@ -29,8 +33,12 @@ pub struct Edit {
 
 impl Edit {
     pub fn read(file: &Path) -> Edit {
-        let text = fs::read_to_string(file).unwrap_or_default();
+        Edit::parse(&fs::read_to_string(file).unwrap_or_default())
+    }
+
+    pub fn parse(text: &str) -> Edit {
         let why = text.lines().next().and_then(|line| line.strip_prefix("why: ")).map(str::to_string);
+        let why = why.filter(|why| why.split_whitespace().count() >= WORDS);
         let mut files: Vec<String> = text.lines().filter_map(|line| line.strip_prefix("file: ")).map(str::to_string).collect();
         files.dedup();
         Edit { why, files }
@@ -56,6 +64,12 @@ fn row(label: &str, edit: &Edit, error: Option<&str>) -> String {
     }
 }
 
+/// The log of an edit; empty where there is none.
+fn log_of(repository: &Repository, label: &str) -> String {
+    let log = fs::read(repository.root.join(LOGS).join(label).join(".log")).unwrap_or_default();
+    String::from_utf8_lossy(&log).into_owned()
+}
+
 pub fn make(repository: &Repository) -> Made {
     let (mut text, mut unlogged) = (OPENING.to_string(), Vec::new());
     let mut last = "";
@@ -65,8 +79,7 @@ pub fn make(repository: &Repository) -> Made {
             text += &format!("\n## {crate_of}\n");
             last = crate_of;
         }
-        let log = fs::read(repository.root.join(LOGS).join(label).join(".log")).unwrap_or_default();
-        let error = first_error(&String::from_utf8_lossy(&log), label);
+        let error = errors(&log_of(repository, label), label).into_iter().next();
         if error.is_none() {
             unlogged.push(label.clone());
         }
@@ -84,32 +97,42 @@ pub fn advice(unlogged: &[String]) -> Vec<String> {
     unlogged.iter().map(|label| format!("{label}: no log that shows an error")).chain([advice]).collect()
 }
 
-/// How the page differs from the one that would be made: by the rows that do.
-fn differing(page: &str, made: &str) -> Vec<String> {
-    let rows = |text: &str| -> Vec<String> { text.split("\n### ").map(|row| row.trim_end().to_string()).collect() };
-    let (old, new) = (rows(page), rows(made));
-    let title = |row: &String| row.lines().next().unwrap_or("").to_string();
-    let changed = |rows: &[String], others: &[String]| -> Vec<String> {
-        rows.iter().filter(|row| !others.contains(row)).map(title).collect()
-    };
-    let mut titles = changed(&old, &new);
-    titles.extend(changed(&new, &old));
-    titles.sort();
-    titles.dedup();
-    titles.iter().map(|title| format!("{PAGE}: {title}: not what the edit and its log say")).collect()
+/// The lines of a row that are no quote, and the quote.
+fn split(row: &str) -> (Vec<&str>, String) {
+    let (quote, rest): (Vec<&str>, Vec<&str>) = row.lines().partition(|line| line.starts_with("> "));
+    (rest, quote.iter().map(|line| &line[2..]).collect::<Vec<_>>().join(" "))
 }
 
-/// What is wrong with the page.
-pub fn stale(repository: &Repository) -> Vec<String> {
+/// Whether two rows of an edit differ at most in which error of the log they quote, and in the numbers at which its goal fails: the
+/// prover may come to the errors of a log in another order.
+fn is_other_error(repository: &Repository, label: &str, old: &str, new: &str) -> bool {
+    let ((old, quote), (new, _)) = (split(old), split(new));
+    let is_said = |error: &String| without_numbers(error).trim() == without_numbers(&quote).trim();
+    old == new && errors(&log_of(repository, label), label).iter().any(is_said)
+}
+
+/// The rows of a page by their labels, what stands before them under no label.
+fn rows(page: &str) -> BTreeMap<&str, &str> {
+    page.split("\n### ").enumerate().map(|(k, row)| (if k == 0 { "" } else { row.lines().next().unwrap_or("") }, row)).collect()
+}
+
+/// What is wrong with a page of the edits.
+pub fn stale(repository: &Repository, page: &str) -> Vec<String> {
     let made = make(repository);
     if !made.unlogged.is_empty() {
         return advice(&made.unlogged);
     }
-    let page = fs::read_to_string(repository.root.join(PAGE)).unwrap_or_default();
-    if page == made.text {
-        return Vec::new();
+    let (old, new) = (rows(page), rows(&made.text));
+    let is_right = |label: &str| match (old.get(label), new.get(label)) {
+        (Some(old), Some(new)) => old == new || is_other_error(repository, label, old, new),
+        _ => false,
+    };
+    let mut titles: Vec<&str> = old.keys().chain(new.keys()).copied().filter(|label| !is_right(label)).collect();
+    titles.sort();
+    titles.dedup();
+    let mut wrong: Vec<String> = titles.iter().map(|label| format!("{PAGE}: {label}: not what the edit and its log say")).collect();
+    if !wrong.is_empty() {
+        wrong.push(format!("{PAGE} is not what is made of the edits and logs: `tests/trace/run --write-edits` makes it anew"));
     }
-    let mut wrong = differing(&page, &made.text);
-    wrong.push(format!("{PAGE} is not what is made of the edits and logs: `tests/trace/run --write-edits` makes it anew"));
     wrong
 }

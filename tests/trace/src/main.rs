@@ -1,5 +1,5 @@
-//! Holds the pages of the trace, docs/TRACE.md and docs/trace/, to the repository: what they name is there, and no row is
-//! lost. With --write-edits it makes docs/trace/edits.md. Its last line is 'N passed, M failed'.
+//! Holds the pages of the trace, docs/TRACE.md and docs/trace/, and the glossary to the repository: what they name is there, no
+//! row is lost, and no name has two meanings. With --write-edits it makes docs/trace/edits.md. Its last line is 'N passed, M failed'.
 mod edits;
 mod index;
 mod names;
@@ -9,8 +9,10 @@ mod repository;
 mod rows;
 mod spans;
 mod trials;
+mod words;
 mod wrap;
 
+use edits::Edit;
 use names::Looked;
 use pages::Page;
 use repository::{listed, name_of, Repository};
@@ -18,7 +20,8 @@ use std::collections::BTreeSet;
 use std::fs;
 use std::path::Path;
 use std::process::exit;
-use trials::{Trial, TRIALS};
+use trials::{Trial, EDIT_TRIALS, TRIALS, WORD_TRIALS};
+use words::GLOSSARY;
 
 const USAGE: &str = "usage: trace-test [--write-edits] ROOT";
 /// The page that is damaged to see that the test can fail.
@@ -33,7 +36,7 @@ struct Checked {
 /// The names of the pages and their texts.
 fn texts(root: &Path) -> Vec<(String, String)> {
     let pages = listed(&root.join("docs/trace")).into_iter().map(|path| format!("docs/trace/{}", name_of(&path)));
-    let names = [index::INDEX.to_string()].into_iter().chain(pages.filter(|name| name.ends_with(".md")));
+    let names = [index::INDEX.to_string(), GLOSSARY.to_string()].into_iter().chain(pages.filter(|name| name.ends_with(".md")));
     names.map(|name| (name.clone(), fs::read_to_string(root.join(&name)).unwrap_or_default())).collect()
 }
 
@@ -62,7 +65,7 @@ fn check_edits(pages: &[Page], named: &BTreeSet<String>, repository: &Repository
     let mut wrong = Vec::new();
     for (label, edit) in &repository.edits {
         if edit.why.is_none() {
-            wrong.push(format!("{label}: the edit's first line is no `why: `"));
+            wrong.push(format!("{label}: the edit's first line is no `why: ` with a reason in words"));
         }
         let has_row = pages.iter().flat_map(Page::rows).any(|row| row.at == *label);
         if !has_row && !named.contains(label) {
@@ -74,10 +77,11 @@ fn check_edits(pages: &[Page], named: &BTreeSet<String>, repository: &Repository
 
 /// All checks but that of the logs.
 fn check(texts: &[(String, String)], repository: &Repository) -> Vec<Checked> {
-    let pages: Vec<Page> = texts.iter().map(|(name, text)| Page::read(name, text)).collect();
+    let pages = texts.iter().map(|(name, text)| Page::read(name, text));
+    let (glossaries, pages): (Vec<Page>, Vec<Page>) = pages.partition(|page| page.name == GLOSSARY);
     let rows = rows::numbers(&pages);
     let (mut checked, mut named) = (Vec::new(), BTreeSet::new());
-    for page in &pages {
+    for page in pages.iter().chain(&glossaries) {
         let (result, labels) = check_page(page, &rows, repository);
         checked.push(result);
         named.extend(labels);
@@ -86,23 +90,60 @@ fn check(texts: &[(String, String)], repository: &Repository) -> Vec<Checked> {
     add(format!("{} numbered rows, each number once", rows.len()), rows::repeated(&pages));
     add("the index has every page and its rows".to_string(), index::stale(&pages));
     add(format!("{} edits say why and are named", repository.edits.len()), check_edits(&pages, &named, repository));
+    add("each word of the glossary stands there once".to_string(), glossaries.iter().flat_map(words::repeated).collect());
+    add(format!("{} definitions, each name in one crate", repository.definitions.len()), words::shared(repository));
     checked
 }
 
-/// Whether each damage of a page is noticed.
+/// Whether each damage of a page, of an edit and of the definitions is noticed.
 fn try_damage(texts: &[(String, String)], repository: &Repository) -> Vec<Checked> {
-    let count = |texts: &[(String, String)]| check(texts, repository).iter().map(|checked| checked.wrong.len()).sum::<usize>();
-    let before = count(texts);
-    let noticed = |Trial { what, damage }| {
-        let harmed = texts.iter().map(|(name, text)| {
-            let text = if name == DAMAGED { damage(text) } else { text.clone() };
-            (name.clone(), text)
-        });
-        let is_noticed = count(&harmed.collect::<Vec<_>>()) > before;
-        let wrong = if is_noticed { Vec::new() } else { vec![format!("{what} in {DAMAGED} is not noticed")] };
+    let count = |texts: &[(String, String)], repository: &Repository| -> usize {
+        check(texts, repository).iter().map(|checked| checked.wrong.len()).sum()
+    };
+    let before = count(texts, repository);
+    let tried = |what: &str, place: &str, after: usize| {
+        let wrong = if after > before { Vec::new() } else { vec![format!("{what} in {place} is not noticed")] };
         Checked { what: format!("noticed: {what}"), wrong }
     };
-    TRIALS.map(noticed).into()
+    let page = |place: &'static str| {
+        move |Trial { what, damage }: Trial| {
+            let harmed = texts.iter().map(|(name, text)| {
+                let text = if name == place { damage(text) } else { text.clone() };
+                (name.clone(), text)
+            });
+            tried(what, place, count(&harmed.collect::<Vec<_>>(), repository))
+        }
+    };
+    let edit = |Trial { what, damage }| {
+        let Some(label) = repository.edits.keys().next() else { return tried(what, "crates/*/must-fail", before) };
+        let text = fs::read_to_string(repository.edit_file(label)).unwrap_or_default();
+        let mut harmed = repository.clone();
+        harmed.edits.insert(label.clone(), Edit::parse(&damage(&text)));
+        tried(what, label, count(texts, &harmed))
+    };
+    let mut again = repository.clone();
+    again.definitions.extend(repository.definitions.first().map(|(_, name)| ("another".to_string(), name.clone())));
+    let twice = tried("a name that two crates define", "crates/*/specs", count(texts, &again));
+    let trials = TRIALS.map(page(DAMAGED)).into_iter().chain(WORD_TRIALS.map(page(GLOSSARY)));
+    trials.chain(EDIT_TRIALS.map(edit)).chain([twice]).collect()
+}
+
+/// The page of the edits against their logs, and whether quotes of errors that no log has are noticed.
+fn check_logs(repository: &Repository) -> Vec<Checked> {
+    let page = fs::read_to_string(repository.root.join(edits::PAGE)).unwrap_or_default();
+    let wrong = edits::stale(repository, &page);
+    let tried = |(what, harmed): (&str, String)| {
+        let is_noticed = edits::stale(repository, &harmed).len() > wrong.len();
+        let unnoticed = if is_noticed { Vec::new() } else { vec![format!("{what} in {} is not noticed", edits::PAGE)] };
+        Checked { what: format!("noticed: {what}"), wrong: unnoticed }
+    };
+    let trials = [
+        ("a quote of another file", page.replacen("\n> proofs/", "\n> proofs/Stale/", 1)),
+        ("a quote with a word that no log has", page.replacen(" the two types ", " the three types ", 1)),
+    ];
+    let mut checked: Vec<Checked> = trials.map(tried).into();
+    checked.insert(0, Checked { what: format!("{} is what the edits and their logs say", edits::PAGE), wrong });
+    checked
 }
 
 fn report(checked: &[Checked]) -> (usize, usize) {
@@ -148,10 +189,7 @@ fn main() {
     let texts = texts(&repository.root);
     let mut checked = check(&texts, &repository);
     checked.extend(try_damage(&texts, &repository));
-    checked.push(Checked {
-        what: format!("{} is what the edits and their logs say", edits::PAGE),
-        wrong: edits::stale(&repository),
-    });
+    checked.extend(check_logs(&repository));
     let (passed, failed) = report(&checked);
     println!("{passed} passed, {failed} failed");
     exit((failed > 0) as i32);

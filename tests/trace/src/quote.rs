@@ -1,4 +1,4 @@
-//! The first error of the prover's log, made readable: the file, the theorem, and the sentence that says what no longer holds.
+//! The errors of the prover's log, made readable: the file, the theorem, and the sentence that says what no longer holds.
 use crate::spans::is_closed;
 use std::collections::BTreeMap;
 
@@ -23,11 +23,21 @@ fn note_in(line: &str) -> Option<(&str, &str)> {
     line.strip_prefix("note: ")?.split_once(": ").filter(|(place, _)| place.contains('/') && !place.contains(' '))
 }
 
-fn said_in(log: &str, line_of: impl Fn(&str) -> Option<(&str, &str)>) -> Option<Said> {
-    let mut lines = log.lines().skip_while(|line| line_of(line).is_none());
-    let (place, first) = line_of(lines.next()?)?;
-    let more = lines.take_while(|line| line.starts_with("  ")).map(|line| line.trim().to_string()).collect();
-    Some(Said { place: place.to_string(), first: first.to_string(), more })
+/// All that the log says by such lines, in its order.
+fn said_in(log: &str, line_of: impl Fn(&str) -> Option<(&str, &str)>) -> Vec<Said> {
+    let mut said: Vec<Said> = Vec::new();
+    let mut goes_on = false;
+    for line in log.lines() {
+        if let Some((place, first)) = line_of(line) {
+            said.push(Said { place: place.to_string(), first: first.to_string(), more: Vec::new() });
+            goes_on = true;
+        } else if let (true, true, Some(last)) = (goes_on, line.starts_with("  "), said.last_mut()) {
+            last.more.push(line.trim().to_string());
+        } else {
+            goes_on = false;
+        }
+    }
+    said
 }
 
 /// A file within the copy of the crate, without line and column, so that a proof can be moved; never a place of the machine.
@@ -153,10 +163,20 @@ fn theorem(text: &str) -> (&str, &str) {
     text.split_at(end)
 }
 
-/// The first error of the log of an edit, or nothing where there is none.
-pub fn first_error(log: &str, label: &str) -> Option<String> {
-    let said = said_in(log, error_in).or_else(|| said_in(log, note_in))?;
-    let text = homely(&joined(&said), label);
+/// The errors of the log of an edit, or its notes where there is no error, each as a quote.
+pub fn errors(log: &str, label: &str) -> Vec<String> {
+    let errors = said_in(log, error_in);
+    let said = if errors.is_empty() { said_in(log, note_in) } else { errors };
+    said.iter().map(|said| quote(said, label)).collect()
+}
+
+/// A quote without the numbers at which a goal fails: the prover finds some, and may find others.
+pub fn without_numbers(quote: &str) -> &str {
+    quote.split("All of that holds, and the goal fails, at").next().unwrap_or(quote)
+}
+
+fn quote(said: &Said, label: &str) -> String {
+    let text = homely(&joined(said), label);
     let (name, rest) = theorem(&text);
     let (part, types) = telling(rest);
     let left_out = if rest.starts_with(part) { "" } else { "… " };
@@ -165,7 +185,7 @@ pub fn first_error(log: &str, label: &str) -> Option<String> {
     let expected = types.find(" but this has type").map_or(types, |at| types[..at].trim_end_matches(','));
     let whole = |types: &str| format!("{head}{}", readable(&format!("{part}{types}"), usize::MAX));
     if let Some(whole) = [types, expected].map(whole).into_iter().find(|whole| whole.chars().count() <= LENGTH) {
-        return Some(whole);
+        return whole;
     }
-    Some(bounded(&format!("{head}{}", readable(part, TERM))))
+    bounded(&format!("{head}{}", readable(part, TERM)))
 }

@@ -7,6 +7,7 @@ use std::path::{Path, PathBuf};
 /// A path starts in crates/, unless it starts with one of these.
 const FOLDERS: [&str; 5] = ["docs/", "examples/", "include/", "tests/", "tools/"];
 
+#[derive(Clone)]
 pub struct Repository {
     pub root: PathBuf,
     /// the functions of all src/*.rt
@@ -15,6 +16,8 @@ pub struct Repository {
     pub edits: BTreeMap<String, Edit>,
     /// the numbers of the headings of docs/DECISIONS.md
     pub decisions: BTreeSet<String>,
+    /// the names that the specs and the code's types of each crate declare, those of written-out cases aside
+    pub definitions: Vec<(String, String)>,
 }
 
 /// What stands in a folder, in order; nothing where there is no such folder.
@@ -62,10 +65,49 @@ fn functions_of(path: &Path) -> Vec<String> {
     code.split_whitespace().zip(code.split_whitespace().skip(1)).filter(|pair| pair.0 == "fn").map(|pair| name(pair.1)).collect()
 }
 
+/// The files of definitions in a folder and the folders in it, those of cases aside.
+fn definition_files(folder: &Path) -> Vec<PathBuf> {
+    let (folders, files): (Vec<PathBuf>, Vec<PathBuf>) = listed(folder).into_iter().partition(|path| path.is_dir());
+    let inner = folders.iter().filter(|path| name_of(path) != "cases").flat_map(|path| definition_files(path));
+    files.iter().filter(|path| path.extension().is_some_and(|ending| ending == "antt")).cloned().chain(inner).collect()
+}
+
+/// The name that a line of a file of definitions declares for others. What is set in is a field, unless it is said to be a type.
+fn declared(line: &str) -> Option<&str> {
+    const BEFORE: [&str; 3] = ["abbrev", "unfoldable", "opaque"];
+    const TYPES: [&str; 2] = ["record", "data"];
+    let mut words = line.split_whitespace().skip_while(|word| BEFORE.contains(word));
+    if words.next() != Some("pub") {
+        return None;
+    }
+    match words.next()? {
+        "mod" | "use" | "open" => None,
+        word if TYPES.contains(&word) => words.next(),
+        word => (!line.starts_with(' ')).then_some(word),
+    }
+}
+
+/// The name of the struct or enum that a line of code declares.
+fn declared_type(line: &str) -> Option<&str> {
+    let name = ["pub struct ", "pub enum "].iter().find_map(|words| line.strip_prefix(words))?;
+    name.split_whitespace().next()
+}
+
+/// The names that a crate's specs and the types of its code declare.
+fn definitions_of(member: &Path) -> BTreeSet<String> {
+    let texts = |files: Vec<PathBuf>| files.into_iter().filter_map(|file| code_of(&file));
+    let names = |text: String, name: fn(&str) -> Option<&str>| -> Vec<String> {
+        text.lines().filter_map(name).map(str::to_string).collect()
+    };
+    let specs = texts(definition_files(&member.join("specs"))).flat_map(|text| names(text, declared));
+    specs.chain(texts(listed(&member.join("src"))).flat_map(|text| names(text, declared_type))).collect()
+}
+
 impl Repository {
     pub fn read(root: &Path) -> Repository {
-        let (mut functions, mut edits) = (BTreeSet::new(), BTreeMap::new());
+        let (mut functions, mut edits, mut definitions) = (BTreeSet::new(), BTreeMap::new(), Vec::new());
         for member in listed(&root.join("crates")) {
+            definitions.extend(definitions_of(&member).into_iter().map(|name| (name_of(&member), name)));
             for file in listed(&member.join("src")) {
                 functions.extend(functions_of(&file));
             }
@@ -78,7 +120,13 @@ impl Repository {
         let decisions = fs::read_to_string(root.join("docs/DECISIONS.md")).unwrap_or_default();
         let number = |line: &str| Some(line.strip_prefix("### ")?.split_once(". ")?.0.to_string());
         let decisions = decisions.lines().filter_map(number).collect();
-        Repository { root: root.to_path_buf(), functions, edits, decisions }
+        Repository { root: root.to_path_buf(), functions, edits, decisions, definitions }
+    }
+
+    /// The file of an edit.
+    pub fn edit_file(&self, label: &str) -> PathBuf {
+        let (member, name) = label.split_once('/').unwrap_or((label, ""));
+        self.root.join("crates").join(member).join("must-fail").join(format!("{name}.edit"))
     }
 
     /// The place that a path of a page names.

@@ -1,12 +1,13 @@
-//! Damaged pages, each of which must be noticed: a test that could not fail would say nothing.
+//! Damaged pages and edits, each of which must be noticed: a test that could not fail would say nothing.
 use crate::names::CASES;
 
-/// A way to damage a page, and what it stands for.
+/// A way to damage a text, and what it stands for.
 pub struct Trial {
     pub what: &'static str,
     pub damage: fn(&str) -> String,
 }
 
+/// Of a page.
 pub const TRIALS: [Trial; 10] = [
     Trial { what: "a path that is not there", damage: |page| added(page, "`base/specs/Stale.antt`") },
     Trial { what: "a name that its file does not have", damage: |page| added(page, &format!("`{CASES}` `stale`")) },
@@ -19,6 +20,25 @@ pub const TRIALS: [Trial; 10] = [
     Trial { what: "a row that stands twice", damage: |page| format!("{page}\n### {}", last_row(page)) },
     Trial { what: "a row that is gone", damage: without_last },
 ];
+
+/// Of the glossary.
+pub const WORD_TRIALS: [Trial; 2] = [
+    Trial { what: "a word that stands for what is not there", damage: |page| format!("{page}| stale | is gone | `{CASES}` `stale` |\n") },
+    Trial { what: "a word that stands twice", damage: |page| format!("{page}{}\n", page.lines().last().unwrap_or("")) },
+];
+
+/// Of a must-fail edit.
+pub const EDIT_TRIALS: [Trial; 4] = [
+    Trial { what: "an edit that does not say why", damage: |edit| split(edit).1.to_string() },
+    Trial { what: "an edit that says why with no words", damage: |edit| format!("why: \n{}", split(edit).1) },
+    Trial { what: "an edit that says why with a label", damage: |edit| format!("why: wrong\n{}", split(edit).1) },
+    Trial { what: "an edit that says why at its end", damage: |edit| format!("{}{}\n", split(edit).1, split(edit).0) },
+];
+
+/// The first line of an edit, and the rest.
+fn split(edit: &str) -> (&str, &str) {
+    edit.split_once('\n').unwrap_or((edit, ""))
+}
 
 /// The page with more in the last line of its last row.
 fn added(page: &str, text: &str) -> String {

@@ -4,11 +4,11 @@
 use crate::fast_search::{allowed, load, u16at, u32at, Ctx, Pol};
 
 /// What a type leads to: class, other type, and the permissions by write-like and by read-like flow.
-struct Entry {
-    class: usize,
-    to: usize,
-    out: u32,
-    back: u32,
+pub struct Entry {
+    pub class: usize,
+    pub to: usize,
+    pub out: u32,
+    pub back: u32,
 }
 
 /// The goal's sets, read once.
@@ -23,21 +23,26 @@ struct Sets {
     groups: Vec<Vec<(u32, u32)>>,
 }
 
-struct Plan {
-    policy: Pol,
-    sets: Sets,
-    entries: Vec<Entry>,
+/// What is made of a policy once; least steps needs no more (`steps_search.rs`).
+pub struct PolicyPlan {
+    pub policy: Pol,
+    pub entries: Vec<Entry>,
     /// By type: where its entries start.
-    first: Vec<usize>,
+    pub first: Vec<usize>,
     /// By type: its contexts that meet ρ and μ.
-    held: Vec<Vec<usize>>,
+    pub held: Vec<Vec<usize>>,
     /// By class: the permissions on which there is a constraint, and the transition.
-    special: Vec<u32>,
+    pub special: Vec<u32>,
     /// By type: whether an entry of it has such a permission.
-    guarded: Vec<bool>,
+    pub guarded: Vec<bool>,
 }
 
-fn context(policy: &Pol, place: usize) -> Ctx {
+struct Plan {
+    of_policy: PolicyPlan,
+    sets: Sets,
+}
+
+pub fn context(policy: &Pol, place: usize) -> Ctx {
     let per_type = policy.r * policy.u;
     (place / per_type + 1, place / policy.u % policy.r + 1, place % policy.u + 1)
 }
@@ -81,10 +86,10 @@ fn sets(policy: &Pol, goal: &[u8]) -> Sets {
     Sets { legs, repeats: goal[1] as u32, contexts: contexts.collect(), left, groups: groups.collect() }
 }
 
-/// The entries of all types, by type, class and other type: sorted, and those of one key united.
-fn entries(policy: &Pol, left: &[u32]) -> (Vec<Entry>, Vec<usize>) {
+/// By class: its permissions, and those of them that are write-like and read-like.
+pub fn class_masks(policy: &Pol) -> [Vec<u32>; 3] {
     let classes = policy.c + 1;
-    let (mut gamma, mut write, mut read) = (vec![0u32; classes], vec![0u32; classes], vec![0u32; classes]);
+    let [mut gamma, mut write, mut read] = [vec![0u32; classes], vec![0u32; classes], vec![0u32; classes]];
     for q in &policy.recs {
         match q.kind {
             2 => gamma[q.a] |= q.mask,
@@ -95,6 +100,12 @@ fn entries(policy: &Pol, left: &[u32]) -> (Vec<Entry>, Vec<usize>) {
             _ => {}
         }
     }
+    [gamma, write, read]
+}
+
+/// The entries of all types, by type, class and other type: sorted, and those of one key united.
+fn entries(policy: &Pol, left: &[u32]) -> (Vec<Entry>, Vec<usize>) {
+    let [gamma, write, read] = class_masks(policy);
     let key = |own: usize, class: usize, other: usize| (own << 20 | class << 12 | other) as u32;
     let mut halves: Vec<(u32, u32, u32)> = vec![];
     for q in policy.recs.iter().filter(|q| q.kind == 4 && policy.dom[q.a]) {
@@ -120,10 +131,9 @@ fn entries(policy: &Pol, left: &[u32]) -> (Vec<Entry>, Vec<usize>) {
     (entries, first)
 }
 
-fn plan(policy: &[u8], goal: &[u8]) -> Plan {
-    let policy = load(policy);
-    let sets = sets(&policy, goal);
-    let (entries, first) = entries(&policy, &sets.left);
+/// The plan of a policy, of whose permissions those are left that the masks have, by class.
+pub fn policy_plan(policy: Pol, left: &[u32]) -> PolicyPlan {
+    let (entries, first) = entries(&policy, left);
     let per_type = policy.r * policy.u;
     let is_held = |place: usize| {
         let x = context(&policy, place);
@@ -135,7 +145,13 @@ fn plan(policy: &[u8], goal: &[u8]) -> Plan {
     special[1] |= 1;
     let guarded = |t: usize| entries[first[t]..first[t + 1]].iter().any(|e| (e.out | e.back) & special[e.class] != 0);
     let guarded = (0..=policy.t).map(guarded).collect();
-    Plan { policy, sets, entries, first, held, special, guarded }
+    PolicyPlan { policy, entries, first, held, special, guarded }
+}
+
+fn plan(policy: &[u8], goal: &[u8]) -> Plan {
+    let policy = load(policy);
+    let sets = sets(&policy, goal);
+    Plan { of_policy: policy_plan(policy, &sets.left), sets }
 }
 
 impl Plan {
@@ -153,7 +169,7 @@ impl Plan {
 
     /// The least number of steps to a bad end.
     fn search(&self, order: bool, entered: &mut usize) -> Option<usize> {
-        let Plan { policy, sets, entries, first, held, special, guarded } = self;
+        let Plan { of_policy: PolicyPlan { policy, entries, first, held, special, guarded }, sets } = self;
         let (legs, last) = (sets.legs, 1u32 << sets.legs);
         let inner = if order { last - 2 } else { 0 };
         let mut back = vec![0u32; (policy.t * policy.r * policy.u) << legs];

@@ -37,8 +37,11 @@ const MOST_RECORDS: u32 = 4095;
 const RECORDS_OF_A_CONSTRAINT: u32 = 4;
 
 impl Size {
+    pub fn contexts(&self) -> usize {
+        (self.types * self.roles * self.users) as usize
+    }
     pub fn nodes(&self) -> usize {
-        ((self.types * self.roles * self.users) << self.legs) as usize
+        self.contexts() << self.legs
     }
     fn frame_records(&self) -> u32 {
         3 * self.classes + self.users * (self.roles - 1) + RECORDS_OF_A_CONSTRAINT * self.constraints
@@ -56,7 +59,7 @@ impl Size {
         };
         let Size { types, roles, users, classes, .. } = *self;
         let goal = maker.goal(end).encode();
-        (Policy { types, roles, users, classes, records: maker.records }.encode(), goal)
+        (Policy { records: maker.records, ..Policy::new(types, roles, users, classes) }.encode(), goal)
     }
 }
 

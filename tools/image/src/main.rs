@@ -1,14 +1,20 @@
 //! `./image`: policy and goal images from text, and text from images. The text format, and all that is known here of images,
 //! is the second search's (`tests/second-search/src/text.rs`).
 mod lines;
+mod refusals;
 
+use refusals::meaning;
 use second_search::goal::check_goal;
-use second_search::policy::{check_policy, Policy};
+use second_search::landed::Landed;
+use second_search::policy::{check_policy_landed, Policy};
 use second_search::text::{assemble, goal_text, policy_text};
 use std::fmt::Display;
 use std::fs::{self, OpenOptions};
 use std::io::{ErrorKind, Write};
 use std::process::exit;
+
+/// The requests that have landed, by their letters: images are read as the checker reads them.
+const LANDED: &str = include_str!("../../../tests/landed.txt");
 
 const USAGE: &str = "usage:
   ./image assemble TEXT IMAGE [--overwrite]               text to an image
@@ -48,25 +54,13 @@ fn write(file: &str, bytes: &[u8], overwrite: bool) {
     }
 }
 
-/// A goal is read against the widest counts: the image alone does not name its policy's.
-fn widest() -> Policy {
-    Policy { types: 255, roles: 15, users: 15, classes: 31, records: vec![] }
+fn check_policy(image: &[u8]) -> Result<Policy, u32> {
+    check_policy_landed(Landed::parse(LANDED.trim()).expect("letters of requests"), image)
 }
 
-/// What each refusal says of an image, in the order in which the questions are asked.
-fn meaning(number: u32) -> &'static str {
-    match number {
-        1 => "it is shorter than 24 bytes, has more than 4,095 records, or its length does not fit the number of records",
-        2 => "a count of types, roles, users or classes is out of range",
-        3 => "a head or a next is out of range, or a next is not above its record",
-        4 => "a chain does not hold exactly the records of its kind",
-        5 => "a field of a record is out of range, or one that is not used is not 0",
-        6 => "a constraint's root or a node's child is no node, stands too high, or is used twice",
-        7 => "it is shorter than 34 bytes, has more than 255 records, or its length does not fit the number of records",
-        8 => "the number of legs is out of range, or a flag or a head above it is not 0",
-        9 => "a link is out of range or does not rise, or a record is not on exactly one chain",
-        _ => "a field of a record is out of range, or a spare byte is not 0",
-    }
+/// A goal is read against the widest counts: the image alone does not name its policy's.
+fn widest() -> Policy {
+    Policy::new(255, 15, 15, 31)
 }
 
 fn assemble_file(from: &str, to: &str, overwrite: bool) {

@@ -11,13 +11,10 @@ use Rattle.access.proofs.acts.Statement.{statement}
 use Rattle.access.proofs.acts.Tie as tie
 
 -- what was found of the event as decoded
-said : (K : tie.After-flows-as) → K .flows-as .result ≡ flowsAs (policyOf (K .before .before .before .args .image .now)) (K .before .before .before .args .way) (eventOf (K .before .before .before .args .event))
+said : (K : tie.After-flows-as) → K .flows-as .result ≡ flowsAs (policyOf (K .before .before .before .args .policy .now)) (K .before .before .before .args .way) (eventOf (K .before .before .before .args .event))
 said K =
     let s = K .before .before .before in
-    K .flows-as .ensures ∙ ap (λ (e : Event). flowsAs (policyOf (s .args .image .now)) (s .args .way) e) (K .before .decode .ensures)
-
-decode-requires : tie.Need-decode-requires
-decode-requires c κs = search needs
+    K .flows-as .ensures ∙ ap (λ (e : Event). flowsAs (policyOf (s .args .policy .now)) (s .args .way) e) (K .before .decode .ensures)
 
 flows-as-requires : tie.Need-flows-as-requires
 flows-as-requires c κs =
@@ -27,11 +24,8 @@ flows-as-requires c κs =
 returns : tie.Need-returns
 returns c = rw (← said (c .before), not-true (c .before .flows-as .result) (c .if1 .taken))
 
-authorized-requires : tie.Need-authorized-requires
-authorized-requires c κs = search needs
-
 returns-2 : tie.Need-returns-2
 returns-2 c = rw (← said (c .before .before), not-false (c .before .before .flows-as .result) (c .before .if1 .left)) (c .authorized .ensures)
 
 pub acts-spec : {M : Type 1} → statement M
-acts-spec = tie.close (tie.spec decode-requires flows-as-requires returns authorized-requires returns-2)
+acts-spec = tie.close (tie.spec (λ c κs. search needs) flows-as-requires returns (λ c κs. search needs) returns-2)

@@ -8,24 +8,18 @@ use Rattle.access.specs.Authorization.{authorized, clausesOf, allHold}
 use Rattle.access.proofs.authorized.Statement.{statement}
 use Rattle.access.proofs.authorized.Tie as tie
 
-decode-requires : tie.Need-decode-requires
-decode-requires c κs = search needs
-
 values-requires : tie.Need-values-requires
 values-requires c κs =
     let s = c .before .before in
     (s .pre .0, subst Coded (sym (c .decode .ensures)) (coded-of (s .args .event) (s .pre .1)))
 
-decide-requires : tie.Need-decide-requires
-decide-requires c κs = search needs
-
 returns : tie.Need-returns
 unfolding authorized
 returns c =
     let s = c .before .before .before .before in
-    let p = policyOf (s .args .image .now) in
+    let p = policyOf (s .args .policy .now) in
     c .decide .ensures ∙ ap allHold (c .before .values .ensures)
     ∙ ap (λ (e : Event). allHold (clausesOf p e (s .args .x) (s .args .y))) (c .before .before .decode .ensures)
 
 pub authorized-spec : {M : Type 1} → statement M
-authorized-spec = tie.close (tie.spec decode-requires values-requires decide-requires returns)
+authorized-spec = tie.close (tie.spec (λ c κs. search needs) values-requires (λ c κs. search needs) returns)

@@ -4,19 +4,13 @@ use borrow.Author.Needs.{needs}
 use Rattle.access.proofs.flows.Statement.{statement}
 use Rattle.access.proofs.flows.Tie as tie
 
-acts-requires : tie.Need-acts-requires
-acts-requires c κs = search needs
-
 returns : tie.Need-returns
 unfolding flow writeLike readLike
 returns c = rw (← c .before .acts .ensures, c .if1 .taken)
-
-acts-requires-2 : tie.Need-acts-requires-2
-acts-requires-2 c κs = search needs
 
 returns-2 : tie.Need-returns-2
 unfolding flow writeLike readLike
 returns-2 c = rw (← c .before .before .acts .ensures, c .before .if1 .left) (c .acts2 .ensures)
 
 pub flows-spec : {M : Type 1} → statement M
-flows-spec = tie.close (tie.spec acts-requires returns acts-requires-2 returns-2)
+flows-spec = tie.close (tie.spec (λ c κs. search needs) returns (λ c κs. search needs) returns-2)

@@ -2,27 +2,6 @@ use borrow.Author.Needs.{needs}
 use Rattle.access.proofs.values.Statement.{statement}
 use Rattle.access.proofs.values.Tie as tie
 
-alpha-requires : tie.Need-alpha-requires
-alpha-requires c κs = search needs
-
-rho-requires : tie.Need-rho-requires
-rho-requires c κs = search needs
-
-rho-requires-2 : tie.Need-rho-requires-2
-rho-requires-2 c κs = search needs
-
-mu-requires : tie.Need-mu-requires
-mu-requires c κs = search needs
-
-mu-requires-2 : tie.Need-mu-requires-2
-mu-requires-2 c κs = search needs
-
-chi-requires : tie.Need-chi-requires
-chi-requires c κs = search needs
-
-role-rule-requires : tie.Need-role-rule-requires
-role-rule-requires c κs = search needs
-
 returns : tie.Need-returns
 returns c =
     let M2 = c .before .before in
@@ -40,14 +19,4 @@ returns c =
     }
 
 pub values-spec : {M : Type 1} → statement M
-values-spec =
-    tie.close
-    (tie.spec
-    alpha-requires
-    rho-requires
-    rho-requires-2
-    mu-requires
-    mu-requires-2
-    chi-requires
-    role-rule-requires
-    returns)
+values-spec = tie.close (tie.spec (λ c κs. search needs) (λ c κs. search needs) (λ c κs. search needs) (λ c κs. search needs) (λ c κs. search needs) (λ c κs. search needs) (λ c κs. search needs) returns)

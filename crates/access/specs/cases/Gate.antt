@@ -5,7 +5,7 @@ use Rattle.policy_image.specs.cases.Written.{domain, permissions, flow, allow, 
 
 abbrev pub gate : List ℕ
 gate =
-    image 5 3 2 2 (1 ∷ 4 ∷ 6 ∷ 10 ∷ 16 ∷ 20 ∷ 23 ∷ 24 ∷ 26 ∷ [])
+    image 5 3 2 2 (1 ∷ 4 ∷ 6 ∷ 10 ∷ 15 ∷ 19 ∷ 22 ∷ 23 ∷ 25 ∷ [])
     -- types: 1 and 4 are files, 2, 3 and 5 are domains
     (domain 2 2
     ∷ domain 3 3
@@ -18,33 +18,31 @@ gate =
     ∷ flow 8 2 2 1
     ∷ flow 9 2 1 2
     ∷ flow 0 2 3 4
-    -- 2 may signal itself, and read, write and append to 1; 3 may read and write 4; 2 may make a transition to 3; 5 may read 1;
-    -- 4 is no domain
+    -- 2 may signal itself, and read, write and append to 1; 3 may read and write 4; 2 may make a transition to 3; 5 may read 1
     ∷ allow 11 2 0 1 2
     ∷ allow 12 2 1 2 7
     ∷ allow 13 3 4 2 3
     ∷ allow 14 2 3 1 1
-    ∷ allow 15 5 1 2 1
-    ∷ allow 0 4 1 2 1
+    ∷ allow 0 5 1 2 1
     -- role 2 holds 2 and 3, role 3 holds 3, and role 1 holds the domain 5
-    ∷ roleType 17 2 2
-    ∷ roleType 18 2 3
-    ∷ roleType 19 3 3
+    ∷ roleType 16 2 2
+    ∷ roleType 17 2 3
+    ∷ roleType 18 3 3
     ∷ roleType 0 1 5
     -- user 1 holds roles 2 and 3, user 2 holds role 2
-    ∷ userRole 21 1 2
-    ∷ userRole 22 1 3
+    ∷ userRole 20 1 2
+    ∷ userRole 21 1 3
     ∷ userRole 0 2 2
     -- role 2 may change to role 3, and to no other, not to itself either
     ∷ roleChange 0 2 3
     -- two constraints on write: same user, or t1 = 3 and not r2 = 2; and u1 = 1
-    ∷ constraint 25 2 2 31
-    ∷ constraint 0 2 2 32
-    ∷ node 27 7 3 0 0
-    ∷ node 28 10 2 0 0
-    ∷ node 29 1 0 27 0
-    ∷ node 30 2 0 26 28
-    ∷ node 31 6 0 0 0
-    ∷ node 32 3 0 30 29
+    ∷ constraint 24 2 2 30
+    ∷ constraint 0 2 2 31
+    ∷ node 26 7 3 0 0
+    ∷ node 27 10 2 0 0
+    ∷ node 28 1 0 26 0
+    ∷ node 29 2 0 25 27
+    ∷ node 30 6 0 0 0
+    ∷ node 31 3 0 29 28
     ∷ node 0 11 1 0 0
     ∷ [])

@@ -12,8 +12,8 @@ use Rattle.policy_image.specs.Layout.{PolicyExact, leftOf, rightOf}
 use Rattle.policy_image.specs.Policy.{Policy, policyOf}
 use Rattle.policy_image.specs.declared.records.Record.{Record}
 use Rattle.policy_image.proofs.FieldLaws.{SameFields, same-fields}
-use Rattle.policy_nodes.specs.Nodes.{NodesInOrder, IsNode}
-use Rattle.policy_nodes.proofs.UseLaws.{left-child, right-child}
+use Rattle.policy_expressions.specs.Nodes.{NodesInOrder, IsNode}
+use Rattle.policy_expressions.proofs.UseLaws.{left-child, right-child}
 use Rattle.constraints.specs.Eval.{valueOf, evalNode}
 use Rattle.constraints.proofs.EvalLaws.{eval-by, op-other}
 use Rattle.policy_image.proofs.records.record_at.Reads as record-at-reads
@@ -46,7 +46,7 @@ module _ (t : ℕ) (K : lts.After-struct-known2 (claims t) (at t) eval.Post) whe
   s = K .before .before .before .before
 
   abbrev p : Policy
-  p = policyOf (now (s .args .image))
+  p = policyOf (now (s .args .policy))
 
   abbrev n : ℕ
   n = s .args .node
@@ -68,7 +68,7 @@ module _ (t : ℕ) (K : lts.After-struct-known2 (claims t) (at t) eval.Post) whe
 
   -- what a call at m asks
   abbrev Asks : ℕ → Type 0
-  Asks m = (m < t) × (PolicyExact (now (s .args .image)) × NodesInOrder p × IsNode p m)
+  Asks m = (m < t) × (PolicyExact (now (s .args .policy)) × NodesInOrder p × IsNode p m)
 
   child-asks : (m k : ℕ) → k ≡ m → IsNode p k × (k < n) → Asks m
   child-asks m k e q =

@@ -22,9 +22,6 @@ returns c =
     let a = c .before .before .before .before .args in
     sym (asked (a .r) (a .e) false _ _ (ne-eqb (a .r .a) (a .e .class) (omega arith)) refl)
 
-has-bit-requires : tie.Need-has-bit-requires
-has-bit-requires c κs = search needs
-
 -- another permission
 returns-2 : tie.Need-returns-2
 returns-2 c =
@@ -34,37 +31,17 @@ returns-2 c =
     (asked (a .r) (a .e) true false _ (eq-eqb (a .r .a) (a .e .class) (omega arith))
     (sym (h .ensures) ∙ not-true (h .result) (c .if2 .taken)))
 
-mul-eval : tie.Need-mul-eval
-mul-eval c = search needs
-
-add-eval : tie.Need-add-eval
-add-eval c = search needs
-
-cast-eval : tie.Need-cast-eval
-cast-eval c = search needs
-
-eval-requires : tie.Need-eval-requires
-eval-requires c κs = search needs
-
 -- on the event
 returns-3 : tie.Need-returns-3
 returns-3 c =
-    let a = c .before .before .before .before .before .before .before .before .before .args in
-    let h = c .before .before .before .before .has-bit in
+    let has-bit = c .before .before .before .before in
+    let s = has-bit .before .before .before .before .before in
+    let a = s .args in
+    let h = has-bit .has-bit in
     c .eval .ensures
     ∙ sym
     (asked (a .r) (a .e) true true _ (eq-eqb (a .r .a) (a .e .class) (omega arith))
     (sym (h .ensures) ∙ not-false (h .result) (c .before .before .before .if2 .left)))
 
 pub constraint-holds-spec : {M : Type 1} → statement M
-constraint-holds-spec =
-    tie.close
-    (tie.spec
-    returns
-    has-bit-requires
-    returns-2
-    mul-eval
-    add-eval
-    cast-eval
-    eval-requires
-    returns-3)
+constraint-holds-spec = tie.close (tie.spec returns (λ c κs. search needs) returns-2 (λ c. search needs) (λ c. search needs) (λ c. search needs) (λ c κs. search needs) returns-3)

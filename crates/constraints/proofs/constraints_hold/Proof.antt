@@ -11,9 +11,9 @@ use Rattle.policy_image.specs.declared.records.Record.{Record}
 use Rattle.policy_image.specs.Layout.{recordCount, rootOf}
 use Rattle.policy_image.specs.Policy.{Policy, policyOf, policyLinks}
 use Rattle.policy_image.proofs.FieldLaws.{same-fields}
-use Rattle.policy_chains.proofs.KindLaws.{OfKind, visit-kind, visit-all, every-yes, every-no}
-use Rattle.policy_nodes.specs.Nodes.{Uses, IsNode}
-use Rattle.policy_nodes.proofs.UseLaws.{use-root}
+use Rattle.policy_links.proofs.KindLaws.{OfKind, visit-kind, visit-all, every-yes, every-no}
+use Rattle.policy_expressions.specs.Nodes.{Uses, IsNode}
+use Rattle.policy_expressions.proofs.UseLaws.{use-root}
 use Rattle.policy_check.specs.inner.Sound.{Sound}
 use Rattle.context.specs.declared.Context.{Context}
 use Rattle.context.specs.declared.Event.{Event}
@@ -27,20 +27,17 @@ abbrev holds : Policy → Event → Context → Context → Record → Bool
 holds p e x y r = not (constrains r e) || evalNode p x y (rootOf r)
 
 abbrev Inv-loop : tie.InvT-loop
-Inv-loop image e x y i₀ i =
-    Visit (policyLinks (policyOf image)) 8 (λ j. holds (policyOf image) e x y (policyOf image .rec j) ≡ true) i
+Inv-loop policy e x y i₀ i =
+    Visit (policyLinks (policyOf policy)) 8 (λ j. holds (policyOf policy) e x y (policyOf policy .rec j) ≡ true) i
 
 abbrev μ-loop : tie.MeasureT-loop
-μ-loop image e x y i₀ i = left (recordCount image) i
-
-head-at-requires : tie.Need-head-at-requires Inv-loop μ-loop
-head-at-requires c κs = search needs
+μ-loop policy e x y i₀ i = left (recordCount policy) i
 
 loop-holds : tie.Need-loop-holds Inv-loop μ-loop
 loop-holds c =
     let s = c .before .before in
     let L = s .pre .0 .links in
-    visit-start (policyLinks (policyOf (s .args .image .now))) 8 (L .heads 8 (omega arith) (omega arith)) (L .nexts) _ _ (omega arith)
+    visit-start (policyLinks (policyOf (s .args .policy .now))) 8 (L .heads 8 (omega arith) (omega arith)) (L .nexts) _ _ (omega arith)
 
 record-at-requires : tie.Need-record-at-requires Inv-loop μ-loop
 record-at-requires c κs =
@@ -52,9 +49,9 @@ module _ (K : tie.After-record-at Inv-loop μ-loop) where
   s = K .before .before .before .before .before
 
   abbrev p : Policy
-  p = policyOf (s .args .image .now)
+  p = policyOf (s .args .policy .now)
 
-  abbrev S : Sound (s .args .image .now)
+  abbrev S : Sound (s .args .policy .now)
   S = s .pre .0
 
   abbrev i : ℕ
@@ -119,23 +116,11 @@ unfolding constraintsHold
 returns-2 c =
     let s = c .before .before .before .before in
     let S = s .pre .0 in
-    let p = policyOf (s .args .image .now) in
+    let p = policyOf (s .args .policy .now) in
     let f : Record → Bool = holds p (s .args .e) (s .args .x) (s .args .y) in
     let Q : ℕ → Type 0 = λ j. f (p .rec j) ≡ true in
     let v : Visit (policyLinks p) 8 Q 0 = subst (λ (j : ℕ). Visit (policyLinks p) 8 Q j) (c .loop-test .left) (c .before .loop .inv) in
     sym (every-yes p 8 f (visit-all p (S .links) (S .chains) 8 (omega arith) (omega arith) Q v))
 
 pub constraints-hold-spec : {M : Type 1} → statement M
-constraints-hold-spec =
-    tie.close
-    (tie.spec
-    Inv-loop
-    μ-loop
-    head-at-requires
-    loop-holds
-    record-at-requires
-    constraint-holds-requires
-    returns
-    loop-less
-    loop-again
-    returns-2)
+constraints-hold-spec = tie.close (tie.spec Inv-loop μ-loop (λ c κs. search needs) loop-holds record-at-requires constraint-holds-requires returns loop-less loop-again returns-2)

@@ -10,9 +10,9 @@ use Rattle.goal_image.specs.declared.check.CheckedGoal.the-variants.{Acc
 use Rattle.goal_image.specs.Goal.{Goal, goalOf}
 use Rattle.goal_image.specs.Questions.{goalQuestions}
 
--- l are the legs of the goal: their number, which of them are repeated, and the number of records
+-- the legs of the goal: their number, and which of them are repeated
 abbrev pub legsIn : Goal → Legs
-legsIn g = record { count = g .legs; repeated = g .flags; records = g .size }
+legsIn g = record { count = g .legs; repeated = g .flags }
 
 -- what each case of the answer says: accepted, with the goal's legs, where every answer is yes; refused, with the number of
 -- the first question whose answer is no

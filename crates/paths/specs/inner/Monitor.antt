@@ -34,6 +34,12 @@ module _ (M : Model) where
     pub starts : T (σ 0 x)
     pub meets : T (held x)
 
+  -- some path has m steps, whatever it breaks
+  pub record SomePath (m : ℕ) : Type 0 where
+    pub x : ℕ → ℕ
+    pub e : ℕ → ℕ
+    pub path : IsPath M m x e
+
 module _ (A : Monitor) where
   open Monitor A using (State, start, step)
 

@@ -1,13 +1,15 @@
--- What a search with a monitor finds.
-use Prim.Native.Nat.{ℕ, _<_}
+-- The answers to a goal that is not refused: "holds", "order m", "events m" (paper 01).
+use Prim.Native.Nat.{ℕ}
 use Rattle.paths.specs.Model.{Model}
-use Rattle.paths.specs.inner.Monitor.{Monitor, BadNode}
+use Rattle.paths.specs.Paths.{Holds, OrderAt, EventsAt}
 
--- what a search finds: the least number of steps, or nothing
-pub data Found : Type 0 where
-  at : ℕ → Found
-  nowhere : Found
+pub data Verdict : Type 0 where
+  holds : Verdict
+  order : ℕ → Verdict
+  events : ℕ → Verdict
 
-abbrev pub Least : Model → Monitor → Found → Type 0
-Least M A (at m) = BadNode M A m × ((k : ℕ) → k < m → ¬ BadNode M A k)
-Least M A nowhere = (k : ℕ) → ¬ BadNode M A k
+-- what each says
+abbrev pub Right : Model → Verdict → Type 0
+Right M holds = Holds M
+Right M (order m) = OrderAt M m
+Right M (events m) = EventsAt M m

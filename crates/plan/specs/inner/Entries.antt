@@ -2,7 +2,7 @@
 use Prim.Native.Nat.{ℕ, _+_}
 use mathlib.Core.List.{List}
 use lib.ListN.{getD}
-use Rattle.plan.specs.inner.Regions.{changesStart, firstStart, keysStart, outsStart, insStart, guardsStart, groupsStart, rolesStart, holdersStart, eventsStart, typeSetsStart, pairSetsStart, namedStart, linksStart, marksStart, recordRolesStart, recordUsersStart, leadsStart}
+use Rattle.plan.specs.inner.Regions.{changesStart, firstStart, keysStart, writesStart, readsStart, typeSpecialStart, groupsStart, rolesStart, holdersStart, eventSetsStart, typeSetsStart, pairSetsStart, namedStart, linksStart, marksStart, recordRolesStart, recordUsersStart, leadsStart}
 
 -- ---- the part of the policy
 abbrev pub specialAt : List ℕ → ℕ → ℕ
@@ -17,14 +17,14 @@ firstAt plan type = getD plan (firstStart + type) 0
 abbrev pub keyAt : List ℕ → ℕ → ℕ
 keyAt plan j = getD plan (keysStart + j) 0
 
-abbrev pub outsAt : List ℕ → ℕ → ℕ
-outsAt plan j = getD plan (outsStart + j) 0
+abbrev pub writesAt : List ℕ → ℕ → ℕ
+writesAt plan j = getD plan (writesStart + j) 0
 
-abbrev pub insAt : List ℕ → ℕ → ℕ
-insAt plan j = getD plan (insStart + j) 0
+abbrev pub readsAt : List ℕ → ℕ → ℕ
+readsAt plan j = getD plan (readsStart + j) 0
 
-abbrev pub guardsAt : List ℕ → ℕ → ℕ
-guardsAt plan type = getD plan (guardsStart + type) 0
+abbrev pub typeSpecialAt : List ℕ → ℕ → ℕ
+typeSpecialAt plan type = getD plan (typeSpecialStart + type) 0
 
 abbrev pub groupsAt : List ℕ → ℕ → ℕ
 groupsAt plan e = getD plan (groupsStart + e) 0
@@ -36,8 +36,8 @@ abbrev pub holdersAt : List ℕ → ℕ → ℕ
 holdersAt plan i = getD plan (holdersStart + i) 0
 
 -- ---- the part of the goal
-abbrev pub eventsAt : List ℕ → ℕ → ℕ
-eventsAt plan e = getD plan (eventsStart + e) 0
+abbrev pub eventSetsAt : List ℕ → ℕ → ℕ
+eventSetsAt plan e = getD plan (eventSetsStart + e) 0
 
 abbrev pub typeSetsAt : List ℕ → ℕ → ℕ
 typeSetsAt plan type = getD plan (typeSetsStart + type) 0

@@ -9,21 +9,23 @@ use lib.Dec.{eqb}
 use lib.ListN.{getD}
 use Rattle.base.specs.Bits.{bit}
 use Rattle.policy_image.specs.Policy.{Policy}
-use Rattle.plan.specs.inner.Entries.{keyAt, outsAt, insAt, groupsAt, eventsAt}
+use Rattle.context.specs.inner.Coding.{transitionCode}
+use Rattle.plan.specs.inner.Entries.{keyAt, writesAt, readsAt, groupsAt, eventSetsAt}
 use Rattle.plan.specs.inner.Plan.{Grouped, Alike}
 use Rattle.plan.specs.inner.Regions.{typeCodes}
 
 -- whether the permission q is in the group of the event of its class and in the same sets, and is not process transition
 abbrev pub likes : List ℕ → ℕ → ℕ → Bool
-likes plan event q = bit (groupsAt plan event) q && (not (eqb (32 * (event / 32) + q) 32) && eqb (eventsAt plan (32 * (event / 32) + q)) (eventsAt plan event))
+likes plan event q = bit (groupsAt plan event) q && (not (eqb (32 * (event / 32) + q) transitionCode) && eqb (eventSetsAt plan (32 * (event / 32) + q)) (eventSetsAt plan event))
 
 -- r has the bits of the mask, and bit q where yes
 pub record WithIf (mask q : ℕ) (yes : Bool) (r : ℕ) : Type 0 where
   pub at : (i : ℕ) → bit r i ≡ (bit mask i || (yes && eqb q i))
 
--- r has the permissions below n of that kind
+-- r has the permissions of that kind from the event's own to below n
 pub record SameSets (plan : List ℕ) (event n r : ℕ) : Type 0 where
-  pub done : (q : ℕ) → q < n → bit r q ≡ likes plan event q
+  pub low : (q : ℕ) → q < event % 32 → bit r q ≡ false
+  pub done : (q : ℕ) → event % 32 ≤ q → q < n → bit r q ≡ likes plan event q
   pub rest : (q : ℕ) → n ≤ q → bit r q ≡ false
 
 -- the permissions in the entry of an event are like it
@@ -43,8 +45,8 @@ pub record Leading (alike : List ℕ) (class mask r : ℕ) : Type 0 where
 
 -- v has the leading permissions of entry j, of either way
 pub record EntryLeads (alike plan : List ℕ) (j v : ℕ) : Type 0 where
-  pub outs : ℕ
-  pub ins : ℕ
-  pub outs-lead : Leading alike (keyAt plan j / typeCodes % 32) (outsAt plan j) outs
-  pub ins-lead : Leading alike (keyAt plan j / typeCodes % 32) (insAt plan j) ins
-  pub both : v ≡ bitOr outs ins
+  pub writes : ℕ
+  pub reads : ℕ
+  pub writes-lead : Leading alike (keyAt plan j / typeCodes % 32) (writesAt plan j) writes
+  pub reads-lead : Leading alike (keyAt plan j / typeCodes % 32) (readsAt plan j) reads
+  pub both : v ≡ bitOr writes reads

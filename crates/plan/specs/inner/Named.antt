@@ -1,18 +1,18 @@
 -- The records of a goal that name a type together with a role or a user, and the lists that a plan has of them.
 use Prim.Native.Nat.{ℕ, suc, _≤_, _<_}
 use mathlib.Core.Path.{_≡_}
-use mathlib.Core.Bool.{Bool, true, _&&_}
+use mathlib.Core.Bool.{true}
 use mathlib.Core.List.{List}
-use lib.Dec.{eqb}
 use lib.ListN.{getD}
 use Rattle.base.specs.Bits.{bit}
 use Rattle.base.specs.Chain.{OnChain}
 use Rattle.context.specs.declared.Context.{Context}
 use Rattle.goal_image.specs.declared.records.ContextRecord.{ContextRecord}
 use Rattle.goal_image.specs.Goal.{Goal, goalLinks, isContextChain}
-use Rattle.goal_image.specs.Sets.{along, matchesContext}
-use Rattle.tables.specs.inner.Tables.{typeEntries}
-use Rattle.plan.specs.inner.Regions.{namedStart}
+use Rattle.goal_image.specs.Sets.{matchesContext}
+use Rattle.goal_image.specs.inner.Memberships.{RecordSets}
+use Rattle.plan_tables.specs.inner.Tables.{typeEntries}
+use Rattle.plan.specs.inner.Regions.{recordEntries, namedStart}
 use Rattle.plan.specs.inner.Entries.{namedAt, linkAt, marksAt, recordRoleAt, recordUserAt}
 use Rattle.plan.specs.inner.Sets.{Falls}
 
@@ -22,21 +22,13 @@ pub record NamesBoth (r : ContextRecord) : Type 0 where
   pub few : r .ty < typeEntries
   pub more : r .role ≡ 0 → r .user ≡ 0 → ⊥
 
--- whether record k is on chain h
-unfoldable pub onChain : Goal → ℕ → ℕ → Bool
-onChain g k h = along (goalLinks g) (λ i. eqb i k) (g .size) (g .head h)
-
--- bit h of m says whether record k is on the σ chain h, and no other bit is set
-pub record MarksOf (g : Goal) (k m : ℕ) : Type 0 where
-  pub at : (h : ℕ) → bit m h ≡ (isContextChain h && onChain g k h)
-
 -- record k is on a σ chain, and names the type t and a role or a user with it
 pub record Named (g : Goal) (t k : ℕ) : Type 0 where
   pub low : 1 ≤ k
   pub high : k ≤ g .size
   pub type : g .context k .ty ≡ t
   pub both : NamesBoth (g .context k)
-  pub marked : MarksOf g k 0 → ⊥
+  pub marked : RecordSets g k 0 → ⊥
 
 -- of the numbers from 1 to below a with K, b is the last, or 0 where there is none
 pub record Last (K : ℕ → Type 0) (a b : ℕ) : Type 0 where
@@ -46,9 +38,28 @@ pub record Last (K : ℕ → Type 0) (a b : ℕ) : Type 0 where
 
 -- the σ chains that record k is on, its role and its user
 pub record Noted (g : Goal) (plan : List ℕ) (k : ℕ) : Type 0 where
-  pub marks : MarksOf g k (marksAt plan k)
+  pub marks : RecordSets g k (marksAt plan k)
   pub role : recordRoleAt plan k ≡ g .context k .role
   pub user : recordUserAt plan k ≡ g .context k .user
+
+-- record k is as it was
+pub record SameRecord (old plan : List ℕ) (k : ℕ) : Type 0 where
+  pub link : linkAt plan k ≡ linkAt old k
+  pub marks : marksAt plan k ≡ marksAt old k
+  pub role : recordRoleAt plan k ≡ recordRoleAt old k
+  pub user : recordUserAt plan k ≡ recordUserAt old k
+
+-- a record that names what x does, on the σ chains of the mask m, is put as record k before the list of its type; the other heads and
+-- records, and what is below, are as they were
+pub record RecordPut (k : ℕ) (x : Context) (m : ℕ) (old plan : List ℕ) : Type 0 where
+  pub head : namedAt plan (x .ty) ≡ k
+  pub link : linkAt plan k ≡ namedAt old (x .ty)
+  pub marks : marksAt plan k ≡ m
+  pub role : recordRoleAt plan k ≡ x .role
+  pub user : recordUserAt plan k ≡ x .user
+  pub heads : (t : ℕ) → t < typeEntries → (t ≡ x .ty → ⊥) → namedAt plan t ≡ namedAt old t
+  pub others : (j : ℕ) → j < recordEntries → (j ≡ k → ⊥) → SameRecord old plan j
+  pub below : (i : ℕ) → i < namedStart → getD plan i 0 ≡ getD old i 0
 
 -- the lists of the types have the records below a, the last first
 pub record Links (g : Goal) (plan : List ℕ) (a : ℕ) : Type 0 where

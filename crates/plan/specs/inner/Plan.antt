@@ -17,18 +17,18 @@ use Rattle.policy_image.specs.OfKind.{some}
 use Rattle.policy_check.specs.inner.Sound.{Sound}
 use Rattle.context.specs.declared.Event.{Event}
 use Rattle.context.specs.Codes.{contextAt, eventAt, eventOf, isTransition}
-use Rattle.context.specs.inner.Places.{Countable}
+use Rattle.context.specs.inner.Places.{Countable, pairCount, roleAt, userAt}
 use Rattle.relations.specs.Relations.{α, ρ, μ, roleChange, writeLike, readLike}
 use Rattle.constraints.specs.Constraints.{constrains}
-use Rattle.index.specs.inner.Index.{Ranged}
+use Rattle.plan_index.specs.inner.Codes.{keyCode}
+use Rattle.plan_index.specs.inner.Index.{Ranged}
 use Rattle.goal_image.specs.Goal.{Goal, goalOf}
 use Rattle.goal_image.specs.inner.Memberships.{ContextSets, EventSets}
 use Rattle.goal_image.specs.inner.Sound.{SoundGoal}
-use Rattle.tables.specs.inner.Groups.{Together}
-use Rattle.tables.specs.inner.Tables.{typeEntries, userEntries}
-use Rattle.plan.specs.inner.Types.{pairCount, roleAt, userAt}
+use Rattle.plan_tables.specs.inner.Groups.{Together}
+use Rattle.plan_tables.specs.inner.Tables.{typeEntries, userEntries}
 use Rattle.plan.specs.inner.Regions.{classEntries, roleEntries, blockEntries, planEntries, typeCodes}
-use Rattle.plan.specs.inner.Entries.{specialAt, changesAt, firstAt, keyAt, outsAt, insAt, guardsAt, groupsAt, rolesAt, holdersAt, eventsAt, typeSetsAt, pairSetsAt, leadsAt}
+use Rattle.plan.specs.inner.Entries.{specialAt, changesAt, firstAt, keyAt, writesAt, readsAt, typeSpecialAt, groupsAt, rolesAt, holdersAt, eventSetsAt, typeSetsAt, pairSetsAt, leadsAt}
 use Rattle.plan.specs.inner.Sets.{Falls}
 use Rattle.plan.specs.inner.Named.{AllLinked}
 
@@ -70,24 +70,24 @@ pub record OfferBlock (p : Policy) (t : ℕ) (plan : List ℕ) (lo hi : ℕ) : T
   pub order : lo ≤ hi
   pub rising : (i j : ℕ) → lo ≤ i → i < j → j < hi → keyAt plan i < keyAt plan j
   pub ranged : (j : ℕ) → lo ≤ j → j < hi → Ranged (p .counts .types) (keyAt plan j)
-  pub outs : (j q : ℕ) → lo ≤ j → j < hi → q < 32
-      → bit (outsAt plan j) q ≡ (α p t (keyAt plan j % typeCodes) (eventAt (keyAt plan j / typeCodes) q) && writeLike p (eventAt (keyAt plan j / typeCodes) q))
-  pub ins : (j q : ℕ) → lo ≤ j → j < hi → q < 32
-      → bit (insAt plan j) q ≡ (α p (keyAt plan j % typeCodes) t (eventAt (keyAt plan j / typeCodes) q) && readLike p (eventAt (keyAt plan j / typeCodes) q))
+  pub writes : (j q : ℕ) → lo ≤ j → j < hi → q < 32
+      → bit (writesAt plan j) q ≡ (α p t (keyAt plan j % typeCodes) (eventAt (keyAt plan j / typeCodes) q) && writeLike p (eventAt (keyAt plan j / typeCodes) q))
+  pub reads : (j q : ℕ) → lo ≤ j → j < hi → q < 32
+      → bit (readsAt plan j) q ≡ (α p (keyAt plan j % typeCodes) t (eventAt (keyAt plan j / typeCodes) q) && readLike p (eventAt (keyAt plan j / typeCodes) q))
   pub whole : (c o q : ℕ) → c < 32 → o < typeCodes → q < 32 → (α p t o (eventAt c q) ≡ true) ⊎ (α p o t (eventAt c q) ≡ true)
-      → EntryOf plan lo hi (typeCodes * c + o)
+      → EntryOf plan lo hi (keyCode c o)
 
 -- the block of each type
-pub record Blocks (p : Policy) (plan : List ℕ) : Type 0 where
+pub record OfferBlocks (p : Policy) (plan : List ℕ) : Type 0 where
   pub blocks : (t : ℕ) → Within 1 (p .counts .types) t → OfferBlock p t plan (firstAt plan t) (firstAt plan (t + 1))
   pub tops : (t : ℕ) → Within 1 (p .counts .types) t → firstAt plan (t + 1) ≤ blockEntries
 
 -- the permissions of entry j that are special for its class
 abbrev pub specialsAt : List ℕ → ℕ → ℕ
-specialsAt plan j = bitAnd (bitOr (outsAt plan j) (insAt plan j)) (specialAt plan (keyAt plan j / typeCodes % 32))
+specialsAt plan j = bitAnd (bitOr (writesAt plan j) (readsAt plan j)) (specialAt plan (keyAt plan j / typeCodes % 32))
 
 -- r has the special permissions of the entries from lo to below hi
-pub record GuardsOf (plan : List ℕ) (lo hi r : ℕ) : Type 0 where
+pub record SpecialOf (plan : List ℕ) (lo hi r : ℕ) : Type 0 where
   pub at : (j q : ℕ) → lo ≤ j → j < hi → bit (specialsAt plan j) q ≡ true → bit r q ≡ true
 
 -- v has the role of the pair i alone, where its user may hold it, and else nothing
@@ -108,8 +108,8 @@ pub record PolicyPlan (s : List ℕ) (n : Counts) (plan : List ℕ) : Type 0 whe
   pub size : planEntries ≤ length plan
   pub counts : PlanCounts n
   pub tables : Tabled (policyOf s) plan
-  pub index : Blocks (policyOf s) plan
-  pub guards : (t : ℕ) → Within 1 (policyOf s .counts .types) t → GuardsOf plan (firstAt plan t) (firstAt plan (t + 1)) (guardsAt plan t)
+  pub index : OfferBlocks (policyOf s) plan
+  pub type-special : (t : ℕ) → Within 1 (policyOf s .counts .types) t → SpecialOf plan (firstAt plan t) (firstAt plan (t + 1)) (typeSpecialAt plan t)
   pub groups : Grouped (policyOf s) plan
   pub held : Holding (policyOf s) n plan
 
@@ -127,13 +127,13 @@ pub record Sorting (g : Goal) (n : Counts) (plan : List ℕ) : Type 0 where
 -- what the plan says of the goal g, for contexts and events of a policy with the counts n
 pub record GoalPlan (g : List ℕ) (n : Counts) (plan : List ℕ) : Type 0 where
   pub sound : SoundGoal g
-  pub events : (e : ℕ) → 32 ≤ e → e < 32 * (n .classes + 1) → EventSets (goalOf g) (eventOf e) (eventsAt plan e)
+  pub events : (e : ℕ) → 32 ≤ e → e < 32 * (n .classes + 1) → EventSets (goalOf g) (eventOf e) (eventSetsAt plan e)
   pub sets : Sorting (goalOf g) n plan
 
 -- two events that a search cannot tell apart: in the same sets of the goal, by the plan, under the same constraints, and process
 -- transition both or neither
 pub record Alike (p : Policy) (plan : List ℕ) (e f : ℕ) : Type 0 where
-  pub sets : eventsAt plan e ≡ eventsAt plan f
+  pub sets : eventSetsAt plan e ≡ eventSetsAt plan f
   pub constrained : (j : ℕ) → 1 ≤ j → j ≤ p .size → p .rec j .kind ≡ 8 → constrains (p .rec j) (eventOf e) ≡ constrains (p .rec j) (eventOf f)
   pub transition : isTransition (eventOf e) ≡ isTransition (eventOf f)
 
@@ -147,9 +147,9 @@ pub record Leader (p : Policy) (plan : List ℕ) (c mask leads q : ℕ) : Type 0
 
 -- the leads of entry j are some of its permissions, and for each of its permissions one of them stands that goes the same way
 pub record Leads (p : Policy) (plan : List ℕ) (j : ℕ) : Type 0 where
-  pub among : (q : ℕ) → bit (leadsAt plan j) q ≡ true → bit (bitOr (outsAt plan j) (insAt plan j)) q ≡ true
-  pub outs : (q : ℕ) → q < 32 → bit (outsAt plan j) q ≡ true → Leader p plan (keyAt plan j / typeCodes) (outsAt plan j) (leadsAt plan j) q
-  pub ins : (q : ℕ) → q < 32 → bit (insAt plan j) q ≡ true → Leader p plan (keyAt plan j / typeCodes) (insAt plan j) (leadsAt plan j) q
+  pub among : (q : ℕ) → bit (leadsAt plan j) q ≡ true → bit (bitOr (writesAt plan j) (readsAt plan j)) q ≡ true
+  pub writes : (q : ℕ) → q < 32 → bit (writesAt plan j) q ≡ true → Leader p plan (keyAt plan j / typeCodes) (writesAt plan j) (leadsAt plan j) q
+  pub reads : (q : ℕ) → q < 32 → bit (readsAt plan j) q ≡ true → Leader p plan (keyAt plan j / typeCodes) (readsAt plan j) (leadsAt plan j) q
 
 -- ---- both
 -- all that a search relies on, whatever goal the sets are of

@@ -1,7 +1,10 @@
 -- Where the regions of a plan start: the twins of the constants of src/regions.rt. Each start is the sum of the start and the size of the
 -- region before it.
 use Prim.Native.Nat.{ℕ, _+_}
-use Rattle.tables.specs.inner.Tables.{typeEntries}
+use Rattle.plan_tables.specs.inner.Tables.{typeEntries}
+use Rattle.plan_index.specs.inner.Codes.{items}
+-- a step is an event and a type, as a key is a class and a type: typeCodes times the first and the second
+pub use Rattle.plan_index.specs.inner.Codes.{typeCodes}
 
 -- ---- sizes: by class, by role, by type with one more for the end of the last block, by entry of a block, by event, by pair of a role
 -- and a user, by record of a goal
@@ -15,7 +18,7 @@ abbrev pub firstEntries : ℕ
 firstEntries = typeEntries + 1
 
 abbrev pub blockEntries : ℕ
-blockEntries = 8192
+blockEntries = items
 
 abbrev pub eventEntries : ℕ
 eventEntries = 1024
@@ -25,10 +28,6 @@ pairEntries = 225
 
 abbrev pub recordEntries : ℕ
 recordEntries = 256
-
--- a key is a class and a type, a step an event and a type: typeCodes times the first and the second
-abbrev pub typeCodes : ℕ
-typeCodes = 4096
 
 -- ---- the part of the policy
 abbrev pub specialStart : ℕ
@@ -43,17 +42,17 @@ firstStart = changesStart + roleEntries
 abbrev pub keysStart : ℕ
 keysStart = firstStart + firstEntries
 
-abbrev pub outsStart : ℕ
-outsStart = keysStart + blockEntries
+abbrev pub writesStart : ℕ
+writesStart = keysStart + blockEntries
 
-abbrev pub insStart : ℕ
-insStart = outsStart + blockEntries
+abbrev pub readsStart : ℕ
+readsStart = writesStart + blockEntries
 
-abbrev pub guardsStart : ℕ
-guardsStart = insStart + blockEntries
+abbrev pub typeSpecialStart : ℕ
+typeSpecialStart = readsStart + blockEntries
 
 abbrev pub groupsStart : ℕ
-groupsStart = guardsStart + typeEntries
+groupsStart = typeSpecialStart + typeEntries
 
 abbrev pub rolesStart : ℕ
 rolesStart = groupsStart + eventEntries
@@ -62,11 +61,11 @@ abbrev pub holdersStart : ℕ
 holdersStart = rolesStart + typeEntries
 
 -- ---- the part of the goal
-abbrev pub eventsStart : ℕ
-eventsStart = holdersStart + pairEntries
+abbrev pub eventSetsStart : ℕ
+eventSetsStart = holdersStart + pairEntries
 
 abbrev pub typeSetsStart : ℕ
-typeSetsStart = eventsStart + eventEntries
+typeSetsStart = eventSetsStart + eventEntries
 
 abbrev pub pairSetsStart : ℕ
 pairSetsStart = typeSetsStart + typeEntries

@@ -6,7 +6,7 @@ use lib.Bits.{bitOr}
 use Rattle.policy_image.specs.declared.counts.Counts.{Counts}
 use Rattle.context.specs.declared.Context.{Context}
 use Rattle.goal_image.specs.Sets.{fits}
-use Rattle.tables.specs.inner.Tables.{typeEntries}
+use Rattle.plan_tables.specs.inner.Tables.{typeEntries}
 use Rattle.plan.specs.inner.Regions.{recordEntries}
 use Rattle.plan.specs.inner.Entries.{typeSetsAt, pairSetsAt, namedAt, linkAt, marksAt, recordRoleAt, recordUserAt}
 
@@ -25,6 +25,10 @@ listed plan x zero k sets = sets
 listed plan x (suc steps) zero sets = sets
 listed plan x (suc steps) (suc k) sets = listed plan x steps (linkAt plan (suc k)) (cond (recordFits plan x (suc k)) (bitOr sets (marksAt plan (suc k))) sets)
 
+-- the sets of those records of the list of x's type that fit x
+abbrev pub listedFor : List ℕ → Context → ℕ
+listedFor plan x = listed plan x (namedAt plan (x .ty)) (namedAt plan (x .ty)) 0
+
 -- the place of a context's pair of a role and a user
 abbrev pub pairOf : Counts → Context → ℕ
 pairOf n x = (x .role - 1) * n .users + (x .user - 1)
@@ -32,4 +36,4 @@ pairOf n x = (x .role - 1) * n .users + (x .user - 1)
 -- the sets of its type, of its pair, and of the records that name its type together with a role or a user
 unfoldable pub setsOf : Counts → List ℕ → Context → ℕ
 setsOf n plan x =
-    bitOr (bitOr (typeSetsAt plan (x .ty)) (pairSetsAt plan (pairOf n x))) (listed plan x (namedAt plan (x .ty)) (namedAt plan (x .ty)) 0)
+    bitOr (bitOr (typeSetsAt plan (x .ty)) (pairSetsAt plan (pairOf n x))) (listedFor plan x)

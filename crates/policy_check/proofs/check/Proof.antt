@@ -14,18 +14,19 @@ use Rattle.policy_image.specs.declared.counts.Checked.{Checked}
 use Rattle.policy_image.specs.declared.counts.Checked.the-variants.{Accepted, Refused}
 use Rattle.policy_image.specs.inner.Answer.{CountsAnswer, countQuestions}
 use Rattle.policy_image.specs.Policy.{policyOf}
-use Rattle.policy_chains.specs.Chains.{LinksRise, ChainsByKind}
+use Rattle.policy_links.specs.Chains.{LinksRise, ChainsByKind}
 use Rattle.policy_fields.specs.Fields.{FieldsInRange}
+use Rattle.policy_expressions.specs.Nodes.{NodesInOrder}
 use Rattle.policy_check.specs.inner.Answer.{PolicyAnswer}
 use Rattle.policy_check.specs.Questions.{policyQuestions}
 use Rattle.policy_check.proofs.check.Statement.{statement}
 use Rattle.policy_check.proofs.check.Tie as tie
 
--- questions 3 to 6
+-- questions 3 to 6, and 14
 abbrev rest : List ℕ → List Question
 rest s = drop 2 (policyQuestions s)
 
--- a refusal by questions 1 and 2 is one by all six
+-- a refusal by questions 1 and 2 is one by all
 refused-counts : (s : List ℕ) (n : ℕ) → CountsAnswer s (Refused n) → RefusedWith (policyQuestions s) n
 refused-counts s n r = refused-first (countQuestions s) (rest s) n r
 
@@ -40,7 +41,7 @@ module _ (K : tie.After-known-told) where
   answer : CountsAnswer s (Accepted counts)
   answer = subst (λ (r : Checked). CountsAnswer s r) (K .before .counted .given .1) (K .before .before .before .check-counts .ensures)
 
--- and where questions 3, 4 and 5 have been answered with yes
+-- and where questions 3, 4, 5 and 6 have been answered with yes
 links : (K : tie.Else1) → LinksRise (policyOf (s (K .before .before)))
 links K = not-yes (K .before .links-rise .result) (K .before .links-rise .ensures) (K .if1 .left)
 
@@ -50,14 +51,8 @@ chains K = not-yes (K .before .chains-by-kind .result) (K .before .chains-by-kin
 fields : (K : tie.Else3) → FieldsInRange (policyOf (s (K .before .before .before .before .before .before)))
 fields K = not-yes (K .before .fields-in-range .result) (K .before .fields-in-range .ensures) (K .if3 .left)
 
-check-counts-requires : tie.Need-check-counts-requires
-check-counts-requires c κs = search needs
-
-enum-known-counted : tie.Need-enum-known-counted
-enum-known-counted c = search needs
-
-enum-told : tie.Need-enum-told
-enum-told c = search needs
+nodes : (K : tie.Else4) → NodesInOrder (policyOf (s (K .before .before .before .before .before .before .before .before)))
+nodes K = not-yes (K .before .nodes-in-order .result) (K .before .nodes-in-order .ensures) (K .if4 .left)
 
 returns : tie.Need-returns
 returns c =
@@ -68,7 +63,7 @@ returns c =
     (refused-counts s _ (subst (λ (r : Checked). CountsAnswer s r) e (K .check-counts .ensures)))
 
 links-rise-requires : tie.Need-links-rise-requires
-links-rise-requires c κs = answer c .0
+links-rise-requires c κs = answer c .0 .exact
 
 returns-2 : tie.Need-returns-2
 returns-2 c =
@@ -108,31 +103,33 @@ returns-5 c =
     refused-then (countQuestions (s K)) (rest (s K)) 6 (answer K .1)
     (inr (links E1, inr (chains E2, inr (fields E3, inl (not-no (c .before .nodes-in-order .result) (c .before .nodes-in-order .ensures) (c .if4 .taken), refl)))))
 
+allows-from-domains-requires : tie.Need-allows-from-domains-requires
+allows-from-domains-requires c κs =
+    let E2 = c .before .before .before .before in
+    let E1 = E2 .before .before in
+    (answer (E1 .before .before) .0 .exact, links E1, chains E2)
+
 returns-6 : tie.Need-returns-6
 returns-6 c =
-    let E3 = c .before .before in
+    let E4 = c .before .before in
+    let E3 = E4 .before .before in
+    let E2 = E3 .before .before in
+    let E1 = E2 .before .before in
+    let K = E1 .before .before in
+    refused-then (countQuestions (s K)) (rest (s K)) 14 (answer K .1)
+    (inr (links E1, inr (chains E2, inr (fields E3, inr (nodes E4, inl (not-no (c .before .allows-from-domains .result) (c .before .allows-from-domains .ensures) (c .if5 .taken), refl))))))
+
+returns-7 : tie.Need-returns-7
+returns-7 c =
+    let E4 = c .before .before in
+    let E3 = E4 .before .before in
     let E2 = E3 .before .before in
     let E1 = E2 .before .before in
     let K = E1 .before .before in (
       answer K .0 .same,
       passed-both (countQuestions (s K)) (rest (s K)) (answer K .1)
-          (links E1, (chains E2, (fields E3, (not-yes (c .before .nodes-in-order .result) (c .before .nodes-in-order .ensures) (c .if4 .left), tt)))),
+          (links E1, (chains E2, (fields E3, (nodes E4, (not-yes (c .before .allows-from-domains .result) (c .before .allows-from-domains .ensures) (c .if5 .left), tt))))),
     )
 
 pub check-spec : {M : Type 1} → statement M
-check-spec =
-    tie.close
-    (tie.spec
-    check-counts-requires
-    enum-known-counted
-    enum-told
-    returns
-    links-rise-requires
-    returns-2
-    chains-by-kind-requires
-    returns-3
-    fields-in-range-requires
-    returns-4
-    nodes-in-order-requires
-    returns-5
-    returns-6)
+check-spec = tie.close (tie.spec (λ c κs. search needs) (λ c. search needs) (λ c. search needs) returns links-rise-requires returns-2 chains-by-kind-requires returns-3 fields-in-range-requires returns-4 nodes-in-order-requires returns-5 allows-from-domains-requires returns-6 returns-7)

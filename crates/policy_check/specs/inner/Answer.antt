@@ -1,4 +1,4 @@
--- The answer to questions 1 to 6.
+-- The answer to the questions of a policy.
 use Prim.Native.Nat.{ℕ}
 use mathlib.Core.Path.{_≡_}
 use mathlib.Core.List.{List}
@@ -13,3 +13,8 @@ use Rattle.policy_check.specs.Questions.{policyQuestions}
 abbrev pub PolicyAnswer : List ℕ → Checked → Type 0
 PolicyAnswer s (Accepted c) = (c ≡ countsOf s) × AllYes (policyQuestions s)
 PolicyAnswer s (Refused n) = RefusedWith (policyQuestions s) n
+
+-- the number of a refusal; 0 where the image is accepted
+abbrev pub refusalOf : Checked → ℕ
+refusalOf (Accepted c) = 0
+refusalOf (Refused n) = n

@@ -5,11 +5,8 @@ use Rattle.policy_fields.specs.Fields.{limits, upTo}
 use Rattle.policy_fields.proofs.allow_limits.Statement.{statement}
 use Rattle.policy_fields.proofs.allow_limits.Tie as tie
 
-plain-requires : tie.Need-plain-requires
-plain-requires c κs = search needs
-
 returns : tie.Need-returns
 returns c = ap (λ (l : Limits). limits (l .a) (l .b) (upTo (c .before .args .n .classes)) (l .d) (l .e) (l .mask)) (c .plain .ensures)
 
 pub allow-limits-spec : {M : Type 1} → statement M
-allow-limits-spec = tie.close (tie.spec plain-requires returns)
+allow-limits-spec = tie.close (tie.spec (λ c κs. search needs) returns)

@@ -42,26 +42,11 @@ module _ (K : tie.After-record-in-range Inv-loop μ-loop) where
 loop-holds : tie.Need-loop-holds Inv-loop μ-loop
 loop-holds c = (omega arith, omega arith, omega arith, upto-none _)
 
-record-at-requires : tie.Need-record-at-requires Inv-loop μ-loop
-record-at-requires c κs = search needs
-
-kind-limits-requires : tie.Need-kind-limits-requires Inv-loop μ-loop
-kind-limits-requires c κs = search needs
-
-record-in-range-requires : tie.Need-record-in-range-requires Inv-loop μ-loop
-record-in-range-requires c κs = search needs
-
 returns : tie.Need-returns Inv-loop μ-loop
 returns c =
     let K = c .before in
     let k = K .record-in-range in
     λ h. not-no (k .result) (k .ensures) (c .if1 .taken) (transport (sym (said K)) (h .each (i K) (omega arith) (omega arith)))
-
-add-i : tie.Need-add-i Inv-loop μ-loop
-add-i c = search needs
-
-loop-less : tie.Need-loop-less Inv-loop μ-loop
-loop-less c = search needs
 
 loop-again : tie.Need-loop-again Inv-loop μ-loop
 loop-again c =
@@ -78,17 +63,4 @@ returns-2 : tie.Need-returns-2 Inv-loop μ-loop
 returns-2 c = record { each = λ i a b. c .before .loop .inv .3 i a (omega arith) }
 
 pub fields-in-range-spec : {M : Type 1} → statement M
-fields-in-range-spec =
-    tie.close
-    (tie.spec
-    Inv-loop
-    μ-loop
-    loop-holds
-    record-at-requires
-    kind-limits-requires
-    record-in-range-requires
-    returns
-    add-i
-    loop-less
-    loop-again
-    returns-2)
+fields-in-range-spec = tie.close (tie.spec Inv-loop μ-loop loop-holds (λ c κs. search needs) (λ c κs. search needs) (λ c κs. search needs) returns (λ c. search needs) (λ c. search needs) loop-again returns-2)

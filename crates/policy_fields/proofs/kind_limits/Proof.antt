@@ -11,36 +11,6 @@ use Rattle.policy_fields.proofs.kind_limits.Tie as tie
 kind-is : (s : tie.Start) {k : ℕ} → s .args .kind ≡ k → limitsOf (s .args .n) (s .args .kind) (s .args .op) ≡ limitsOf (s .args .n) k (s .args .op)
 kind-is s e = ap (λ (k : ℕ). limitsOf (s .args .n) k (s .args .op)) e
 
-plain-requires : tie.Need-plain-requires
-plain-requires c κs = search needs
-
-plain-requires-2 : tie.Need-plain-requires-2
-plain-requires-2 c κs = search needs
-
-plain-requires-3 : tie.Need-plain-requires-3
-plain-requires-3 c κs = search needs
-
-allow-limits-requires : tie.Need-allow-limits-requires
-allow-limits-requires c κs = search needs
-
-plain-requires-4 : tie.Need-plain-requires-4
-plain-requires-4 c κs = search needs
-
-plain-requires-5 : tie.Need-plain-requires-5
-plain-requires-5 c κs = search needs
-
-plain-requires-6 : tie.Need-plain-requires-6
-plain-requires-6 c κs = search needs
-
-constraint-limits-requires : tie.Need-constraint-limits-requires
-constraint-limits-requires c κs = search needs
-
-node-limits-requires : tie.Need-node-limits-requires
-node-limits-requires c κs = search needs
-
-plain-requires-7 : tie.Need-plain-requires-7
-plain-requires-7 c κs = search needs
-
 returns : tie.Need-returns
 returns c = c .plain .ensures ∙ sym (kind-is (c .before .before) (c .before .match .keys1))
 
@@ -75,26 +45,4 @@ returns-10 c =
     ∙ sym (table-other (kindLimits (s .n) (s .op)) none (s .kind) refl (λ a b. let h = skip 9 (skip 8 (skip 7 (skip 6 (skip 5 (skip 4 (skip 3 (skip 2 (skip 1 a (c .before .match .rest .0 .0 .0 .0 .0 .0 .0 .0 .1)) (c .before .match .rest .0 .0 .0 .0 .0 .0 .0 .1)) (c .before .match .rest .0 .0 .0 .0 .0 .0 .1)) (c .before .match .rest .0 .0 .0 .0 .0 .1)) (c .before .match .rest .0 .0 .0 .0 .1)) (c .before .match .rest .0 .0 .0 .1)) (c .before .match .rest .0 .0 .1)) (c .before .match .rest .0 .1)) (c .before .match .rest .1) in omega arith))
 
 pub kind-limits-spec : {M : Type 1} → statement M
-kind-limits-spec =
-    tie.close
-    (tie.spec
-    plain-requires
-    plain-requires-2
-    plain-requires-3
-    allow-limits-requires
-    plain-requires-4
-    plain-requires-5
-    plain-requires-6
-    constraint-limits-requires
-    node-limits-requires
-    plain-requires-7
-    returns
-    returns-2
-    returns-3
-    returns-4
-    returns-5
-    returns-6
-    returns-7
-    returns-8
-    returns-9
-    returns-10)
+kind-limits-spec = tie.close (tie.spec (λ c κs. search needs) (λ c κs. search needs) (λ c κs. search needs) (λ c κs. search needs) (λ c κs. search needs) (λ c κs. search needs) (λ c κs. search needs) (λ c κs. search needs) (λ c κs. search needs) (λ c κs. search needs) returns returns-2 returns-3 returns-4 returns-5 returns-6 returns-7 returns-8 returns-9 returns-10)

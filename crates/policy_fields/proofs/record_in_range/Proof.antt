@@ -3,38 +3,20 @@ use Rattle.base.proofs.Decide.{decides-iff, not-yes, not-no}
 use Rattle.policy_fields.proofs.record_in_range.Statement.{statement}
 use Rattle.policy_fields.proofs.record_in_range.Tie as tie
 
-within-requires : tie.Need-within-requires
-within-requires c κs = search needs
-
 returns : tie.Need-returns
 returns c = λ h. not-no (c .before .within .result) (c .before .within .ensures) (c .if1 .taken) (h .a)
-
-within-requires-2 : tie.Need-within-requires-2
-within-requires-2 c κs = search needs
 
 returns-2 : tie.Need-returns-2
 returns-2 c = λ h. not-no (c .before .within2 .result) (c .before .within2 .ensures) (c .if2 .taken) (h .b)
 
-within-requires-3 : tie.Need-within-requires-3
-within-requires-3 c κs = search needs
-
 returns-3 : tie.Need-returns-3
 returns-3 c = λ h. not-no (c .before .within3 .result) (c .before .within3 .ensures) (c .if3 .taken) (h .c)
-
-within-requires-4 : tie.Need-within-requires-4
-within-requires-4 c κs = search needs
 
 returns-4 : tie.Need-returns-4
 returns-4 c = λ h. not-no (c .before .within4 .result) (c .before .within4 .ensures) (c .if4 .taken) (h .d)
 
-within-requires-5 : tie.Need-within-requires-5
-within-requires-5 c κs = search needs
-
 returns-5 : tie.Need-returns-5
 returns-5 c = λ h. not-no (c .before .within5 .result) (c .before .within5 .ensures) (c .if5 .taken) (h .e)
-
-within-requires-6 : tie.Need-within-requires-6
-within-requires-6 c κs = search needs
 
 returns-6 : tie.Need-returns-6
 returns-6 c =
@@ -56,18 +38,4 @@ returns-6 c =
     (c .within6 .ensures)
 
 pub record-in-range-spec : {M : Type 1} → statement M
-record-in-range-spec =
-    tie.close
-    (tie.spec
-    within-requires
-    returns
-    within-requires-2
-    returns-2
-    within-requires-3
-    returns-3
-    within-requires-4
-    returns-4
-    within-requires-5
-    returns-5
-    within-requires-6
-    returns-6)
+record-in-range-spec = tie.close (tie.spec (λ c κs. search needs) returns (λ c κs. search needs) returns-2 (λ c κs. search needs) returns-3 (λ c κs. search needs) returns-4 (λ c κs. search needs) returns-5 (λ c κs. search needs) returns-6)

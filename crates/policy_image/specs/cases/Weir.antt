@@ -21,7 +21,7 @@ weir =
     ∷ userRole 0 1 2
     ∷ [])
 
--- W9: "an added allow 3 on 1 read"
+-- W9: "an added allow 3 on 1 read", 3 being no domain
 abbrev pub weirAllow31 : List ℕ
 weirAllow31 =
     image 4 2 1 2 (1 ∷ 3 ∷ 4 ∷ 6 ∷ 10 ∷ 12 ∷ 0 ∷ 0 ∷ 0 ∷ [])
@@ -37,4 +37,23 @@ weirAllow31 =
     ∷ roleType 11 2 2
     ∷ roleType 0 2 4
     ∷ userRole 0 1 2
+    ∷ [])
+
+-- near W9: the same with 3 a domain, which is declared after its allow record
+abbrev pub weirDomain3 : List ℕ
+weirDomain3 =
+    image 4 2 1 2 (1 ∷ 3 ∷ 4 ∷ 6 ∷ 10 ∷ 12 ∷ 0 ∷ 0 ∷ 0 ∷ [])
+    (domain 2 2
+    ∷ domain 13 4
+    ∷ permissions 0 2 3
+    ∷ flow 5 2 2 1
+    ∷ flow 0 2 1 2
+    ∷ allow 7 2 1 2 1
+    ∷ allow 8 2 3 2 2
+    ∷ allow 9 4 3 2 1
+    ∷ allow 0 3 1 2 1
+    ∷ roleType 11 2 2
+    ∷ roleType 0 2 4
+    ∷ userRole 0 1 2
+    ∷ domain 0 3
     ∷ [])

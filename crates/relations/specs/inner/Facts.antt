@@ -13,13 +13,13 @@ use Rattle.policy_image.specs.OfKind.{some}
 use Rattle.relations.specs.declared.facts.Fact.{Fact}
 use Rattle.relations.specs.Relations.{targetOf, allowed}
 
-abbrev pub never : Record → Bool
-never r = false
+abbrev pub unstated : Record → Bool
+unstated r = false
 
 -- by the kind, 0 being none: whether a record states the fact f, its mask aside
 abbrev pub statements : Fact → List (Record → Bool)
 statements f =
-    never
+    unstated
     ∷ (λ r. eqb (r .a) (f .a))
     ∷ (λ r. eqb (r .a) (f .a))
     ∷ (λ r. eqb (r .a) (f .a) && (eqb (r .b) (f .b) || eqb (r .b) 3))
@@ -29,11 +29,11 @@ statements f =
     ∷ (λ r. eqb (r .a) (f .a) && eqb (r .b) (f .b))
     ∷ []
 
-abbrev pub statesOf : Fact → ℕ → Record → Bool
-statesOf f k = getD (statements f) k never
+abbrev pub statedAs : Fact → ℕ → Record → Bool
+statedAs f k = getD (statements f) k unstated
 
 abbrev pub states : Fact → Record → Bool
-states f r = statesOf f (f .kind) r
+states f r = statedAs f (f .kind) r
 
 -- m is the union of the masks of the records that state the fact
 pub record United (p : Policy) (f : Fact) (m : ℕ) : Type 0 where

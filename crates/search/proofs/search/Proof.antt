@@ -4,54 +4,42 @@ use Rattle.search.proofs.search.Statement.{statement}
 use Rattle.search.proofs.search.Tie as tie
 
 seed-requires : tie.Need-seed-requires
-seed-requires c κs = (c .before .before .before .before .before .before .pre .0, c .before .before .before .before .before .before .pre .1)
-
-enum-known-seeded : tie.Need-enum-known-seeded
-enum-known-seeded c = search needs
+seed-requires c κs =
+    let s = c .before .before .before .before .before .before in
+    (s .pre .0 .readable, s .pre .1)
 
 at-requires : tie.Need-at-requires
-at-requires c κs = let z = rw (c .before .before .seeded .given .1) at (c .before .before .before .before .before .before .before .before .seed .ensures) in (c .before .before .before .before .before .before .before .before .before .before .before .before .before .before .before .pre .0 .readable .sets .counts .countable, z .below)
+at-requires c κs =
+    let seed = c .before .before .before .before .before .before .before .before in
+    let s = seed .before .before .before .before .before .before .before in
+    let A = s .pre .0 in let z = rw (c .before .before .seeded .given .1) at (seed .seed .ensures _ A) in (A .readable .sets .counts .countable, z .below)
 
 code-requires : tie.Need-code-requires
-code-requires c κs = let z = rw (c .before .before .before .seeded .given .1) at (c .before .before .before .before .before .before .before .before .before .seed .ensures) in coded (c .before .before .before .before .before .before .before .before .before .before .before .before .before .before .before .before .pre .0) (z .below) (c .at .ensures)
-
-enum-known-seeded-2 : tie.Need-enum-known-seeded-2
-enum-known-seeded-2 c = search needs
+code-requires c κs =
+    let seed = c .before .before .before .before .before .before .before .before .before in
+    let s = seed .before .before .before .before .before .before .before in
+    let A = s .pre .0 in let z = rw (c .before .before .before .seeded .given .1) at (seed .seed .ensures _ A) in coded A (z .below) (c .at .ensures)
 
 search-levels-requires : tie.Need-search-levels-requires
-search-levels-requires c κs = let z = rw (c .before .before .before .seeded2 .given .1) at (c .before .before .before .before .before .before .before .before .before .seed .ensures) in (c .before .before .before .before .before .before .before .before .before .before .before .before .before .before .before .before .pre .0, z .inv)
-
-same-length : tie.Need-same-length
-same-length c = search needs
-
-same-length-2 : tie.Need-same-length-2
-same-length-2 c = search needs
+search-levels-requires c κs =
+    let seed = c .before .before .before .before .before .before .before .before .before in
+    let s = seed .before .before .before .before .before .before .before in
+    let A = s .pre .0 in let z = rw (c .before .before .before .seeded2 .given .1) at (seed .seed .ensures _ A) in (A, z .inv)
 
 returns : tie.Need-returns
-returns c = let z = rw (c .before .before .before .before .seeded .given .1) at (c .before .before .before .before .before .before .before .before .before .before .seed .ensures) in found-start (c .before .before .before .before .before .before .before .before .before .before .before .before .before .before .before .before .before .pre .0) z (c .before .at .ensures) (c .code .ensures)
-
-same-length-3 : tie.Need-same-length-3
-same-length-3 c = search needs
-
-same-length-4 : tie.Need-same-length-4
-same-length-4 c = search needs
+returns c =
+    let seeded = c .before .before .before .before in
+    let seed = seeded .before .before .before .before .before .before in
+    let s = seed .before .before .before .before .before .before .before in
+    let A = s .pre .0 in let z = rw (seeded .seeded .given .1) at (seed .seed .ensures _ A) in found-start A z (c .before .at .ensures) (c .code .ensures)
 
 returns-2 : tie.Need-returns-2
-returns-2 c = let z = rw (c .before .before .before .before .before .before .before .before .seeded2 .given .1) at (c .before .before .before .before .before .before .before .before .before .before .before .before .before .before .seed .ensures) in found-least (c .before .before .before .before .before .before .before .before .before .before .before .before .before .before .before .before .before .before .before .before .before .pre .0) _ _ (c .before .before .before .before .search-levels .result) (z .none) (c .before .before .before .before .search-levels .ensures)
+returns-2 c =
+    let search-levels = c .before .before .before .before in
+    let seeded2 = search-levels .before .before .before .before in
+    let seed = seeded2 .before .before .before .before .before .before in
+    let s = seed .before .before .before .before .before .before .before in
+    let A = s .pre .0 in let z = rw (seeded2 .seeded2 .given .1) at (seed .seed .ensures _ A) in found-least A _ _ (search-levels .search-levels .result) (z .none) (search-levels .search-levels .ensures)
 
 pub search-spec : {M : Type 1} → statement M
-search-spec =
-    tie.close
-    (tie.spec
-    seed-requires
-    enum-known-seeded
-    at-requires
-    code-requires
-    enum-known-seeded-2
-    search-levels-requires
-    same-length
-    same-length-2
-    returns
-    same-length-3
-    same-length-4
-    returns-2)
+search-spec = tie.close (tie.spec seed-requires (λ c. search needs) at-requires code-requires (λ c. search needs) search-levels-requires (λ c. search needs) (λ c. search needs) returns (λ c. search needs) (λ c. search needs) returns-2)

@@ -1,22 +1,27 @@
 -- W1 to W12 (paper 01) as results of the outward calls: what every number that their promises allow is.
 use Prim.Native.Nat.{ℕ, _+_, _*_, _≤_, _<_}
 use mathlib.Core.List.{List}
+use mathlib.Core.Logic.{_⊎_}
 use mathlib.Core.Path.{_≡_}
 use lib.ListN.{length, getD}
+use Rattle.base.specs.Numbers.{Numbered}
+use Rattle.base.specs.Questions.{RefusedWith}
 use Rattle.policy_image.specs.Layout.{PolicyExact, countsOf, recordCount, recordOf}
 use Rattle.policy_image.specs.Counts.{CountsInRange}
 use Rattle.policy_image.specs.cases.Weir.{weir, weirAllow31}
 use Rattle.context.specs.declared.Context.{Context}
 use Rattle.context.specs.declared.Event.{Event}
+use Rattle.goal_image.specs.Questions.{goalQuestions}
 use Rattle.goal_image.specs.cases.WeirGoal.{goalG}
-use Rattle.flowgoal.specs.Bare.{AskedInRange, AuthorizationAnswer, NumberOf}
-use Rattle.flowgoal.specs.GoalQuestion.{GoalPromise, OutcomeNumber}
+use Rattle.bare_questions.specs.Bare.{AuthorizationAnswer, FlowAnswer, numberOf}
+use Rattle.goal_question.specs.GoalQuestion.{GoalPromise, outcomeNumber}
 use Rattle.goal_model.specs.cases.OwnGoals.{writeOnly}
 use Rattle.weir.specs.cases.Goals.{weirAllow41, empty, exceptType, endTypeOne, oneLeg, noStart}
+use Rattle.weir.specs.cases.Steps.{RefusesSteps}
 
 -- flowgoal_check gives n for the images s and g and slices of these lengths, and leaves the path slice as `after`
 abbrev pub Gives : List ℕ → List ℕ → ℕ → ℕ → List ℕ → List ℕ → ℕ → Type 0
-Gives s g work1 work2 before after n = OutcomeNumber (GoalPromise s g work1 work2 before after) n
+Gives s g work1 work2 before after n = Numbered outcomeNumber (GoalPromise s g work1 work2 before after) n
 
 -- the goal holds: 0, and the path slice is as it was
 abbrev pub SaysHolds : List ℕ → List ℕ → Type 0
@@ -57,12 +62,17 @@ pub record WeirCalled : Type 0 where
   pub w7 : SaysBroken weir oneLeg 0 2
   -- "W8 σ0 empty: holds."
   pub w8 : SaysHolds weir noStart
-  -- "W9 an added allow 3 on 1 read authorizes nothing.": the policy passes, and where the question is in range the answer is no from type 3
-  pub w9 : (x y : Context) (e : Event) (n : ℕ) → x .ty ≡ 3 → AskedInRange (countsOf weirAllow31) x y e → NumberOf (AuthorizationAnswer weirAllow31 x y e) n
-      → n ≡ 0
-  -- "W10 23 bytes: 1; 24 bytes, N 0, counts 1, heads 0: accepted.": not refused with 1 to 6
+  -- "W9 an added allow 3 on 1 read authorizes nothing.", which paper 02, b, "turns .. into a refusal": 14 by each call, whatever it is asked besides,
+  -- in range or not
+  pub w9-authorized : (x y : Context) (e : Event) (n : ℕ) → Numbered numberOf (AuthorizationAnswer weirAllow31 x y e) n → n ≡ 4 * 14 + 3
+  pub w9-flows : (x y : Context) (e : Event) (n : ℕ) → Numbered numberOf (FlowAnswer weirAllow31 x y e) n → n ≡ 4 * 14 + 3
+  pub w9-steps : (x y : Context) (work1 work2 : ℕ) → RefusesSteps weirAllow31 x y work1 work2 14
+  pub w9-check : (g : List ℕ) (work1 work2 : ℕ) → Refuses weirAllow31 g work1 work2 14
+  -- "before any goal .. is read": also with a goal that is too short, which is 7 by itself
+  pub w9-short-goal : (g : List ℕ) (work1 work2 : ℕ) → length g ≡ 33 → RefusedWith (goalQuestions (countsOf weirAllow31) g) 7 × Refuses weirAllow31 g work1 work2 14
+  -- "W10 23 bytes: 1; 24 bytes, N 0, counts 1, heads 0: accepted.": not refused with 1 to 6 or 14
   pub w10 : (s g : List ℕ) (work1 work2 : ℕ) → length s ≡ 23 → Refuses s g work1 work2 1
-  pub w10-empty : (g : List ℕ) (work1 work2 : ℕ) (before after : List ℕ) (n k : ℕ) → Gives empty g work1 work2 before after n → k ≤ 6 → n ≡ 4 * k + 3 → ⊥
+  pub w10-empty : (g : List ℕ) (work1 work2 : ℕ) (before after : List ℕ) (n k : ℕ) → Gives empty g work1 work2 before after n → (k ≤ 6) ⊎ (k ≡ 14) → n ≡ 4 * k + 3 → ⊥
   -- "W11 a next equal to its own number: 3."
   pub w11 : (s g : List ℕ) (work1 work2 : ℕ) → PolicyExact s → CountsInRange (countsOf s) → (i : ℕ) → 1 ≤ i → i ≤ recordCount s → recordOf s i .next ≡ i
       → Refuses s g work1 work2 3

@@ -5,7 +5,7 @@ use mathlib.Core.List.{[]}
 use mathlib.Core.Path.{_≡_}
 use Rattle.base.specs.Questions.{AllYes}
 use Rattle.policy_image.specs.Policy.{policyOf}
-use Rattle.policy_image.specs.cases.Weir.{weir}
+use Rattle.policy_image.specs.cases.Weir.{weir, weirAllow31}
 use Rattle.policy_check.specs.Questions.{policyQuestions}
 use Rattle.context.specs.Codes.{contextAt as at, eventAt as event}
 use Rattle.access.specs.Authorization.{χ, authorized, flow}
@@ -34,7 +34,7 @@ pub record OwnCases : Type 0 where
   pub weir-write-flows-out : flow (policyOf weir) (event 2 1) (at 2 2 1) (at 3 1 1) ≡ true
   pub weir-write-no-flow-in : flow (policyOf weir) (event 2 1) (at 3 1 1) (at 2 2 1) ≡ false
   pub write-by-domain : authorized (policyOf gate) (event 2 1) (at 2 2 1) (at 1 1 1) ≡ true
-  pub source-no-domain : authorized (policyOf gate) (event 2 0) (at 4 1 1) (at 1 1 1) ≡ false
+  pub source-no-domain : authorized (policyOf weirAllow31) (event 2 0) (at 3 1 1) (at 1 1 1) ≡ false
   pub append-not-in-gamma : authorized (policyOf gate) (event 2 2) (at 2 2 1) (at 1 1 1) ≡ false
   pub append-no-flow-out : flow (policyOf gate) (event 2 2) (at 2 2 1) (at 1 1 1) ≡ false
   pub append-no-flow-in : flow (policyOf gate) (event 2 2) (at 1 1 1) (at 2 2 1) ≡ false

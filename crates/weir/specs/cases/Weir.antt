@@ -8,7 +8,7 @@ use Rattle.base.specs.Questions.{AllYes, RefusedWith}
 use Rattle.policy_image.specs.Layout.{PolicyExact, countsOf, recordCount, recordOf}
 use Rattle.policy_image.specs.Counts.{CountsInRange}
 use Rattle.policy_image.specs.Policy.{policyOf}
-use Rattle.policy_image.specs.cases.Weir.{weir, weirAllow31}
+use Rattle.policy_image.specs.cases.Weir.{weir, weirAllow31, weirDomain3}
 use Rattle.policy_check.specs.Questions.{policyQuestions}
 use Rattle.context.specs.declared.Context.{Context}
 use Rattle.context.specs.declared.Event.{Event}
@@ -17,9 +17,9 @@ use Rattle.goal_image.specs.cases.WeirGoal.{goalG}
 use Rattle.paths.specs.Model.{Model}
 use Rattle.paths.specs.Paths.{Holds, OrderAt, EventsAt}
 use Rattle.goal_model.specs.Images.{model}
-use Rattle.flowgoal.specs.declared.goal.Outcome.{Outcome}
-use Rattle.flowgoal.specs.declared.goal.Outcome.the-variants.{Order}
-use Rattle.flowgoal.specs.GoalQuestion.{allQuestions, GoalPromise}
+use Rattle.goal_question.specs.declared.goal.Outcome.{Outcome}
+use Rattle.goal_question.specs.declared.goal.Outcome.the-variants.{Order}
+use Rattle.goal_question.specs.GoalQuestion.{allQuestions, GoalPromise}
 use Rattle.goal_model.specs.cases.OwnGoals.{writeOnly}
 use Rattle.weir.specs.cases.Goals.{weirAllow41, empty, exceptType, endTypeOne, oneLeg, noStart}
 
@@ -32,7 +32,7 @@ pub record W5Slice (before after : List ℕ) (r : Outcome) : Type 0 where
   pub x1 : getD after 2 0 ≡ 1057
   pub rest : (i : ℕ) → 3 ≤ i → getD after i 0 ≡ getD before i 0
 
--- the images pass questions 1 to 11 with 32 entries in each work slice, and the answer is right
+-- the images pass all questions before 12 with 32 entries in each work slice, and the answer is right
 pub record Answered (s g : List ℕ) (right : Model → Type 0) : Type 0 where
   pub accepted : AllYes (allQuestions s g 32 32)
   pub answer : right (model s g)
@@ -55,9 +55,11 @@ pub record Weir : Type 0 where
   pub w7 : Answered weir oneLeg (λ M. EventsAt M 0)
   -- "W8 σ0 empty: holds."
   pub w8 : Answered weir noStart Holds
-  -- "W9 an added allow 3 on 1 read authorizes nothing.": nothing from type 3, and every answer is as without the record
-  pub w9-accepted : AllYes (policyQuestions weirAllow31)
-  pub w9 : (e : Event) (x y : Context) → x .ty ≡ 3 → authorized (policyOf weirAllow31) e x y ≡ false
+  -- "W9 an added allow 3 on 1 read authorizes nothing.", which paper 02, b, "turns .. into a refusal"; with type 3 a domain the policy passes
+  pub w9 : RefusedWith (policyQuestions weirAllow31) 14
+  pub w9-near : AllYes (policyQuestions weirDomain3)
+  -- of the formulas, which "are unaltered": nothing from type 3, and everything else is as without the record
+  pub w9-nothing : (e : Event) (x y : Context) → x .ty ≡ 3 → authorized (policyOf weirAllow31) e x y ≡ false
   pub w9-authorized : (e : Event) (x y : Context) → authorized (policyOf weirAllow31) e x y ≡ authorized (policyOf weir) e x y
   pub w9-flow : (e : Event) (x y : Context) → flow (policyOf weirAllow31) e x y ≡ flow (policyOf weir) e x y
   -- "W10 23 bytes: 1; 24 bytes, N 0, counts 1, heads 0: accepted."

@@ -2,10 +2,10 @@
 use Prim.Native.Nat.{ℕ, _<_}
 use mathlib.Core.List.{List}
 use Rattle.policy_image.specs.Policy.{policyOf}
-use Rattle.steps.specs.inner.Steps.{Offering}
-use Rattle.nodes.specs.declared.task.Task.{Task}
-use Rattle.nodes.specs.inner.Graph.{Graph}
-use Rattle.nodes.specs.inner.Tasks.{typeOf}
+use Rattle.search_steps.specs.inner.Steps.{Offering}
+use Rattle.search_graph.specs.declared.task.Task.{Task}
+use Rattle.search_graph.specs.inner.Graph.{Graph}
+use Rattle.search_graph.specs.inner.Tasks.{typeOf}
 
 -- r is the least number below n of which P holds
 pub record LeastBelow (P : ℕ → Type 0) (n r : ℕ) : Type 0 where
@@ -20,7 +20,7 @@ pub record SomeBelow (P : ℕ → Type 0) (n : ℕ) : Type 0 where
   pub holds : P which
 
 -- some event leads from the node u to the node w, which is no end
-pub record Linked (G : Graph) (u w : ℕ) : Type 0 where
+pub record LinkedNodes (G : Graph) (u w : ℕ) : Type 0 where
   pub from : u < G .k
   pub to : w < G .k
   pub event : SomeBelow (λ e. G .Edge u e w) (G .e)

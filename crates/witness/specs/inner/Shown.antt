@@ -1,38 +1,43 @@
 -- What is promised of the path that is shown.
 use mathlib.Core.List.{List}
-use Prim.Native.Nat.{ℕ, _+_, _/_, _<_}
+use mathlib.Core.Path.{_≡_}
+use Prim.Native.Nat.{ℕ, _+_, _*_, _/_, _<_}
+use lib.ListN.{length}
 use Rattle.policy_image.specs.declared.counts.Counts.{Counts}
 use Rattle.context.specs.inner.Places.{Countable, contextCount}
 use Rattle.paths.specs.Model.{Model}
-use Rattle.paths.specs.Paths.{BreaksOrder, BreaksEvents}
+use Rattle.paths.specs.Paths.{IsPath, BreaksOrder, BreaksEvents}
 use Rattle.paths.specs.Slice.{contextsIn, eventsIn, Shows}
-use Rattle.search.specs.declared.levels.Found.{Found}
-use Rattle.search.specs.declared.levels.Found.the-variants.{Nothing, Start, At}
-use Rattle.search.specs.inner.Found.{FoundStart, FoundStep}
-use Rattle.nodes.specs.declared.monitor.Mode.{Mode}
-use Rattle.nodes.specs.declared.monitor.Mode.the-variants.{Order, Events}
-use Rattle.nodes.specs.declared.task.Task.{Task}
+use Rattle.paths.specs.inner.Least.{at, nowhere}
+use Rattle.search.specs.declared.levels.LeastEnd.{LeastEnd}
+use Rattle.search.specs.inner.Found.{reachedBy, FoundLeast}
+use Rattle.search_graph.specs.declared.monitor.Mode.{Mode}
+use Rattle.search_graph.specs.declared.monitor.Mode.the-variants.{Order, Events, Any}
+use Rattle.search_graph.specs.declared.task.Task.{Task}
+use Rattle.witness.specs.declared.path.Showing.{Showing}
+use Rattle.witness.specs.declared.path.Showing.the-variants as showing
 
--- what a mode looks for
+-- what a mode looks for, in a path
 abbrev pub BreaksBy : Mode → Model → ℕ → (ℕ → ℕ) → (ℕ → ℕ) → Type 0
 BreaksBy Order M m x e = BreaksOrder M m x
 BreaksBy Events M m x e = BreaksEvents M m x e
+BreaksBy Any M m x e = Unit
 
--- a path of m steps is shown that breaks what the mode looks for
-pub record Shown (M : Model) (mode : Mode) (m : ℕ) (before after : List ℕ) : Type 0 where
-  pub shows : Shows M m before after
+-- a path of m steps is shown that has what the mode looks for
+pub record ShownPath (M : Model) (mode : Mode) (m : ℕ) (before after : List ℕ) : Type 0 where
+  pub shows : Shows (IsPath M) m before after
   pub breaks : BreaksBy mode M m (contextsIn after) (eventsIn after)
 
--- a search found an end, and so many steps away
-abbrev pub FoundEnd : List ℕ → List ℕ → Task → List ℕ → Found → Type 0
-FoundEnd s plan t back Nothing = ⊥
-FoundEnd s plan t back (Start x) = FoundStart s plan t x
-FoundEnd s plan t back (At l) = FoundStep s plan t back l
+-- a search found r, up to some bound
+pub record SearchFound (s plan : List ℕ) (t : Task) (back : List ℕ) (r : LeastEnd) : Type 0 where
+  pub bound : ℕ
+  pub found : FoundLeast s plan t bound back r
 
-abbrev pub stepsTo : Found → ℕ
-stepsTo Nothing = 0
-stepsTo (Start x) = 0
-stepsTo (At l) = l .depth + 1
+-- what became of what a search found: there was nothing to show; no room for a path of m steps; or such a path is shown
+abbrev pub FoundShown : Model → Mode → LeastEnd → List ℕ → List ℕ → Showing → Type 0
+FoundShown M mode found before after showing.Nothing = (reachedBy found ≡ nowhere) × (after ≡ before)
+FoundShown M mode found before after (showing.NoRoom m) = (reachedBy found ≡ at m) × (length before < 2 * m + 1) × (after ≡ before)
+FoundShown M mode found before after (showing.Path m) = (reachedBy found ≡ at m) × ShownPath M mode m before after
 
 -- the node v, of contexts with so many states each, has a context with a code
 pub record NodeIn (n : Counts) (states v : ℕ) : Type 0 where

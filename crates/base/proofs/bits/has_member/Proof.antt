@@ -4,12 +4,9 @@ use borrow.Author.Needs.{needs}
 use Rattle.base.proofs.bits.has_member.Statement.{statement}
 use Rattle.base.proofs.bits.has_member.Tie as tie
 
-shr-result : tie.Need-shr-result
-shr-result c = search needs
-
 returns : tie.Need-returns
 unfolding bit
 returns c = rw (and-mask _ 1)
 
 pub has-member-spec : {M : Type 1} → statement M
-has-member-spec = tie.close (tie.spec shr-result returns)
+has-member-spec = tie.close (tie.spec (λ c. search needs) returns)

@@ -7,11 +7,5 @@ use Rattle.context.proofs.Context.count.Tie as tie
 mul-result : tie.Need-mul-result
 mul-result c = let s = c .before in omega (arith, types-part (s .args .counts) (s .pre))
 
-mul-result-2 : tie.Need-mul-result-2
-mul-result-2 c = search needs
-
-returns : tie.Need-returns
-returns c = search needs
-
 pub count-spec : {M : Type 1} → statement M
-count-spec = tie.close (tie.spec mul-result mul-result-2 returns)
+count-spec = tie.close (tie.spec mul-result (λ c. search needs) (λ c. search needs))

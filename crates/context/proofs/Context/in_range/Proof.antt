@@ -3,20 +3,11 @@ use Rattle.base.proofs.Decide.{decides-iff, not-yes, not-no}
 use Rattle.context.proofs.Context.in_range.Statement.{statement}
 use Rattle.context.proofs.Context.in_range.Tie as tie
 
-within-requires : tie.Need-within-requires
-within-requires c κs = search needs
-
 returns : tie.Need-returns
 returns c = λ h. not-no (c .before .within .result) (c .before .within .ensures) (c .if1 .taken) (h .ty)
 
-within-requires-2 : tie.Need-within-requires-2
-within-requires-2 c κs = search needs
-
 returns-2 : tie.Need-returns-2
 returns-2 c = λ h. not-no (c .before .within2 .result) (c .before .within2 .ensures) (c .if2 .taken) (h .role)
-
-within-requires-3 : tie.Need-within-requires-3
-within-requires-3 c κs = search needs
 
 returns-3 : tie.Need-returns-3
 returns-3 c =
@@ -32,4 +23,4 @@ returns-3 c =
     (c .within3 .ensures)
 
 pub in-range-spec : {M : Type 1} → statement M
-in-range-spec = tie.close (tie.spec within-requires returns within-requires-2 returns-2 within-requires-3 returns-3)
+in-range-spec = tie.close (tie.spec (λ c κs. search needs) returns (λ c κs. search needs) returns-2 (λ c κs. search needs) returns-3)

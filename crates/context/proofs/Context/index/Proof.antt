@@ -4,14 +4,8 @@ use borrow.Author.Needs.{needs}
 use Rattle.context.proofs.Context.index.Statement.{statement}
 use Rattle.context.proofs.Context.index.Tie as tie
 
-sub-result : tie.Need-sub-result
-sub-result c = search needs
-
 mul-result : tie.Need-mul-result
 mul-result c = let s = c .before .before in omega (arith, roles-part (s .args .counts) (s .args .self) (s .pre .0) (s .pre .1))
-
-sub-result-2 : tie.Need-sub-result-2
-sub-result-2 c = search needs
 
 add-result : tie.Need-add-result
 add-result c = let s = c .before .before .before in omega (arith, roles-part (s .args .counts) (s .args .self) (s .pre .0) (s .pre .1))
@@ -19,24 +13,8 @@ add-result c = let s = c .before .before .before in omega (arith, roles-part (s 
 mul-result-2 : tie.Need-mul-result-2
 mul-result-2 c = let s = c .before .before .before .before in omega (arith, users-part (s .args .counts) (s .args .self) (s .pre .0) (s .pre .1))
 
-sub-result-3 : tie.Need-sub-result-3
-sub-result-3 c = search needs
-
 add-result-2 : tie.Need-add-result-2
 add-result-2 c = let s = c .before .before .before .before .before in omega (arith, index-lt (s .args .counts) (s .args .self) (s .pre .0))
 
-returns : tie.Need-returns
-returns c = search needs
-
 pub index-spec : {M : Type 1} → statement M
-index-spec =
-    tie.close
-    (tie.spec
-    sub-result
-    mul-result
-    sub-result-2
-    add-result
-    mul-result-2
-    sub-result-3
-    add-result-2
-    returns)
+index-spec = tie.close (tie.spec (λ c. search needs) mul-result (λ c. search needs) add-result mul-result-2 (λ c. search needs) add-result-2 (λ c. search needs))

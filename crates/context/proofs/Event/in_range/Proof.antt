@@ -3,14 +3,8 @@ use Rattle.base.proofs.Decide.{decides-iff, not-yes, not-no}
 use Rattle.context.proofs.Event.in_range.Statement.{statement}
 use Rattle.context.proofs.Event.in_range.Tie as tie
 
-within-requires : tie.Need-within-requires
-within-requires c κs = search needs
-
 returns : tie.Need-returns
 returns c = λ h. not-no (c .before .within .result) (c .before .within .ensures) (c .if1 .taken) (h .class)
-
-within-requires-2 : tie.Need-within-requires-2
-within-requires-2 c κs = search needs
 
 returns-2 : tie.Need-returns-2
 returns-2 c =
@@ -21,4 +15,4 @@ returns-2 c =
     (c .within2 .ensures)
 
 pub in-range-spec : {M : Type 1} → statement M
-in-range-spec = tie.close (tie.spec within-requires returns within-requires-2 returns-2)
+in-range-spec = tie.close (tie.spec (λ c κs. search needs) returns (λ c κs. search needs) returns-2)

@@ -6,16 +6,10 @@ use Rattle.context.proofs.CodeLaws.{transition-code}
 use Rattle.context.proofs.Event.is_transition.Statement.{statement}
 use Rattle.context.proofs.Event.is_transition.Tie as tie
 
-code-requires : tie.Need-code-requires
-code-requires c κs = search needs
-
-code-requires-2 : tie.Need-code-requires-2
-code-requires-2 c κs = search needs
-
 returns : tie.Need-returns
 returns c =
     ap₂ eqb (c .before .code .ensures) (c .code2 .ensures)
     ∙ transition-code (c .before .before .args .self) (omega arith)
 
 pub is-transition-spec : {M : Type 1} → statement M
-is-transition-spec = tie.close (tie.spec code-requires code-requires-2 returns)
+is-transition-spec = tie.close (tie.spec (λ c κs. search needs) (λ c κs. search needs) returns)

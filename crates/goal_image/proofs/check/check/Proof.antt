@@ -20,25 +20,16 @@ legs K = not-yes (K .before .legs-in-range .result) (K .before .legs-in-range .e
 chains : (K : tie.Else3) → OneChainEach (goalOf (now (K .before .before .before .before .before .before .before .before .args .goal)))
 chains K = not-yes (K .before .one-chain-each .result) (K .before .one-chain-each .ensures) (K .if3 .left)
 
-is-exact-requires : tie.Need-is-exact-requires
-is-exact-requires c κs = search needs
-
 returns : tie.Need-returns
 returns c = inl (not-no (c .before .is-exact .result) (c .before .is-exact .ensures) (c .if1 .taken), refl)
 
 legs-at-requires : tie.Need-legs-at-requires
 legs-at-requires c κs = exact c
 
-legs-in-range-requires : tie.Need-legs-in-range-requires
-legs-in-range-requires c κs = search needs
-
 returns-2 : tie.Need-returns-2
 returns-2 c =
     let t = c .before .legs-in-range in
     inr (exact (c .before .before .before), inl (not-no (t .result) (t .ensures) (c .if2 .taken), refl))
-
-one-chain-each-requires : tie.Need-one-chain-each-requires
-one-chain-each-requires c κs = search needs
 
 returns-3 : tie.Need-returns-3
 returns-3 c =
@@ -65,16 +56,4 @@ returns-5 c =
     (o .same, (exact (E2 .before .before .before), (legs E2, (chains E3, (not-yes (t .result) (t .ensures) (c .if4 .left), tt)))))
 
 pub check-spec : {M : Type 1} → statement M
-check-spec =
-    tie.close
-    (tie.spec
-    is-exact-requires
-    returns
-    legs-at-requires
-    legs-in-range-requires
-    returns-2
-    one-chain-each-requires
-    returns-3
-    fields-fit-requires
-    returns-4
-    returns-5)
+check-spec = tie.close (tie.spec (λ c κs. search needs) returns legs-at-requires (λ c κs. search needs) returns-2 (λ c κs. search needs) returns-3 fields-fit-requires returns-4 returns-5)

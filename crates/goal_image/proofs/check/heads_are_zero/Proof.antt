@@ -3,7 +3,7 @@ use mathlib.Core.Path.{_≡_, _∙_}
 use native.Mathlib.Omega.{arith}
 use borrow.Author.Needs.{needs}
 use Rattle.goal_image.specs.Layout.{goalHead}
-use Rattle.goal_image.proofs.LegLaws.{from-none, from-more}
+use Rattle.base.proofs.Numbers.{from-none, from-more}
 use Rattle.goal_image.proofs.check.heads_are_zero.Statement.{statement}
 use Rattle.goal_image.proofs.check.heads_are_zero.Tie as tie
 
@@ -16,17 +16,8 @@ abbrev μ-loop : tie.MeasureT-loop
 loop-holds : tie.Need-loop-holds Inv-loop μ-loop
 loop-holds c = (omega arith, from-none _ _)
 
-head-at-requires : tie.Need-head-at-requires Inv-loop μ-loop
-head-at-requires c κs = search needs
-
 returns : tie.Need-returns Inv-loop μ-loop
 returns c = λ z. c .if1 .taken (c .before .head-at .ensures ∙ z (c .before .before .before .loop .h) (omega arith) (omega arith))
-
-add-h : tie.Need-add-h Inv-loop μ-loop
-add-h c = search needs
-
-loop-less : tie.Need-loop-less Inv-loop μ-loop
-loop-less c = search needs
 
 loop-again : tie.Need-loop-again Inv-loop μ-loop
 loop-again c = (omega arith, from-more _ _ _ (c .before .before .before .loop .inv .1) (omega arith))
@@ -35,15 +26,4 @@ returns-2 : tie.Need-returns-2 Inv-loop μ-loop
 returns-2 c = λ h l k. c .before .loop .inv .1 h l (omega arith)
 
 pub heads-are-zero-spec : {M : Type 1} → statement M
-heads-are-zero-spec =
-    tie.close
-    (tie.spec
-    Inv-loop
-    μ-loop
-    loop-holds
-    head-at-requires
-    returns
-    add-h
-    loop-less
-    loop-again
-    returns-2)
+heads-are-zero-spec = tie.close (tie.spec Inv-loop μ-loop loop-holds (λ c κs. search needs) returns (λ c. search needs) (λ c. search needs) loop-again returns-2)

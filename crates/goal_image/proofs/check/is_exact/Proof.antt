@@ -4,24 +4,9 @@ use Rattle.goal_image.specs.Layout.{goalCount}
 use Rattle.goal_image.proofs.check.is_exact.Statement.{statement}
 use Rattle.goal_image.proofs.check.is_exact.Tie as tie
 
-returns : tie.Need-returns
-returns c = search needs
-
-u16-at-requires : tie.Need-u16-at-requires
-u16-at-requires c κs = search needs
-
-cast-m : tie.Need-cast-m
-cast-m c = search needs
-
 returns-2 : tie.Need-returns-2
 unfolding goalCount
 returns-2 c = λ e. omega arith
-
-mul-if3 : tie.Need-mul-if3
-mul-if3 c = search needs
-
-add-if3 : tie.Need-add-if3
-add-if3 c = search needs
 
 returns-3 : tie.Need-returns-3
 unfolding goalCount
@@ -32,6 +17,4 @@ unfolding goalCount
 returns-4 c = record { whole = omega arith; few = omega arith; exact = omega arith }
 
 pub is-exact-spec : {M : Type 1} → statement M
-is-exact-spec =
-    tie.close
-    (tie.spec returns u16-at-requires cast-m returns-2 mul-if3 add-if3 returns-3 returns-4)
+is-exact-spec = tie.close (tie.spec (λ c. search needs) (λ c κs. search needs) (λ c. search needs) returns-2 (λ c. search needs) (λ c. search needs) returns-3 returns-4)

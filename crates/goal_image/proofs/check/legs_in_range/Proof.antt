@@ -14,9 +14,6 @@ use Rattle.goal_image.proofs.check.legs_in_range.Tie as tie
 legs : (K : tie.Else1) → Within 1 6 (K .before .before .before .args .legs .count)
 legs K = not-yes (K .before .within .result) (K .before .within .ensures) (K .if1 .left)
 
-within-requires : tie.Need-within-requires
-within-requires c κs = search needs
-
 returns : tie.Need-returns
 returns c =
     λ r.
@@ -41,9 +38,6 @@ cast-first c = let w = legs (c .before .before) in omega arith
 add-heads-are-zero : tie.Need-add-heads-are-zero
 add-heads-are-zero c = let w = legs (c .before .before) in omega arith
 
-heads-are-zero-requires : tie.Need-heads-are-zero-requires
-heads-are-zero-requires c κs = search needs
-
 returns-3 : tie.Need-returns-3
 returns-3 c =
     let t = c .before .heads-are-zero in
@@ -51,9 +45,6 @@ returns-3 c =
 
 add-heads-are-zero-2 : tie.Need-add-heads-are-zero-2
 add-heads-are-zero-2 c = let w = legs (c .before .before .before .before) in omega arith
-
-heads-are-zero-requires-2 : tie.Need-heads-are-zero-requires-2
-heads-are-zero-requires-2 c κs = search needs
 
 returns-4 : tie.Need-returns-4
 returns-4 c =
@@ -78,17 +69,4 @@ returns-4 c =
     (c .heads-are-zero2 .ensures)
 
 pub legs-in-range-spec : {M : Type 1} → statement M
-legs-in-range-spec =
-    tie.close
-    (tie.spec
-    within-requires
-    returns
-    shr-if2
-    returns-2
-    cast-first
-    add-heads-are-zero
-    heads-are-zero-requires
-    returns-3
-    add-heads-are-zero-2
-    heads-are-zero-requires-2
-    returns-4)
+legs-in-range-spec = tie.close (tie.spec (λ c κs. search needs) returns shr-if2 returns-2 cast-first add-heads-are-zero (λ c κs. search needs) returns-3 add-heads-are-zero-2 (λ c κs. search needs) returns-4)

@@ -34,9 +34,6 @@ module _ (K : tie.After-next-at Inv-loop μ-loop) where
   abbrev visit : Visit (goalLinks g) h (RecordFits (K .before .before .before .before .before .before .before .args .counts) g h) i
   visit = K .before .before .before .before .loop .inv
 
-head-at-requires : tie.Need-head-at-requires Inv-loop μ-loop
-head-at-requires c κs = search needs
-
 loop-holds : tie.Need-loop-holds Inv-loop μ-loop
 loop-holds c =
     let a = c .before .before in
@@ -69,16 +66,4 @@ returns-2 c =
     along-end (goalOf (a .args .goal .now)) (a .pre .1) (a .args .h) (omega arith) _ (l .i) (omega arith) (l .inv)
 
 pub chain-fits-spec : {M : Type 1} → statement M
-chain-fits-spec =
-    tie.close
-    (tie.spec
-    Inv-loop
-    μ-loop
-    head-at-requires
-    loop-holds
-    record-fits-requires
-    returns
-    next-at-requires
-    loop-less
-    loop-again
-    returns-2)
+chain-fits-spec = tie.close (tie.spec Inv-loop μ-loop (λ c κs. search needs) loop-holds record-fits-requires returns next-at-requires loop-less loop-again returns-2)

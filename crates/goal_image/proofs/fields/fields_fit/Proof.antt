@@ -19,20 +19,11 @@ abbrev μ-loop : tie.MeasureT-loop
 loop-holds : tie.Need-loop-holds Inv-loop μ-loop
 loop-holds c = (omega arith, below-none _)
 
-chain-fits-requires : tie.Need-chain-fits-requires Inv-loop μ-loop
-chain-fits-requires c κs = search needs
-
 returns : tie.Need-returns Inv-loop μ-loop
 returns c =
     let h = c .before .before .before .loop .h in
     λ f. not-no (c .before .chain-fits .result) (c .before .chain-fits .ensures) (c .if1 .taken)
     (λ i r. record { context = λ e. f .contexts h i e r; event = λ e. f .events h i e r })
-
-add-h : tie.Need-add-h Inv-loop μ-loop
-add-h c = search needs
-
-loop-less : tie.Need-loop-less Inv-loop μ-loop
-loop-less c = search needs
 
 loop-again : tie.Need-loop-again Inv-loop μ-loop
 loop-again c =
@@ -48,15 +39,4 @@ returns-2 c =
     }
 
 pub fields-fit-spec : {M : Type 1} → statement M
-fields-fit-spec =
-    tie.close
-    (tie.spec
-    Inv-loop
-    μ-loop
-    loop-holds
-    chain-fits-requires
-    returns
-    add-h
-    loop-less
-    loop-again
-    returns-2)
+fields-fit-spec = tie.close (tie.spec Inv-loop μ-loop loop-holds (λ c κs. search needs) returns (λ c. search needs) (λ c. search needs) loop-again returns-2)

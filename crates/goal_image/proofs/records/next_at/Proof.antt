@@ -1,27 +1,14 @@
+use mathlib.Core.Path.{_∙_}
 use borrow.Author.Needs.{needs}
-use Rattle.goal_image.specs.Layout.{nextOf}
+use Rattle.chains.proofs.ShapeLaws.{next-of, count-of}
 use Rattle.goal_image.proofs.records.next_at.Statement.{statement}
 use Rattle.goal_image.proofs.records.next_at.Tie as tie
 
-sub-u16-at : tie.Need-sub-u16-at
-sub-u16-at c = search needs
-
-mul-u16-at : tie.Need-mul-u16-at
-mul-u16-at c = search needs
-
-add-u16-at : tie.Need-add-u16-at
-add-u16-at c = search needs
-
-u16-at-requires : tie.Need-u16-at-requires
-u16-at-requires c κs = search needs
-
-cast-result : tie.Need-cast-result
-cast-result c = search needs
+next-at-requires : tie.Need-next-at-requires
+next-at-requires c κs = search (needs, count-of (c .goal-shape .ensures))
 
 returns : tie.Need-returns
-unfolding nextOf
-returns c = c .u16-at .ensures .0
+returns c = c .next-at .ensures ∙ next-of (c .before .goal-shape .ensures) _
 
 pub next-at-spec : {M : Type 1} → statement M
-next-at-spec =
-    tie.close (tie.spec sub-u16-at mul-u16-at add-u16-at u16-at-requires cast-result returns)
+next-at-spec = tie.close (tie.spec (λ c κs. search needs) next-at-requires returns)

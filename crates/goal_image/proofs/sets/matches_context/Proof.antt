@@ -6,18 +6,12 @@ use Rattle.goal_image.specs.Sets.{fits}
 use Rattle.goal_image.proofs.sets.matches_context.Statement.{statement}
 use Rattle.goal_image.proofs.sets.matches_context.Tie as tie
 
-fits-field-requires : tie.Need-fits-field-requires
-fits-field-requires c κs = search needs
-
 returns : tie.Need-returns
 returns c =
     let t = c .before .fits-field in
     let s = c .before .before .args in
     let a : fits (s .r .ty) (s .x .ty) ≡ false = sym (t .ensures) ∙ not-true (t .result) (c .if1 .taken) in
     rw a
-
-fits-field-requires-2 : tie.Need-fits-field-requires-2
-fits-field-requires-2 c κs = search needs
 
 returns-2 : tie.Need-returns-2
 returns-2 c =
@@ -27,9 +21,6 @@ returns-2 c =
     let a : fits (s .r .ty) (s .x .ty) ≡ true = sym (t .ensures) ∙ not-false (t .result) (c .before .before .if1 .left) in
     let b : fits (s .r .role) (s .x .role) ≡ false = sym (u .ensures) ∙ not-true (u .result) (c .if2 .taken) in
     rw (a, b)
-
-fits-field-requires-3 : tie.Need-fits-field-requires-3
-fits-field-requires-3 c κs = search needs
 
 returns-3 : tie.Need-returns-3
 returns-3 c =
@@ -41,12 +32,4 @@ returns-3 c =
     rw (a, b) (c .fits-field3 .ensures)
 
 pub matches-context-spec : {M : Type 1} → statement M
-matches-context-spec =
-    tie.close
-    (tie.spec
-    fits-field-requires
-    returns
-    fits-field-requires-2
-    returns-2
-    fits-field-requires-3
-    returns-3)
+matches-context-spec = tie.close (tie.spec (λ c κs. search needs) returns (λ c κs. search needs) returns-2 (λ c κs. search needs) returns-3)

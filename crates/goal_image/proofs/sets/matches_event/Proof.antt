@@ -4,17 +4,11 @@ use borrow.Author.Tests.{not-true, not-false}
 use Rattle.goal_image.proofs.sets.matches_event.Statement.{statement}
 use Rattle.goal_image.proofs.sets.matches_event.Tie as tie
 
-fits-field-requires : tie.Need-fits-field-requires
-fits-field-requires c κs = search needs
-
 returns : tie.Need-returns
 returns c =
     let t = c .before .fits-field in
     let a = sym (t .ensures) ∙ not-true (t .result) (c .if1 .taken) in
     rw a
-
-has-bit-requires : tie.Need-has-bit-requires
-has-bit-requires c κs = search needs
 
 returns-2 : tie.Need-returns-2
 returns-2 c =
@@ -23,4 +17,4 @@ returns-2 c =
     rw a (c .has-bit .ensures)
 
 pub matches-event-spec : {M : Type 1} → statement M
-matches-event-spec = tie.close (tie.spec fits-field-requires returns has-bit-requires returns-2)
+matches-event-spec = tie.close (tie.spec (λ c κs. search needs) returns (λ c κs. search needs) returns-2)

@@ -6,9 +6,6 @@ use Rattle.paths.proofs.StageLaws.{one-shl, step-law}
 use Rattle.paths.proofs.stages.advance.Statement.{statement}
 use Rattle.paths.proofs.stages.advance.Tie as tie
 
-shl-live : tie.Need-shl-live
-shl-live c = search needs
-
 sub-live : tie.Need-sub-live
 sub-live c = omega (arith, one-shl {n = c .args .n} {w = 32} (omega arith), pow-pos (c .args .n))
 
@@ -16,4 +13,4 @@ returns : tie.Need-returns
 returns c = step-law 32 (c .args .stages) (c .args .repeated) (c .args .in-event) (c .args .in-context) (c .args .n) (omega arith)
 
 pub advance-spec : {M : Type 1} → statement M
-advance-spec = tie.close (tie.spec shl-live sub-live returns)
+advance-spec = tie.close (tie.spec (λ c. search needs) sub-live returns)

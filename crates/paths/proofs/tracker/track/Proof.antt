@@ -7,9 +7,6 @@ use Rattle.paths.proofs.TrackerLaws.{track-met, track-unmet, two-le}
 use Rattle.paths.proofs.tracker.track.Statement.{statement}
 use Rattle.paths.proofs.tracker.track.Tie as tie
 
-shl-below : tie.Need-shl-below
-shl-below c = search needs
-
 sub-below : tie.Need-sub-below
 sub-below c = omega (arith, one-shl {n = c .args .n} {w = 32} (omega arith), pow-pos (c .args .n))
 
@@ -23,4 +20,4 @@ returns-2 : tie.Need-returns-2
 returns-2 c = track-unmet 32 (c .before .args .state) (c .before .args .in-context) (c .before .args .n) (omega arith) (omega arith) (c .if1 .left)
 
 pub track-spec : {M : Type 1} → statement M
-track-spec = tie.close (tie.spec shl-below sub-below sub-middle returns returns-2)
+track-spec = tie.close (tie.spec (λ c. search needs) sub-below sub-middle returns returns-2)

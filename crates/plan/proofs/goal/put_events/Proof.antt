@@ -1,4 +1,4 @@
-use Rattle.plan.specs.inner.Regions.{eventsStart}
+use Rattle.plan.specs.inner.Regions.{eventSetsStart}
 use Rattle.plan.proofs.KnownLaws.{event-same}
 use Rattle.base.proofs.FillLaws.{fill-begin, fill-more, fill-end}
 use Prim.Native.Nat.{_+_, _-_, _*_, _≤_}
@@ -14,70 +14,22 @@ use Rattle.plan.proofs.goal.put_events.Statement.{statement}
 use Rattle.plan.proofs.goal.put_events.Tie as tie
 
 abbrev Inv-loop : tie.InvT-loop
-Inv-loop goal classes plan₀ end e₀ plan e = (32 ≤ e) × (e ≤ end) × (end ≡ 32 * (classes + 1)) × (length plan ≡ length plan₀) × Filled (λ j v. EventSets (goalOf goal) (eventOf j) v) plan₀ plan eventsStart 32 e
+Inv-loop goal classes plan₀ end e₀ plan e = (32 ≤ e) × (e ≤ end) × (end ≡ 32 * (classes + 1)) × (length plan ≡ length plan₀) × Filled (λ j v. EventSets (goalOf goal) (eventOf j) v) plan₀ plan eventSetsStart 32 e
 
 abbrev μ-loop : tie.MeasureT-loop
 μ-loop goal classes plan₀ end e₀ plan e = end - e
 
-add-end : tie.Need-add-end Inv-loop μ-loop
-add-end c = search needs
-
-mul-end : tie.Need-mul-end Inv-loop μ-loop
-mul-end c = search needs
-
 loop-holds : tie.Need-loop-holds Inv-loop μ-loop
 loop-holds c = (omega arith, omega arith, omega arith, refl, fill-begin _ _ _ _)
-
-cast-at : tie.Need-cast-at Inv-loop μ-loop
-cast-at c = search needs
-
-add-at : tie.Need-add-at Inv-loop μ-loop
-add-at c = search needs
-
-decode-requires : tie.Need-decode-requires Inv-loop μ-loop
-decode-requires c κs = search needs
 
 event-sets-requires : tie.Need-event-sets-requires Inv-loop μ-loop
 event-sets-requires c κs = (c .before .before .before .before .before .pre .0, rw (c .decode .ensures) (omega arith))
 
-mul-plan : tie.Need-mul-plan Inv-loop μ-loop
-mul-plan c = search needs
-
-slice-write-plan : tie.Need-slice-write-plan Inv-loop μ-loop
-slice-write-plan c = search needs
-
-add-e : tie.Need-add-e Inv-loop μ-loop
-add-e c = search needs
-
-loop-less : tie.Need-loop-less Inv-loop μ-loop
-loop-less c = search needs
-
 loop-again : tie.Need-loop-again Inv-loop μ-loop
 loop-again c = let l = c .before .before .before .loop in (omega arith, omega arith, l .inv .2, simp length-set (l .inv .3), fill-more _ (l .inv .4) (omega arith) (omega arith) (event-same (c .before .decode .ensures) (c .event-sets .ensures)))
-
-same-length : tie.Need-same-length Inv-loop μ-loop
-same-length c = search needs
 
 returns : tie.Need-returns Inv-loop μ-loop
 returns c = fill-end (c .before .loop .inv .4) (omega arith)
 
 pub put-events-spec : {M : Type 1} → statement M
-put-events-spec =
-    tie.close
-    (tie.spec
-    Inv-loop
-    μ-loop
-    add-end
-    mul-end
-    loop-holds
-    cast-at
-    add-at
-    decode-requires
-    event-sets-requires
-    mul-plan
-    slice-write-plan
-    add-e
-    loop-less
-    loop-again
-    same-length
-    returns)
+put-events-spec = tie.close (tie.spec Inv-loop μ-loop (λ c. search needs) (λ c. search needs) loop-holds (λ c. search needs) (λ c. search needs) (λ c κs. search needs) event-sets-requires (λ c. search needs) (λ c. search needs) (λ c. search needs) (λ c. search needs) loop-again (λ c. search needs) returns)

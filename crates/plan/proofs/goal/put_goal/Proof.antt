@@ -6,37 +6,22 @@ use borrow.Author.Needs.{needs}
 use Rattle.plan.proofs.goal.put_goal.Statement.{statement}
 use Rattle.plan.proofs.goal.put_goal.Tie as tie
 
-put-events-requires : tie.Need-put-events-requires
-put-events-requires c κs = search needs
-
-put-type-sets-requires : tie.Need-put-type-sets-requires
-put-type-sets-requires c κs = search needs
-
-put-pair-sets-requires : tie.Need-put-pair-sets-requires
-put-pair-sets-requires c κs = search needs
-
-put-links-requires : tie.Need-put-links-requires
-put-links-requires c κs = search needs
-
 put-leads-requires : tie.Need-put-leads-requires
 put-leads-requires c κs =
-    (c .before .before .before .before .before .before .before .before .before .before .before .before .before .before .before .before .before .before .before .pre .1, tops-after (let h = c .before .before .before .before .before .before .before .before .before .before .before .before .before .before .before .before .before .before .before .pre .1 .types in omega arith) (omega arith) (goal-before (c .before .before .before .before .before .before .before .before .before .before .before .before .before .before .before .put-events .ensures) (c .before .before .before .before .before .before .before .before .before .before .before .put-type-sets .ensures) (c .before .before .before .before .before .before .before .put-pair-sets .ensures) (c .before .before .before .put-links .ensures)) (c .before .before .before .before .before .before .before .before .before .before .before .before .before .before .before .before .before .before .before .pre .2), omega (arith, c .before .before .before .before .before .before .before .before .before .before .before .before .before .before .before .before .before .before .before .pre .3))
-
-same-length : tie.Need-same-length
-same-length c = search needs
+    let put-pair-sets = c .before .before .before .before .before .before .before in
+    let put-type-sets = put-pair-sets .before .before .before .before in
+    let put-events = put-type-sets .before .before .before .before in
+    let s = put-events .before .before .before .before in
+    (s .pre .1, tops-after (let h = s .pre .1 .types in omega arith) (omega arith) (goal-before (put-events .put-events .ensures) (put-type-sets .put-type-sets .ensures) (put-pair-sets .put-pair-sets .ensures) (c .before .before .before .put-links .ensures)) (s .pre .2), omega (arith, s .pre .3))
 
 returns : tie.Need-returns
 returns c =
-    goal-put (c .before .before .before .before .before .before .before .before .before .before .before .before .before .before .before .before .before .before .before .before .before .before .pre .0) (c .before .before .before .before .before .before .before .before .before .before .before .before .before .before .before .before .before .before .before .before .before .before .pre .1) (c .before .before .before .before .before .before .before .before .before .before .before .before .before .before .before .before .before .before .before .before .before .before .pre .2) refl refl (c .before .before .before .before .before .before .before .before .before .before .before .before .before .before .before .before .before .before .put-events .ensures) (c .before .before .before .before .before .before .before .before .before .before .before .before .before .before .put-type-sets .ensures) (c .before .before .before .before .before .before .before .before .before .before .put-pair-sets .ensures) (c .before .before .before .before .before .before .put-links .ensures) (c .before .before .put-leads .ensures)
+    let put-links = c .before .before .before .before .before .before in
+    let put-pair-sets = put-links .before .before .before .before in
+    let put-type-sets = put-pair-sets .before .before .before .before in
+    let put-events = put-type-sets .before .before .before .before in
+    let s = put-events .before .before .before .before in
+    goal-put (s .pre .0) (s .pre .1) (s .pre .2) refl refl (put-events .put-events .ensures) (put-type-sets .put-type-sets .ensures) (put-pair-sets .put-pair-sets .ensures) (put-links .put-links .ensures) (c .before .before .put-leads .ensures)
 
 pub put-goal-spec : {M : Type 1} → statement M
-put-goal-spec =
-    tie.close
-    (tie.spec
-    put-events-requires
-    put-type-sets-requires
-    put-pair-sets-requires
-    put-links-requires
-    put-leads-requires
-    same-length
-    returns)
+put-goal-spec = tie.close (tie.spec (λ c κs. search needs) (λ c κs. search needs) (λ c κs. search needs) (λ c κs. search needs) put-leads-requires (λ c. search needs) returns)

@@ -1,15 +1,15 @@
-use Prim.Native.Nat.{_+_, _-_, _≤_, _<_}
+use Prim.Native.Nat.{_-_, _≤_}
 use lib.ListN.{length, length-set}
 use mathlib.Core.Path.{_≡_, refl}
 use Rattle.base.specs.inner.Fill.{Filled}
 use Rattle.base.proofs.FillLaws.{fill-begin, fill-more, fill-end}
 use Rattle.goal_image.specs.Goal.{goalOf}
 use Rattle.goal_image.specs.inner.Sound.{SoundGoal}
-use Rattle.plan.specs.inner.Types.{pairCount}
+use Rattle.context.specs.inner.Places.{pairCount}
 use Rattle.plan.specs.inner.Regions.{pairSetsStart, planEntries}
 use Rattle.plan.specs.inner.Plan.{PlanCounts, PairSets}
 use Rattle.plan.proofs.KnownLaws.{sets-same}
-use Rattle.plan.proofs.TypeLaws.{pairs-few, pair-high}
+use Rattle.plan.proofs.ContextLaws.{pairs-few, pair-high}
 use borrow.Author.Needs.{needs}
 use native.Mathlib.Omega.{arith}
 use Rattle.plan.proofs.goal.put_pair_sets.Statement.{statement}
@@ -39,17 +39,11 @@ rem-new c = omega (arith, c .before .before .before .loop .inv .2 .countable .us
 add-new-2 : tie.Need-add-new-2 Inv-loop μ-loop
 add-new-2 c = let l = c .before .before .before .loop in omega (arith, pair-high (l .inv .2) (l .i) (omega (arith, c .before .before .loop-test .taken)) .1)
 
-new-requires : tie.Need-new-requires Inv-loop μ-loop
-new-requires c κs = search needs
-
 cast-at : tie.Need-cast-at Inv-loop μ-loop
 cast-at c = let l = c .before .before .before .before .loop in omega (arith, pairs-few (l .inv .2), l .inv)
 
 add-at : tie.Need-add-at Inv-loop μ-loop
 add-at c = let l = c .before .before .before .before .loop in omega (arith, pairs-few (l .inv .2), l .inv)
-
-context-sets-requires : tie.Need-context-sets-requires Inv-loop μ-loop
-context-sets-requires c κs = search needs
 
 mul-plan : tie.Need-mul-plan Inv-loop μ-loop
 mul-plan c = let l = c .before .before .before .before .before .loop in omega (arith, pairs-few (l .inv .2), l .inv)
@@ -60,38 +54,11 @@ slice-write-plan c = let l = c .before .before .before .before .before .loop in 
 add-i : tie.Need-add-i Inv-loop μ-loop
 add-i c = let l = c .before .before .before .before .before .loop in omega (arith, pairs-few (l .inv .2), l .inv)
 
-loop-less : tie.Need-loop-less Inv-loop μ-loop
-loop-less c = search needs
-
 loop-again : tie.Need-loop-again Inv-loop μ-loop
 loop-again c = let l = c .before .before .before .before .before .loop in (l .inv .0, omega arith, l .inv .2, simp length-set (l .inv .3), l .inv .4, l .inv .5, fill-more _ (l .inv .6) (omega arith) (omega (arith, pairs-few (l .inv .2), l .inv)) (sets-same (c .before .new .ensures) (c .context-sets .ensures)))
-
-same-length : tie.Need-same-length Inv-loop μ-loop
-same-length c = search needs
 
 returns : tie.Need-returns Inv-loop μ-loop
 returns c = fill-end (c .before .loop .inv .6) (omega arith)
 
 pub put-pair-sets-spec : {M : Type 1} → statement M
-put-pair-sets-spec =
-    tie.close
-    (tie.spec
-    Inv-loop
-    μ-loop
-    mul-pairs
-    loop-holds
-    div-new
-    add-new
-    rem-new
-    add-new-2
-    new-requires
-    cast-at
-    add-at
-    context-sets-requires
-    mul-plan
-    slice-write-plan
-    add-i
-    loop-less
-    loop-again
-    same-length
-    returns)
+put-pair-sets-spec = tie.close (tie.spec Inv-loop μ-loop mul-pairs loop-holds div-new add-new rem-new add-new-2 (λ c κs. search needs) cast-at add-at (λ c κs. search needs) mul-plan slice-write-plan add-i (λ c. search needs) loop-again (λ c. search needs) returns)

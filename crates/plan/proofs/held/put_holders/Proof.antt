@@ -1,15 +1,14 @@
-use Prim.Native.Nat.{_+_, _-_, _≤_, _<_}
+use Prim.Native.Nat.{_-_, _≤_}
 use lib.ListN.{length, length-set}
 use mathlib.Core.Path.{_≡_, refl}
 use Rattle.base.specs.inner.Fill.{Filled}
 use Rattle.base.proofs.FillLaws.{fill-begin, fill-more, fill-end}
 use Rattle.policy_image.specs.Policy.{policyOf}
-use Rattle.tables.specs.inner.Tables.{UserTable}
-use Rattle.plan.specs.inner.Types.{pairCount}
+use Rattle.plan_tables.specs.inner.Tables.{UserTable}
+use Rattle.context.specs.inner.Places.{pairCount}
 use Rattle.plan.specs.inner.Regions.{holdersStart, planEntries}
 use Rattle.plan.specs.inner.Plan.{PlanCounts, HolderOf}
-use Rattle.plan.proofs.TypeLaws.{pairs-few, pair-high}
-use Rattle.plan.proofs.ContextLaws.{holder-law}
+use Rattle.plan.proofs.ContextLaws.{pairs-few, pair-high, holder-law}
 use borrow.Author.Needs.{needs}
 use native.Mathlib.Omega.{arith}
 use Rattle.plan.proofs.held.put_holders.Statement.{statement}
@@ -20,9 +19,6 @@ Inv-loop policy counts plan₀ users pairs i₀ plan i = (pairs ≡ pairCount co
 
 abbrev μ-loop : tie.MeasureT-loop
 μ-loop policy counts plan₀ users pairs i₀ plan i = pairs - i
-
-user-table-requires : tie.Need-user-table-requires Inv-loop μ-loop
-user-table-requires c κs = search needs
 
 mul-pairs : tie.Need-mul-pairs Inv-loop μ-loop
 mul-pairs c = let s = c .before .before .before .before in omega (arith, pairs-few (s .pre .1))
@@ -69,44 +65,14 @@ slice-write-plan c = let l = c .before .before .before .loop in omega (arith, pa
 add-i : tie.Need-add-i Inv-loop μ-loop
 add-i c = let l = c .before .before .before .loop in omega (arith, pairs-few (l .inv .2), l .inv)
 
-loop-less : tie.Need-loop-less Inv-loop μ-loop
-loop-less c = search needs
-
 loop-again : tie.Need-loop-again Inv-loop μ-loop
 loop-again c =
     let l = c .before .before .before .loop in
     let h = pair-high (l .inv .2) (l .i) (omega (arith, c .before .before .loop-test .taken)) in
     (l .inv .0, omega arith, l .inv .2, simp length-set (l .inv .3), l .inv .4, l .inv .5, fill-more _ (l .inv .6) (omega arith) (omega (arith, pairs-few (l .inv .2), l .inv)) (holder-law (l .inv .5) refl refl (omega (arith, h .1)) (omega (arith, h .0))))
 
-same-length : tie.Need-same-length Inv-loop μ-loop
-same-length c = search needs
-
 returns : tie.Need-returns Inv-loop μ-loop
 returns c = fill-end (c .before .loop .inv .6) (omega arith)
 
 pub put-holders-spec : {M : Type 1} → statement M
-put-holders-spec =
-    tie.close
-    (tie.spec
-    Inv-loop
-    μ-loop
-    user-table-requires
-    mul-pairs
-    loop-holds
-    div-role
-    add-role
-    rem-user
-    add-user
-    cast-user
-    cast-at
-    add-at
-    mul-plan
-    array-read-plan
-    shl-plan
-    mul-plan-2
-    slice-write-plan
-    add-i
-    loop-less
-    loop-again
-    same-length
-    returns)
+put-holders-spec = tie.close (tie.spec Inv-loop μ-loop (λ c κs. search needs) mul-pairs loop-holds div-role add-role rem-user add-user cast-user cast-at add-at mul-plan array-read-plan shl-plan mul-plan-2 slice-write-plan add-i (λ c. search needs) loop-again (λ c. search needs) returns)

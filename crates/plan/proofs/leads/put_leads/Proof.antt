@@ -12,41 +12,26 @@ alike-table-requires c κs = (c .before .before .pre .0 .classes, c .before .bef
 add-last : tie.Need-add-last
 add-last c = let h = c .before .before .before .before .pre .0 .types in omega arith
 
-cast-last : tie.Need-cast-last
-cast-last c = search needs
-
-add-n : tie.Need-add-n
-add-n c = search needs
-
-mul-n : tie.Need-mul-n
-mul-n c = search needs
-
 slice-read-n : tie.Need-slice-read-n
-slice-read-n c = let h = c .before .before .before .before .before .pre .0 .types in omega (arith, c .before .before .before .before .before .pre .2)
+slice-read-n c =
+    let s = c .before .before .before .before .before in
+    let h = s .pre .0 .types in omega (arith, s .pre .2)
 
 cast-n : tie.Need-cast-n
-cast-n c = let h = last-top (c .before .before .before .before .before .pre .0) (c .before .before .before .before .before .pre .1) in omega arith
+cast-n c =
+    let s = c .before .before .before .before .before in
+    let h = last-top (s .pre .0) (s .pre .1) in omega arith
 
 lead-entries-requires : tie.Need-lead-entries-requires
-lead-entries-requires c κs = (last-top (c .before .before .before .before .before .before .before .pre .0) (c .before .before .before .before .before .before .before .pre .1), omega (arith, c .before .before .before .before .before .before .before .pre .2))
-
-same-length : tie.Need-same-length
-same-length c = search needs
+lead-entries-requires c κs =
+    let s = c .before .before .before .before .before .before .before in
+    (last-top (s .pre .0) (s .pre .1), omega (arith, s .pre .2))
 
 returns : tie.Need-returns
-returns c = leads-put (c .before .before .before .before .before .before .before .alike-table .ensures) (last-top (c .before .before .before .before .before .before .before .before .before .before .pre .0) (c .before .before .before .before .before .before .before .before .before .before .pre .1)) refl (c .before .before .lead-entries .ensures)
+returns c =
+    let alike-table = c .before .before .before .before .before .before .before in
+    let s = alike-table .before .before .before in
+    leads-put (alike-table .alike-table .ensures) (last-top (s .pre .0) (s .pre .1)) refl (c .before .before .lead-entries .ensures)
 
 pub put-leads-spec : {M : Type 1} → statement M
-put-leads-spec =
-    tie.close
-    (tie.spec
-    alike-table-requires
-    add-last
-    cast-last
-    add-n
-    mul-n
-    slice-read-n
-    cast-n
-    lead-entries-requires
-    same-length
-    returns)
+put-leads-spec = tie.close (tie.spec alike-table-requires add-last (λ c. search needs) (λ c. search needs) (λ c. search needs) slice-read-n cast-n lead-entries-requires (λ c. search needs) returns)

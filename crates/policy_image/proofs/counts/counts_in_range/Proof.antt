@@ -3,26 +3,14 @@ use Rattle.base.proofs.Decide.{decides-iff, not-yes, not-no}
 use Rattle.policy_image.proofs.counts.counts_in_range.Statement.{statement}
 use Rattle.policy_image.proofs.counts.counts_in_range.Tie as tie
 
-within-requires : tie.Need-within-requires
-within-requires c κs = search needs
-
 returns : tie.Need-returns
 returns c = λ h. not-no (c .before .within .result) (c .before .within .ensures) (c .if1 .taken) (h .types)
-
-within-requires-2 : tie.Need-within-requires-2
-within-requires-2 c κs = search needs
 
 returns-2 : tie.Need-returns-2
 returns-2 c = λ h. not-no (c .before .within2 .result) (c .before .within2 .ensures) (c .if2 .taken) (h .roles)
 
-within-requires-3 : tie.Need-within-requires-3
-within-requires-3 c κs = search needs
-
 returns-3 : tie.Need-returns-3
 returns-3 c = λ h. not-no (c .before .within3 .result) (c .before .within3 .ensures) (c .if3 .taken) (h .users)
-
-within-requires-4 : tie.Need-within-requires-4
-within-requires-4 c κs = search needs
 
 returns-4 : tie.Need-returns-4
 returns-4 c =
@@ -40,14 +28,4 @@ returns-4 c =
     (c .within4 .ensures)
 
 pub counts-in-range-spec : {M : Type 1} → statement M
-counts-in-range-spec =
-    tie.close
-    (tie.spec
-    within-requires
-    returns
-    within-requires-2
-    returns-2
-    within-requires-3
-    returns-3
-    within-requires-4
-    returns-4)
+counts-in-range-spec = tie.close (tie.spec (λ c κs. search needs) returns (λ c κs. search needs) returns-2 (λ c κs. search needs) returns-3 (λ c κs. search needs) returns-4)

@@ -10,7 +10,7 @@ use Rattle.policy_image.specs.declared.records.Record.{Record}
 use Rattle.policy_image.specs.Layout.{recordCount}
 use Rattle.policy_image.specs.Policy.{Policy, policyOf, policyLinks}
 use Rattle.policy_image.proofs.FieldLaws.{same-fields}
-use Rattle.policy_chains.proofs.KindLaws.{some-yes, some-no}
+use Rattle.policy_links.proofs.KindLaws.{some-yes, some-no}
 use Rattle.policy_check.specs.inner.Sound.{Sound}
 use Rattle.relations.specs.declared.facts.Fact.{Fact}
 use Rattle.relations.specs.inner.Facts.{states}
@@ -23,15 +23,15 @@ abbrev Not : Policy → Fact → ℕ → Type 0
 Not p f j = states f (p .rec j) ≡ false
 
 abbrev Inv-loop : tie.InvT-loop
-Inv-loop image f kind i₀ i = Visit (policyLinks (policyOf image)) (f .kind) (Not (policyOf image) f) i
+Inv-loop policy f kind i₀ i = Visit (policyLinks (policyOf policy)) (f .kind) (Not (policyOf policy) f) i
 
 abbrev μ-loop : tie.MeasureT-loop
-μ-loop image f kind i₀ i = left (recordCount image) i
+μ-loop policy f kind i₀ i = left (recordCount policy) i
 
 -- what is known where record i has been held to the fact
 module _ (K : tie.After-is-stated Inv-loop μ-loop) where
   abbrev s : List ℕ
-  s = K .before .before .before .before .before .before .before .args .image .now
+  s = K .before .before .before .before .before .before .before .args .policy .now
 
   abbrev f : Fact
   f = K .before .before .before .before .before .before .before .args .f
@@ -52,22 +52,10 @@ module _ (K : tie.After-is-stated Inv-loop μ-loop) where
   said : (b : Bool) → K .is-stated .result ≡ b → states f (policyOf s .rec i) ≡ b
   said b e = ap (λ (x : Record). states f x) (sym (K .before .record-at .ensures .same)) ∙ sym (K .is-stated .ensures) ∙ e
 
-cast-kind : tie.Need-cast-kind Inv-loop μ-loop
-cast-kind c = search needs
-
-head-at-requires : tie.Need-head-at-requires Inv-loop μ-loop
-head-at-requires c κs = search needs
-
 loop-holds : tie.Need-loop-holds Inv-loop μ-loop
 loop-holds c =
     let a = c .before .before .before in
-    along-start (a .args .image .now) (a .pre .0) (a .args .f .kind) (a .pre .1) (a .pre .2) (Not (policyOf (a .args .image .now)) (a .args .f)) _ (c .head-at .ensures)
-
-record-at-requires : tie.Need-record-at-requires Inv-loop μ-loop
-record-at-requires c κs = search needs
-
-is-stated-requires : tie.Need-is-stated-requires Inv-loop μ-loop
-is-stated-requires c κs = search needs
+    along-start (a .args .policy .now) (a .pre .0) (a .args .f .kind) (a .pre .1) (a .pre .2) (Not (policyOf (a .args .policy .now)) (a .args .f)) _ (c .head-at .ensures)
 
 returns : tie.Need-returns Inv-loop μ-loop
 returns c =
@@ -87,24 +75,11 @@ loop-again c =
 returns-2 : tie.Need-returns-2 Inv-loop μ-loop
 returns-2 c =
     let a = c .before .before .before .before .before in
-    let p = policyOf (a .args .image .now) in
+    let p = policyOf (a .args .policy .now) in
     let q = a .args .f in
     let z : c .before .loop .i ≡ 0 = omega arith in
-    sym (some-no p (q .kind) (states q) (along-end (a .args .image .now) (a .pre .0) (q .kind) (a .pre .1) (a .pre .2) (Not p q)
+    sym (some-no p (q .kind) (states q) (along-end (a .args .policy .now) (a .pre .0) (q .kind) (a .pre .1) (a .pre .2) (Not p q)
     (subst (λ (j : ℕ). Visit (policyLinks p) (q .kind) (Not p q) j) z (c .before .loop .inv))))
 
 pub is-given-spec : {M : Type 1} → statement M
-is-given-spec =
-    tie.close
-    (tie.spec
-    Inv-loop
-    μ-loop
-    cast-kind
-    head-at-requires
-    loop-holds
-    record-at-requires
-    is-stated-requires
-    returns
-    loop-less
-    loop-again
-    returns-2)
+is-given-spec = tie.close (tie.spec Inv-loop μ-loop (λ c. search needs) (λ c κs. search needs) loop-holds (λ c κs. search needs) (λ c κs. search needs) returns loop-less loop-again returns-2)

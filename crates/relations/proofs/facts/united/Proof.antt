@@ -20,15 +20,15 @@ use Rattle.relations.proofs.facts.united.Statement.{statement}
 use Rattle.relations.proofs.facts.united.Tie as tie
 
 abbrev Inv-loop : tie.InvT-loop
-Inv-loop image f kind mask₀ i₀ mask i = Uniting (policyOf image) f mask i
+Inv-loop policy f kind mask₀ i₀ mask i = Uniting (policyOf policy) f mask i
 
 abbrev μ-loop : tie.MeasureT-loop
-μ-loop image f kind mask₀ i₀ mask i = left (recordCount image) i
+μ-loop policy f kind mask₀ i₀ mask i = left (recordCount policy) i
 
 -- what is known where record i has been held to the fact
 module _ (K : tie.After-is-stated Inv-loop μ-loop) where
   abbrev s : List ℕ
-  s = K .before .before .before .before .before .before .before .args .image .now
+  s = K .before .before .before .before .before .before .before .args .policy .now
 
   abbrev f : Fact
   f = K .before .before .before .before .before .before .before .args .f
@@ -55,22 +55,13 @@ module _ (K : tie.After-is-stated Inv-loop μ-loop) where
   less : left (recordCount s) (K .before .record-at .result .next) < left (recordCount s) i
   less = along-less s sound (f .kind) (omega arith) (omega arith) _ i (omega arith) (uniting .visit) _ (same .next)
 
-cast-kind : tie.Need-cast-kind Inv-loop μ-loop
-cast-kind c = search needs
-
-head-at-requires : tie.Need-head-at-requires Inv-loop μ-loop
-head-at-requires c κs = search needs
-
 loop-holds : tie.Need-loop-holds Inv-loop μ-loop
 loop-holds c =
     let a = c .before .before .before in
-    uniting-start (a .args .image .now) (a .pre .0) (a .args .f) (a .pre .1) (a .pre .2) _ (c .head-at .ensures)
+    uniting-start (a .args .policy .now) (a .pre .0) (a .args .f) (a .pre .1) (a .pre .2) _ (c .head-at .ensures)
 
 record-at-requires : tie.Need-record-at-requires Inv-loop μ-loop
 record-at-requires c κs = let v = c .before .loop .inv .visit .most in search needs
-
-is-stated-requires : tie.Need-is-stated-requires Inv-loop μ-loop
-is-stated-requires c κs = search needs
 
 loop-less : tie.Need-loop-less Inv-loop μ-loop
 loop-less c = less (c .before .before)
@@ -94,22 +85,8 @@ returns c =
     let a = c .before .before .before .before .before in
     let l = c .before .loop in
     let z : l .i ≡ 0 = omega arith in
-    uniting-end (a .args .image .now) (a .pre .0) (a .args .f) (a .pre .1) (a .pre .2) (l .mask)
-    (subst (λ (j : ℕ). Uniting (policyOf (a .args .image .now)) (a .args .f) (l .mask) j) z (l .inv))
+    uniting-end (a .args .policy .now) (a .pre .0) (a .args .f) (a .pre .1) (a .pre .2) (l .mask)
+    (subst (λ (j : ℕ). Uniting (policyOf (a .args .policy .now)) (a .args .f) (l .mask) j) z (l .inv))
 
 pub united-spec : {M : Type 1} → statement M
-united-spec =
-    tie.close
-    (tie.spec
-    Inv-loop
-    μ-loop
-    cast-kind
-    head-at-requires
-    loop-holds
-    record-at-requires
-    is-stated-requires
-    loop-less
-    loop-again
-    loop-less-2
-    loop-again-2
-    returns)
+united-spec = tie.close (tie.spec Inv-loop μ-loop (λ c. search needs) (λ c κs. search needs) loop-holds record-at-requires (λ c κs. search needs) loop-less loop-again loop-less-2 loop-again-2 returns)

@@ -3,15 +3,9 @@ use native.Mathlib.Omega.{arith}
 use borrow.Author.Needs.{needs}
 use Rattle.context.specs.inner.Coding.{contextCode}
 use Rattle.context.proofs.PlaceLaws.{at-in-range}
-use Rattle.nodes.specs.inner.Nodes.{codeAt, placeOf}
+use Rattle.search_graph.specs.inner.Nodes.{codeAt, placeOf}
 use Rattle.witness.proofs.path.code_of.Statement.{statement}
 use Rattle.witness.proofs.path.code_of.Tie as tie
-
-div-at : tie.Need-div-at
-div-at c = search needs
-
-at-requires : tie.Need-at-requires
-at-requires c κs = search needs
 
 code-requires : tie.Need-code-requires
 code-requires c κs =
@@ -24,4 +18,4 @@ unfolding codeAt placeOf
 returns c = c .code .ensures ∙ ap contextCode (c .before .at .ensures)
 
 pub code-of-spec : {M : Type 1} → statement M
-code-of-spec = tie.close (tie.spec div-at at-requires code-requires returns)
+code-of-spec = tie.close (tie.spec (λ c. search needs) (λ c κs. search needs) code-requires returns)

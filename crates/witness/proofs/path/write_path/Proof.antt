@@ -3,39 +3,44 @@ use mathlib.Core.Path.{_≡_, refl, _∙_}
 use native.Mathlib.Omega.{arith}
 use denote.Ref.{now}
 use lib.ListN.{length, length-set, set}
-use Rattle.nodes.proofs.SearchLaws.{chain-bound}
+use Rattle.search_graph.proofs.SearchLaws.{chain-bound}
 use Rattle.witness.proofs.PathLaws.{Writing, unlink, write-begin, write-step, write-next, write-end, shown-by, node-in, node-small, code-at, rest-of}
 use Rattle.witness.proofs.path.write_path.Statement.{statement}
 use Rattle.witness.proofs.path.write_path.Tie as tie
 
 abbrev Inv-loop : tie.InvT-loop
-Inv-loop policy plan task u event v d back path₀ counts states i₀ w₀ e₀ path i w e = Writing policy plan task back u v (d + 1) path₀ path i w e
+Inv-loop policy plan task back path₀ counts states to i₀ w₀ e₀ path i w e = Writing policy plan task back w₀ to i₀ path₀ path i w e
 
 abbrev μ-loop : tie.MeasureT-loop
-μ-loop policy plan task u event v d back path₀ counts states i₀ w₀ e₀ path i w e = i
+μ-loop policy plan task back path₀ counts states to i₀ w₀ e₀ path i w e = i
 
 -- where the loop stands, the start, and that i is one more than the place that is written next
 module _ (c : tie.At-loop Inv-loop μ-loop) where
   abbrev start : tie.Start Inv-loop μ-loop
-  start = c .before .before .before .before .before .before .before .before
+  start = c .before .before .before .before .before .before .before .before .before
 
-  room : 2 * (start .args .d + 1) + 1 ≤ length (set (now (start .args .path)) (2 * (start .args .d + 1)) (c .before .code-of .result))
-  room = rw (length-set (now (start .args .path)) (2 * (start .args .d + 1)) (c .before .code-of .result)) (start .pre .3)
+  room : 2 * (start .args .last .depth + 1) + 1 ≤ length (set (now (start .args .path)) (2 * (start .args .last .depth + 1)) (c .before .code-of .result))
+  room = rw (length-set (now (start .args .path)) (2 * (start .args .last .depth + 1)) (c .before .code-of .result)) (start .pre .3)
 
   next : c .loop .i ≡ suc (c .loop .i - 1)
   next = omega (arith, c .loop .inv .some)
 
   small : c .loop .w < 2 ^ 26
-  small = node-small (start .pre .0) (c .before .before .states-of .ensures) (chain-bound (c .loop .inv .chain))
+  small = node-small (start .pre .0) (c .before .before .before .states-in .ensures) (chain-bound (c .loop .inv .chain))
 
-states-of-requires : tie.Need-states-of-requires Inv-loop μ-loop
-states-of-requires c κs = c .before .before .before .before .before .pre .0 .readable .few-legs
+states-in-requires : tie.Need-states-in-requires Inv-loop μ-loop
+states-in-requires c κs = c .before .before .before .before .before .pre .0 .readable .few-legs
+
+cast-i : tie.Need-cast-i Inv-loop μ-loop
+cast-i c = omega arith
 
 add-i : tie.Need-add-i Inv-loop μ-loop
 add-i c = omega arith
 
 code-of-requires : tie.Need-code-of-requires Inv-loop μ-loop
-code-of-requires c κs = node-in (c .before .before .before .before .before .before .pre .0) (c .states-of .ensures) (c .before .before .before .before .before .before .pre .1 .breaks .target)
+code-of-requires c κs =
+    let s = c .before .before .before .before .before .before .before in
+    node-in (s .pre .0) (c .before .states-in .ensures) (s .pre .1 .breaks .target)
 
 mul-path : tie.Need-mul-path Inv-loop μ-loop
 mul-path c = omega arith
@@ -47,7 +52,9 @@ slice-write-path : tie.Need-slice-write-path Inv-loop μ-loop
 slice-write-path c = omega arith
 
 loop-holds : tie.Need-loop-holds Inv-loop μ-loop
-loop-holds c = write-begin (now (c .before .before .before .before .before .before .before .args .path)) refl (c .before .before .before .before .before .before .before .pre .3) (code-at (c .before .before .before .before .before .before .before .pre .0) (c .before .states-of .ensures) _ (c .code-of .ensures)) (c .before .before .before .before .before .before .before .pre .1 .breaks .edge) (c .before .before .before .before .before .before .before .pre .1 .chain)
+loop-holds c =
+    let s = c .before .before .before .before .before .before .before .before in
+    write-begin (now (s .args .path)) refl (s .pre .3) (code-at (s .pre .0) (c .before .before .states-in .ensures) _ (c .code-of .ensures)) (s .pre .1 .breaks .edge) (s .pre .1 .chain)
 
 sub-i : tie.Need-sub-i Inv-loop μ-loop
 sub-i c = omega (arith, c .loop .inv .some)
@@ -65,7 +72,7 @@ slice-write-path-2 : tie.Need-slice-write-path-2 Inv-loop μ-loop
 slice-write-path-2 c = omega (arith, c .loop .inv .some, c .loop .inv .high, c .loop .inv .written .whole, room c)
 
 code-of-requires-2 : tie.Need-code-of-requires-2 Inv-loop μ-loop
-code-of-requires-2 c κs = node-in (start c .pre .0) (c .before .before .states-of .ensures) (chain-bound (c .loop .inv .chain))
+code-of-requires-2 c κs = node-in (start c .pre .0) (c .before .before .before .states-in .ensures) (chain-bound (c .loop .inv .chain))
 
 mul-path-5 : tie.Need-mul-path-5 Inv-loop μ-loop
 mul-path-5 c = omega arith
@@ -81,18 +88,18 @@ slice-write-path-3 c =
 same-length : tie.Need-same-length Inv-loop μ-loop
 same-length c =
     let a = c .before .before in
-    simp length-set (omega (arith, a .loop .inv .written .whole, length-set (now (start a .args .path)) (2 * (start a .args .d + 1)) (a .before .code-of .result)))
+    simp length-set (omega (arith, a .loop .inv .written .whole, length-set (now (start a .args .path)) (2 * (start a .args .last .depth + 1)) (a .before .code-of .result)))
 
 returns : tie.Need-returns Inv-loop μ-loop
 returns c =
     let a = c .before .before in
     let s = start a in
     let R = a .loop .inv in
-    let p = code-at (s .pre .0) (a .before .before .states-of .ensures) _ (c .before .code-of2 .ensures) in
+    let p = code-at (s .pre .0) (a .before .before .before .states-in .ensures) _ (c .before .code-of2 .ensures) in
     let W = write-step _ R (room a) (next a) p in
     let b = s .pre .1 .breaks in
     let o = now (s .args .path) in
-    let m = s .args .d + 1 in
+    let m = s .args .last .depth + 1 in
     let v = a .before .code-of .result in
     shown-by _ (s .args .task .mode) (s .pre .0 .readable .some-leg) (s .pre .3) (W .whole ∙ length-set o (2 * m) v) (rest-of o v W)
     (write-end _ R (room a) (next a) p (c .if1 .taken) (b .ends) (b .edge .kept (b .ends .arrives)))
@@ -122,7 +129,7 @@ loop-again c =
     let b = c .before .before .before in
     let a = b .before in
     let s = start a in
-    let p = code-at (s .pre .0) (a .before .before .states-of .ensures) _ (b .code-of2 .ensures) in
+    let p = code-at (s .pre .0) (a .before .before .before .states-in .ensures) _ (b .code-of2 .ensures) in
     write-next _ (a .loop .inv) (room a) (next a) p (omega (arith, c .before .before .if1 .left)) refl (c .least-event .ensures .holds)
 
 pub write-path-spec : {M : Type 1} → statement M
@@ -131,7 +138,8 @@ write-path-spec =
     (tie.spec
     Inv-loop
     μ-loop
-    states-of-requires
+    states-in-requires
+    cast-i
     add-i
     code-of-requires
     mul-path

@@ -1,7 +1,0 @@
-pub mod BareLaws
-pub mod Cases
-pub mod GoalLaws
-pub mod ModelLaws
-pub mod SizeLaws
-pub mod AnswerLaws
-pub mod AskedLaws

@@ -1,0 +1,2 @@
+pub mod GoalQuestion
+pub mod inner

@@ -1,0 +1,4 @@
+pub mod StepsLaws
+pub mod PathLaws
+pub mod AskedLaws
+pub mod AnswerLaws

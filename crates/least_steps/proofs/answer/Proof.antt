@@ -1,0 +1,56 @@
+use native.Mathlib.Omega.{arith}
+use Rattle.plan.proofs.ContextLaws.{plan-counts}
+use Rattle.plan.proofs.PlanLaws.{policy-tops}
+use Rattle.search.specs.inner.Found.{unbounded}
+use Rattle.least_steps.proofs.AskedLaws.{passed-ready, passed-range, passed-room}
+use Rattle.least_steps.proofs.AnswerLaws.{one-state, any-given, promised}
+use borrow.Author.Needs.{needs}
+use Rattle.least_steps.proofs.answer.Statement.{statement}
+use Rattle.least_steps.proofs.answer.Tie as tie
+
+-- what is known where the ends are put
+module _ (K : tie.After-put-ends) where
+  abbrev made : tie.After-make-plan
+  made = K .before .before .before
+
+  abbrev start : tie.Start
+  start = made .before .before .before .before .before .before
+
+make-plan-requires : tie.Need-make-plan-requires
+make-plan-requires c κs = (passed-ready (c .before .before .before .before .before .pre), omega arith)
+
+put-ends-requires : tie.Need-put-ends-requires
+put-ends-requires c κs =
+    let made = c .before .before in
+    let P = made .before .before .before .before .before .before .pre in
+    let R = passed-ready P in
+    (passed-range P .first, passed-range P .second, plan-counts R, policy-tops R (made .make-plan .ensures), omega arith)
+
+search-requires : tie.Need-search-requires
+search-requires c κs =
+    let K = c .before .before .before .before in
+    let P = start K .pre in (
+      any-given P (omega arith) (made K .make-plan .ensures) (K .put-ends .ensures),
+      record { queue-room = omega (arith, one-state (start K .args .counts), passed-room P .first); back-room = omega (arith, one-state (start K .args .counts), passed-room P .second) },
+    )
+
+show-found-requires : tie.Need-show-found-requires
+show-found-requires c κs =
+    let found = c .before .before .before .before .before .before .before in
+    let K = found .before .before .before .before .before in
+    let P = start K .pre in (
+      any-given P (omega arith) (made K .make-plan .ensures) (K .put-ends .ensures),
+      record { bound = unbounded; found = found .search .ensures },
+      omega (arith, one-state (start K .args .counts), passed-room P .second),
+    )
+
+returns : tie.Need-returns
+returns c =
+    let shown = c .before .before .before in
+    let found = shown .before .before .before .before .before .before .before .before in
+    let K = found .before .before .before .before .before in
+    rw (c .steps-of .ensures)
+    (promised (start K .pre) (omega arith) (made K .make-plan .ensures) (K .put-ends .ensures) _ (found .search .result) (found .search .ensures) _ _ (shown .show-found .result) (shown .show-found .ensures))
+
+pub answer-spec : {M : Type 1} → statement M
+answer-spec = tie.close (tie.spec (λ c. search needs) make-plan-requires (λ c. search needs) put-ends-requires (λ c. search needs) search-requires (λ c. search needs) show-found-requires (λ c κs. search needs) (λ c. search needs) (λ c. search needs) (λ c. search needs) returns)

@@ -1,0 +1,2 @@
+pub mod LeastSteps
+pub mod inner

@@ -1,7 +1,0 @@
-pub mod SearchLaws
-pub mod NodeLaws
-pub mod ModelLaws
-pub mod WatchLaws
-pub mod ArrivalLaws
-pub mod LevelLaws
-pub mod SeedLaws

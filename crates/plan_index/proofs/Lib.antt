@@ -1,0 +1,7 @@
+pub mod MaskLaws
+pub mod UniteLaws
+pub mod SplitLaws
+pub mod MeaningLaws
+pub mod CountingLaws
+pub mod RecordLaws
+pub mod ExtractLaws

@@ -1,0 +1,15 @@
+pub mod ListLaws
+pub mod TurnLaws
+pub mod RenumberLaws
+pub mod RenumberUseLaws
+pub mod JoinLaws
+pub mod JoinTurnLaws
+pub mod NodeLaws
+pub mod StemLaws
+pub mod JoinNodeLaws
+pub mod JoinSourceLaws
+pub mod CountLaws
+pub mod LimitLaws
+pub mod JoinFieldLaws
+pub mod JoinWritableLaws
+pub mod Cases

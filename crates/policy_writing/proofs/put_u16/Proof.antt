@@ -1,0 +1,16 @@
+use mathlib.Core.Path.{refl}
+use lib.ListN.{length-set}
+use Rattle.policy_writing.proofs.PutLaws.{put-two}
+use native.Mathlib.Omega.{arith}
+use borrow.Author.Needs.{needs}
+use Rattle.policy_writing.proofs.put_u16.Statement.{statement}
+use Rattle.policy_writing.proofs.put_u16.Tie as tie
+
+slice-write-out-2 : tie.Need-slice-write-out-2
+slice-write-out-2 c = simp length-set (omega arith)
+
+returns : tie.Need-returns
+returns c = put-two _ (omega arith) refl refl
+
+pub put-u16-spec : {M : Type 1} → statement M
+put-u16-spec = tie.close (tie.spec (λ c. search needs) (λ c. search needs) (λ c. search needs) (λ c. search needs) slice-write-out-2 (λ c. search needs) returns)

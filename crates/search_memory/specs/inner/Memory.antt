@@ -1,0 +1,111 @@
+-- What a search remembers.
+use mathlib.Core.Path.{_≡_}
+use mathlib.Core.Bool.{Bool, true, false}
+use mathlib.Core.List.{List}
+use mathlib.Core.Logic.{_⊎_}
+use Prim.Native.Nat.{ℕ, _/_, _^_, _≤_, _<_}
+use lib.Bits.{bitAnd, bitOr}
+use lib.Dec.{T}
+use lib.ListN.{length, getD}
+use Rattle.base.specs.Bits.{bit}
+use Rattle.policy_image.specs.Policy.{policyOf}
+use Rattle.context.specs.declared.Context.{Context}
+use Rattle.context.specs.Codes.{eventOf}
+use Rattle.context.specs.inner.Places.{contextAtIndex}
+use Rattle.goal_model.specs.Images.{meetsρμ}
+use Rattle.plan_tables.specs.inner.Tables.{typeEntries}
+use Rattle.plan.specs.inner.Entries.{eventSetsAt}
+use Rattle.plan.specs.inner.Plan.{special}
+use Rattle.search_steps.specs.declared.nearest.Asker.{Asker}
+use Rattle.search_steps.specs.declared.nearest.Offer.{Offer}
+use Rattle.search_steps.specs.inner.Nearest.{NearestOf, stepsEnd, stateCodes, wholeState}
+use Rattle.search_steps.specs.inner.Steps.{Shut}
+use Rattle.search_graph.specs.declared.monitor.Mode.{Mode}
+use Rattle.search_graph.specs.declared.monitor.Mode.the-variants.{Order, Events, Any}
+use Rattle.search_graph.specs.declared.task.Task.{Task}
+use Rattle.search_graph.specs.inner.State.{Clear}
+use Rattle.search_graph.specs.inner.Nodes.{placeOf, stateOf, codeOf}
+use Rattle.search_graph.specs.inner.Model.{asksBy}
+use Rattle.search_graph.specs.inner.Tasks.{statesIn, Given, modelBy, watchBy, graphOf, typeOf, Stands}
+use Rattle.search_memory.specs.declared.turn.Node.{Node}
+
+-- the bits of a state that every event keeps
+abbrev pub keepsOf : Mode → ℕ
+keepsOf Order = wholeState
+keepsOf Events = 0
+keepsOf Any = 0
+
+-- what the event e keeps of a state: for order all of it, for events the stages whose γ the event is in, and of the one state of a search for any
+-- end nothing. The state after a step depends on that and on the target alone (proofs/KeptLaws.antt)
+abbrev pub keptBy : Mode → List ℕ → ℕ → ℕ → ℕ
+keptBy m plan state e = bitAnd state (bitOr (keepsOf m) (eventSetsAt plan e / 2 ^ 7))
+
+-- r is the set of k alone, where yes, or empty
+pub record Marks (k : ℕ) (yes : Bool) (r : ℕ) : Type 0 where
+  pub only : (i : ℕ) → bit r i ≡ true → (yes ≡ true) × (k ≡ i)
+
+-- the sets of l are within those of l′
+pub record Grown (l l′ : List ℕ) : Type 0 where
+  pub stays : (t k : ℕ) → bit (getD l t 0) k ≡ true → bit (getD l′ t 0) k ≡ true
+
+-- by type: k is added to the set of the type o, where yes, and nothing else is
+pub record Remembered (before after : List ℕ) (o k : ℕ) (yes : Bool) : Type 0 where
+  pub size : length after ≡ length before
+  pub grown : Grown before after
+  pub only : (t i : ℕ) → bit (getD after t 0) i ≡ true → (bit (getD before t 0) i ≡ true) ⊎ ((t ≡ o) × (yes ≡ true) × (k ≡ i))
+
+-- swept, by type of the target: an edge whose event keeps of the state what is in the set arrives at no end, and at a node that is visited.
+-- spent, by type of the source: so does an edge from a state in the set, by an event that is not special
+pub record Memory (s plan : List ℕ) (t : Task) (back swept spent : List ℕ) : Type 0 where
+  pub swept-size : length swept ≡ typeEntries
+  pub spent-size : length spent ≡ typeEntries
+  pub swept-clear : (u e w : ℕ) → u < graphOf s plan t .k → w < graphOf s plan t .k → graphOf s plan t .Edge u e w
+      → bit (getD swept (typeOf t w) 0) (keptBy (t .mode) plan (stateOf (statesIn t) u) e) ≡ true → Clear (graphOf s plan t) back w
+  pub spent-clear : (u e w : ℕ) → u < graphOf s plan t .k → w < graphOf s plan t .k → graphOf s plan t .Edge u e w → special (policyOf s) (eventOf e) ≡ false
+      → bit (getD spent (typeOf t u) 0) (stateOf (statesIn t) u) ≡ true → Clear (graphOf s plan t) back w
+
+-- shut, by type of the source: from a state in the set no step need be asked
+pub record Shuts (m : Mode) (plan swept spent shut : List ℕ) : Type 0 where
+  pub size : length shut ≡ typeEntries
+  pub at : (t : ℕ) (a : Asker) → a .keeps ≡ keepsOf m → a .spent ≡ bit (getD spent t 0) (a .state) → bit (getD shut t 0) (a .state) ≡ true → Shut plan swept a t
+
+-- what it says of one who asks from the type o
+pub record Recalls (plan swept shut : List ℕ) (a : Asker) (o : ℕ) : Type 0 where
+  pub size : length shut ≡ typeEntries
+  pub at : bit (getD shut o 0) (a .state) ≡ true → Shut plan swept a o
+
+-- only the asker's state may be new in a set
+pub record Recalled (plan swept before after : List ℕ) (a : Asker) (o : ℕ) : Type 0 where
+  pub size : length after ≡ typeEntries
+  pub only : (t k : ℕ) → bit (getD after t 0) k ≡ true → (bit (getD before t 0) k ≡ true) ⊎ ((t ≡ o) × (a .state ≡ k) × Shut plan swept a o)
+
+-- the asker stands for the state, in a search of the mode
+pub record AskerOf (m : Mode) (spent : List ℕ) (x : Context) (state : ℕ) (a : Asker) : Type 0 where
+  pub state-is : a .state ≡ state
+  pub keeps-are : a .keeps ≡ keepsOf m
+  pub spent-is : a .spent ≡ bit (getD spent (x .ty) 0) state
+  pub few : a .state < stateCodes
+
+-- the node u, taken up
+pub record TakenUp (plan : List ℕ) (t : Task) (spent : List ℕ) (u : ℕ) (v : Node) : Type 0 where
+  pub stands : Stands t u (v .x) (v .asker .state)
+  pub asker : AskerOf (t .mode) spent (v .x) (v .asker .state) (v .asker)
+  pub asked : v .asks ≡ asksBy (t .counts) plan (v .x .ty) (placeOf (statesIn t) u)
+
+-- r is the nearest step from the node's type, where steps are asked, and else none
+pub record FirstFrom (plan swept : List ℕ) (v : Node) (r : Offer) : Type 0 where
+  pub none : v .asks ≡ false → r .step ≡ stepsEnd
+  pub nearest : v .asks ≡ true → NearestOf plan swept (v .asker) (v .x .ty) 0 r
+
+-- of the contexts at the places from lo to below hi that meet ρ and μ, a node in the state to which an event in the sets by leads from
+-- the state is no end and is visited, if an edge may lead there at all
+pub record Settled (s plan : List ℕ) (t : Task) (back : List ℕ) (state by lo hi : ℕ) : Type 0 where
+  pub all : (e w : ℕ) → by ≡ eventSetsAt plan e → lo ≤ placeOf (statesIn t) w → placeOf (statesIn t) w < hi
+      → meetsρμ (policyOf s) (contextAtIndex (t .counts) (placeOf (statesIn t) w)) ≡ true
+      → stateOf (statesIn t) w ≡ watchBy s plan t .step state e (codeOf (t .counts) (statesIn t) w)
+      → (T (modelBy s plan t .σ (t .legs .count) (codeOf (t .counts) (statesIn t) w)) → T (watchBy s plan t .bad (stateOf (statesIn t) w)))
+      → Clear (graphOf s plan t) back w
+
+-- .. whatever the policy
+abbrev pub AllSettled : List ℕ → Task → List ℕ → ℕ → ℕ → ℕ → ℕ → Type 0
+AllSettled plan t back state by lo hi = (s : List ℕ) → Given s plan t → Settled s plan t back state by lo hi

@@ -1,0 +1,83 @@
+//! All questions of a case, and all cases of a sort.
+use crate::calls::Library;
+use crate::cases::{Case, Numbered, LIMIT};
+use crate::pairs::Pair;
+use crate::tally::Tally;
+use crate::{bare_questions, goal_question, least_steps};
+use flowgoal_calls::{Outcome, Steps};
+
+/// Who is asked, and whether what each side says is printed.
+#[derive(Clone, Copy)]
+pub struct Asker {
+    pub library: Library,
+    pub aloud: bool,
+}
+
+impl Asker {
+    pub fn silent(library: Library) -> Asker {
+        Asker { library, aloud: false }
+    }
+    pub fn say(&self, line: impl FnOnce() -> String) {
+        if self.aloud {
+            println!("{}", line());
+        }
+    }
+}
+
+/// What the library answered to a case.
+#[derive(Clone, Debug)]
+pub struct Said {
+    pub goal: Outcome,
+    pub steps: Vec<(Pair, Steps)>,
+}
+
+/// All questions of one case: what the library answered, or what was wrong.
+pub fn ask(asker: Asker, mut case: Case, limit: usize, tally: &mut Tally) -> Result<Said, Vec<String>> {
+    let goal = goal_question::ask(asker, &mut case, limit, tally);
+    let bare = bare_questions::ask(asker, &mut case, tally);
+    let steps = least_steps::ask(asker, &mut case, limit, tally);
+    match (goal, bare, steps) {
+        (Ok(goal), Ok(()), Ok(steps)) => Ok(Said { goal, steps }),
+        (goal, bare, steps) => Err(goal.err().into_iter().chain(bare.err()).chain(steps.err()).collect()),
+    }
+}
+
+/// A numbered case that failed, and what was wrong.
+pub struct Failure {
+    pub number: u64,
+    pub wrong: Vec<String>,
+}
+
+/// Numbered cases that were asked: what the library answered to those that did not fail, and what was met.
+pub struct Asked {
+    pub cases: Numbered,
+    pub answers: Vec<Option<Said>>,
+    pub failures: Vec<Failure>,
+    pub tally: Tally,
+}
+
+/// The cases from number 0 on, in threads.
+pub fn ask_all(library: Library, cases: Numbered, threads: usize) -> Asked {
+    let part = |of: usize| {
+        let mut tally = Tally::default();
+        let mut one = |k: u64| (k, ask(Asker::silent(library), cases.case(k), LIMIT, &mut tally));
+        let said: Vec<_> = (of as u64..cases.count).step_by(threads).map(&mut one).collect();
+        (tally, said)
+    };
+    let mut asked = Asked { cases, answers: vec![None; cases.count as usize], failures: Vec::new(), tally: Tally::default() };
+    std::thread::scope(|scope| {
+        let parts: Vec<_> = (0..threads).map(|of| scope.spawn(move || part(of))).collect();
+        for part in parts {
+            let (tally, said) = part.join().expect("a thread of the cases");
+            asked.tally.add(&tally);
+            for (number, said) in said {
+                match said {
+                    Ok(answers) => asked.answers[number as usize] = Some(answers),
+                    Err(wrong) => asked.failures.push(Failure { number, wrong }),
+                }
+            }
+        }
+    });
+    asked.failures.sort_by_key(|failure| failure.number);
+    asked
+}

@@ -1,0 +1,42 @@
+//! What is told of the cases that failed, and their images, which are kept so that they can be looked at.
+use crate::asking::{Asked, Failure};
+use crate::cases::Numbered;
+use std::path::{Path, PathBuf};
+use std::{fs, io};
+
+/// Cases that failed and are told of.
+const TOLD: usize = 10;
+
+/// Writes the images of a case to a folder of its own; gives the folder.
+fn keep(cases: &Numbered, number: u64, kept: &Path) -> io::Result<PathBuf> {
+    let folder = kept.join(format!("{}-{number}", cases.sort));
+    let case = cases.case(number);
+    fs::create_dir_all(&folder)?;
+    fs::write(folder.join("policy.img"), &case.policy)?;
+    fs::write(folder.join("goal.img"), &case.goal)?;
+    Ok(folder)
+}
+
+/// Keeps the images of a case, and says where they are.
+pub fn kept_in(cases: &Numbered, number: u64, kept: &Path) -> String {
+    match keep(cases, number, kept) {
+        Ok(folder) => format!("its images are in {}", folder.display()),
+        Err(why) => format!("its images cannot be written to {}: {why}", kept.display()),
+    }
+}
+
+/// The words that ask a case again.
+pub fn again(cases: &Numbered, number: u64) -> String {
+    format!("tests/library/run {} {number}", cases.sort)
+}
+
+/// The lines on the first of the cases that failed: what was wrong, where the images are, and how to ask again.
+pub fn told(asked: &Asked, kept: &Path) -> Vec<String> {
+    let mut lines = Vec::new();
+    for Failure { number, wrong } in asked.failures.iter().take(TOLD) {
+        let name = asked.cases.case(*number).name;
+        lines.extend(wrong.iter().map(|why| format!("{name}: {why}")));
+        lines.push(format!("  {}; to ask it again: {}", kept_in(&asked.cases, *number, kept), again(&asked.cases, *number)));
+    }
+    lines
+}

@@ -1,0 +1,198 @@
+//! Where the second search's sources are changed for the copy.
+
+/// A place in the sources of the second search, and what stands there in the copy: `on!(Name)` is true while the misreading of
+/// that name (`src/names.rs`) is switched on, and with none switched on the copy reads as the original does.
+pub struct Place {
+    pub file: &'static str,
+    pub reads: &'static str,
+    pub switched: &'static str,
+}
+
+pub const PLACES: [Place; 36] = [
+    Place {
+        file: "layers.rs",
+        reads: "(1..goal.n).any(|i| goal.sigma(i + 1, x) && !self.seen.contains(&i))",
+        switched: "(if on!(OrderFromZero) { 0 } else { 1 }..if on!(OrderBelowLast) { goal.n - 1 } else { goal.n })
+            .any(|i| goal.sigma(i + 1, x) && !self.seen.contains(&i) && !(on!(SameContextCounts) && goal.sigma(i, x)))",
+    },
+    Place {
+        file: "layers.rs",
+        reads: "self.flows.sigma[&x].1 && self.trackers",
+        switched: "self.flows.sigma[&x].1 && !(on!(EndExcepted) && self.flows.sigma[&x].2) && self.trackers",
+    },
+    Place {
+        file: "layers.rs",
+        reads: "!end && !exception",
+        switched: "(!end || on!(GoesOnAfterEnd)) && (!exception || on!(SigmaEIgnored))",
+    },
+    Place {
+        file: "layers.rs",
+        reads: "list.retain(|&(e, _)| !goal.gamma_e(e))",
+        switched: "list.retain(|&(e, _)| on!(GammaEIgnored) || !goal.gamma_e(e))",
+    },
+    Place {
+        file: "layers.rs",
+        reads: "        Progress(after)\n",
+        switched: "        while on!(HighestStageKept) && after.len() > 1 { after.pop_first(); }
+        while on!(LowestStageKept) && after.len() > 1 { after.pop_last(); }
+        Progress(after)\n",
+    },
+    Place {
+        file: "goal.rs",
+        reads: "self.flags >> leg & 1 == 1",
+        switched: "(on!(EveryLegRepeated) || self.flags >> leg & 1 == 1) && !on!(NoLegRepeated)",
+    },
+    Place {
+        file: "layers.rs",
+        reads: "if goal.repeated(i) {",
+        switched: "if goal.repeated(i) && !(on!(RepeatedLegLeft) && goal.sigma(i + 1, y)) {",
+    },
+    Place {
+        file: "layers.rs",
+        reads: "!self.0.contains(&goal.n)",
+        switched: "if on!(FirstLegAlone) { self.0.is_empty() } else { on!(EveryPathBreaks) || !self.0.contains(&goal.n) }",
+    },
+    Place {
+        file: "layers.rs",
+        reads: "edges.entry(x2).or_default().insert((e, x1));",
+        switched: "if on!(ReadReversed) { edges.entry(x1).or_default().insert((e, x2)); }
+                        else { edges.entry(x2).or_default().insert((e, x1)); }",
+    },
+    Place {
+        file: "layers.rs",
+        reads: "if !order.closed && order.ends() {",
+        switched: "if !order.closed && order.ends() && !(on!(EventsOnTie) && !events.closed && events.ends()) {",
+    },
+    Place {
+        file: "layers.rs",
+        reads: "filter(|&x| policy.valid(x))",
+        switched: "filter(|&x| on!(StartNotTested) || on!(InvalidBetween) || policy.valid(x))",
+    },
+    Place {
+        file: "policy.rs",
+        reads: "e != TRANSITION ||",
+        switched: "e != TRANSITION || on!(RoleRuleLeftOut) || on!(EqualRolesNotAsked) && r1 == r2 ||",
+    },
+    Place {
+        file: "layers.rs",
+        reads: "if k.b == 0 { k.a as u32 }",
+        switched: "if k.b == 0 { if on!(SelfIgnored) { 999 } else { k.a as u32 } }",
+    },
+    Place {
+        file: "layers.rs",
+        reads: "if roots.iter().all(|&root| policy.eval(root, x1, x2)) && policy.role_rule(x1.r, x2.r, e) {",
+        switched: "let (y1, y2) = if on!(ConstraintSwapped) { (x2, x1) } else { (x1, x2) };
+                let (s1, s2) = if on!(RolesSwapped) { (x2.r, x1.r) } else { (x1.r, x2.r) };
+                let mut values = roots.iter().map(|&root| policy.eval(root, y1, y2));
+                let chi = on!(ConstraintsIgnored)
+                    || if on!(AnyConstraintSuffices) { roots.is_empty() || values.any(|v| v) } else { values.all(|v| v) };
+                if chi && policy.role_rule(s1, s2, e) && !(on!(NoFlowToItself) && x1 == x2) {",
+    },
+    Place {
+        file: "policy.rs",
+        reads: "self.domain(t1)\n            && self.gamma(e)",
+        switched: "(on!(SourceNoDomain) || self.domain(t1))\n            && self.gamma(e)",
+    },
+    Place {
+        file: "policy.rs",
+        reads: "    if !policy.nodes_ok() {",
+        switched: "    if on!(SourcesBeforeNodes) && policy.records.iter().any(|k| k.kind == 4 && !policy.domain(u32::from(k.a))) {
+        return Err(14);
+    }
+    if !policy.nodes_ok() {",
+    },
+    Place {
+        file: "policy.rs",
+        reads: "policy.records.iter().any(|k| k.kind == 4 && !policy.domain(k.a as u32)) {",
+        switched: "!on!(SourceNoDomain) && policy.records.iter().enumerate().any(|(i, k)| {
+        let asked = k.kind == 4 && !(on!(EmptyMaskNotAsked) && k.mask == 0) && !(on!(SelfNotAsked) && k.b == 0);
+        let source = if on!(TargetAsked) && k.b != 0 { k.b } else { k.a };
+        let counted = if on!(DomainsBefore) { i } else { policy.records.len() };
+        asked && !policy.records[..counted].iter().any(|d| d.kind == 1 && d.a == source)
+    }) {",
+    },
+    Place {
+        file: "policy.rs",
+        reads: "k.kind == 2 && k.a as u32 == e.c && k.masks(e.p))",
+        switched: "k.kind == 2 && k.a as u32 == e.c && k.masks(e.p)) || on!(ClassPermissionsIgnored)",
+    },
+    Place {
+        file: "policy.rs",
+        reads: "(r == 1 && !self.domain(t))",
+        switched: "(r == 1 && (on!(RoleOneHoldsAll) || !self.domain(t)))",
+    },
+    Place {
+        file: "policy.rs",
+        reads: "any(|k| k.has(6, u, r)) || r == 1",
+        switched: "any(|k| k.has(6, u, r)) || (r == 1 && !on!(RoleOneNeedsRecord))",
+    },
+    Place {
+        file: "policy.rs",
+        reads: "k.b != 1 && k.masks",
+        switched: "(if on!(BothIsWriteAlone) { k.b == 2 } else { k.b != 1 }) && k.masks",
+    },
+    Place {
+        file: "layers.rs",
+        reads: "History::default().visit(goal, x)",
+        switched: "let start = History::default().visit(goal, x);
+        History { broken: start.broken && !on!(StartNotOrdered), ..start }",
+    },
+    Place { file: "goal.rs", reads: "(c == 0 || c == e.c)", switched: "((c == 0 && !on!(AnyClassIsNone)) || c == e.c)" },
+    Place { file: "policy.rs", reads: "(0..uses.len()).all(|i|", switched: "(0..uses.len()).all(|i| on!(NodeUsedTwice) ||" },
+    Place {
+        file: "policy.rs",
+        reads: "1 => r.b == 0 && r.right() == 0,",
+        switched: "1 => r.b == 0 && (on!(RightOfNotFree) || r.right() == 0),",
+    },
+    Place {
+        file: "policy.rs",
+        reads: "if r.kind == 8 {\n",
+        switched: "if r.kind == 8 && on!(RootBelowConstraint) && r.root() >= own {
+                return false;
+            }
+            if r.kind == 8 {\n",
+    },
+    Place {
+        file: "policy.rs",
+        reads: "uses.iter().all(|&k| is_node(k)) &&",
+        switched: "!(on!(UnusedNodeRefused) && uses.len() < self.records.iter().filter(|r| r.kind == 9).count())
+            && uses.iter().all(|&k| is_node(k)) &&",
+    },
+    Place {
+        file: "policy.rs",
+        reads: "(r.b == 0 || is(r.b, ty))",
+        switched: "((r.b == 0 && !on!(SelfNoTarget)) || is(r.b, ty))",
+    },
+    Place {
+        file: "goal.rs",
+        reads: "if (n + 1..=6).any(|i| head(i) != 0)",
+        switched: "if (on!(SigmaEIsSpare) && head(SIGMA_E) != 0) || (n + 1..=6).any(|i| head(i) != 0)",
+    },
+    Place { file: "goal.rs", reads: "spare != [0, 0, 0]", switched: "(!on!(SpareBytesFree) && spare != [0, 0, 0])" },
+    Place { file: "goal.rs", reads: "img[1] >> n != 0", switched: "(!on!(FlagsAboveFree) && img[1] >> n != 0)" },
+    Place {
+        file: "policy.rs",
+        reads: "img.len() != header + unit * n",
+        switched: "if on!(LongerPolicyTaken) { img.len() < header + unit * n } else { img.len() != header + unit * n }",
+    },
+    Place {
+        file: "steps.rs",
+        reads: "if !(policy.valid(x) && policy.valid(y)) {",
+        switched: "if on!(NoneToItself) && x == y {
+        return None;
+    }
+    if !(policy.valid(x) && policy.valid(y) || on!(InvalidReachesItself) && x == y) {",
+    },
+    Place { file: "steps.rs", reads: "= flow_edges(policy);", switched: "= crate::edges_as_read(flow_edges(policy));" },
+    Place {
+        file: "steps.rs",
+        reads: "match least_path(&policy, x, y) {",
+        switched: "let (x, y) = if on!(StepsReversed) { (y, x) } else { (x, y) };
+    match least_path(&policy, x, y) {",
+    },
+    Place {
+        file: "steps.rs",
+        reads: "policy.users) as usize;",
+        switched: "policy.users) as usize * if on!(WorkForLegs) { crate::states_at_hand() } else { 1 };",
+    },
+];

@@ -1,0 +1,83 @@
+//! The misreadings, each with a name for the places where it is switched on and with its words.
+
+macro_rules! misreadings {
+    ($($(#[$about:meta])* $list:ident = [$($name:ident: $words:literal,)*];)*) => {
+        #[derive(Clone, Copy, PartialEq, Eq, Debug)]
+        pub enum Misreading {
+            $($($name,)*)*
+        }
+        $($(#[$about])* pub const $list: &[(Misreading, &str)] = &[$((Misreading::$name, $words),)*];)*
+    };
+}
+
+misreadings! {
+    /// Of what breaks a goal. Those of `../second-search/mutants.py` come first here and among those of flow, 26 in all; the rest
+    /// are ours. One more, that a source need be no domain, is of the images since request b.
+    OF_GOALS = [
+        SameContextCounts: "order: same context counts (l <= j)",
+        OrderFromZero: "order: i from 0",
+        OrderBelowLast: "order: i below n-1",
+        EndExcepted: "end tested against sigma e",
+        SigmaEIgnored: "sigma e ignored",
+        GammaEIgnored: "gamma e ignored",
+        GoesOnAfterEnd: "paths go on after sigma n",
+        HighestStageKept: "one stage kept, the highest",
+        LowestStageKept: "one stage kept, the lowest",
+        EveryLegRepeated: "every leg repeated",
+        NoLegRepeated: "no leg repeated",
+        RepeatedLegLeft: "repeated leg stays only outside sigma i+1",
+        FirstLegAlone: "only the first leg followed",
+        EventsOnTie: "events on a tie",
+        StartNotTested: "start not tested by rho and mu",
+        EveryPathBreaks: "(vacuity: every path breaks events)",
+        NoFlowToItself: "no flow from a context to itself",
+        StartNotOrdered: "order not asked of the start",
+        AnyClassIsNone: "any class in a gamma matches none",
+    ];
+    /// Of what flows, which a goal and least steps both go by.
+    OF_FLOW = [
+        ReadReversed: "read-like reversed",
+        RoleRuleLeftOut: "role rule left out",
+        EqualRolesNotAsked: "role rule not asked of equal roles (request f)",
+        SelfIgnored: "self ignored",
+        ConstraintSwapped: "constraint contexts swapped",
+        ConstraintsIgnored: "constraints ignored",
+        AnyConstraintSuffices: "any constraint suffices",
+        ClassPermissionsIgnored: "gamma (class permissions) ignored",
+        RoleOneHoldsAll: "role 1 holds every type",
+        RoleOneNeedsRecord: "role 1 needs a user record",
+        RolesSwapped: "role rule asked with the roles swapped",
+        BothIsWriteAlone: "flow both ways taken as write-like alone",
+    ];
+    /// Of least steps. Some are those of mutants.py; the goal is that of the case, which least steps has nothing to do with.
+    OF_STEPS = [
+        InvalidReachesItself: "a context that fails rho or mu reaches itself",
+        NoneToItself: "a valid context does not reach itself",
+        InvalidBetween: "a path may go through contexts that fail rho or mu",
+        StepsReversed: "from the second context to the first",
+        FlowEitherWay: "a step may go against the flow",
+        ContextsCounted: "contexts are counted in place of steps",
+        WorkForLegs: "work for the legs of a goal is asked for",
+        ExceptionsHeeded: "the exceptions of a goal are heeded",
+        LegsHeeded: "an event that no leg of a goal allows is left out",
+        EndHeeded: "no path goes on after the end of a goal",
+    ];
+    /// Of the questions about images, for damaged images to tell apart. They are ours.
+    OF_IMAGES = [
+        NodeUsedTwice: "a node may be used twice",
+        RightOfNotFree: "right of a not may be anything",
+        RootBelowConstraint: "a root must stand below its constraint",
+        UnusedNodeRefused: "a node that nothing uses is refused",
+        SelfNoTarget: "self is no target",
+        SigmaEIsSpare: "sigma e is a spare head",
+        SpareBytesFree: "spare bytes of a sigma record may be anything",
+        FlagsAboveFree: "flags above the last leg may be set",
+        LongerPolicyTaken: "a policy may be longer than its records",
+        SourceNoDomain: "source need be no domain",
+        SourcesBeforeNodes: "14 is asked before 6",
+        EmptyMaskNotAsked: "14 is not asked of an allow with an empty mask",
+        SelfNotAsked: "14 is not asked of an allow on self",
+        TargetAsked: "14 is asked of the target",
+        DomainsBefore: "a domain that stands after the allow does not count",
+    ];
+}
