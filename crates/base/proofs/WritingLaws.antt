@@ -8,7 +8,7 @@ use native.Mathlib.Omega.{arith}
 use lib.ListN.{length, take, drop, length-append, List·getD-append}
 use lib.Seq.{drop-cons, take-add, getD-append-add}
 use Rattle.base.specs.Bytes.{byteAt}
-use Rattle.base.specs.inner.Writing.{low16, low32, listUpto}
+use Rattle.base.specs.Writing.{low16, low32, listUpto}
 use Rattle.base.proofs.Numbers.{below-or}
 
 -- the bytes of a number that is made of bytes

@@ -13,8 +13,9 @@ use Rattle.base.proofs.Numbers.{split-eq}
 use Rattle.policy_image.specs.declared.records.Record.{Record}
 use Rattle.policy_image.specs.Policy.{Policy}
 use Rattle.policy_links.specs.Chains.{LinksRise, ChainsByKind}
-use Rattle.policy_lists.specs.inner.Lists.{recordsUpto, recordList, ofKindIn, kindList, InTurnFrom, KindsInTurn}
-use Rattle.policy_lists.specs.inner.Joined.{largerCounts, ofKindsUpto, makersNode, boardsNode, renumbered, joinedKind, kindsUpto, joinedList, joined}
+use Rattle.policy_lists.specs.Lists.{recordsUpto, recordList, ofKindIn, kindList}
+use Rattle.policy_lists.specs.inner.Tests.{InTurnFrom, KindsInTurn}
+use Rattle.policy_lists.specs.Joined.{largerCounts, ofKindsUpto, makersNode, boardsNode, renumbered, joinedKind, kindsUpto, joinedList, joined}
 use Rattle.policy_lists.proofs.ListLaws.{upto-length}
 use Rattle.policy_lists.proofs.TurnLaws.{from-rises, from-chains}
 use Rattle.policy_lists.proofs.RenumberLaws.{renumbered-kind}

@@ -13,8 +13,8 @@ use lib.Seq.{getD-append-add}
 use Rattle.policy_image.specs.declared.records.Record.{Record}
 use Rattle.policy_image.specs.Policy.{Policy}
 use Rattle.policy_expressions.specs.Nodes.{IsNode}
-use Rattle.policy_lists.specs.inner.Lists.{recordsUpto, ofKindIn, kindList, noRecord, recordIn}
-use Rattle.policy_lists.specs.inner.Joined.{nodesUpto, makersNode, boardsNode, renumbered, joinedKind, kindsUpto, joinedList}
+use Rattle.policy_lists.specs.Lists.{recordsUpto, ofKindIn, kindList, noRecord, recordIn}
+use Rattle.policy_lists.specs.Joined.{nodesUpto, makersNode, boardsNode, renumbered, joinedKind, kindsUpto, joinedList}
 use Rattle.policy_lists.proofs.JoinTurnLaws.{joined-count}
 
 pub kind-append : (k : ℕ) (l m : List Record) → ofKindIn k (l ++ m) ≡ ofKindIn k l ++ ofKindIn k m

@@ -11,7 +11,7 @@ use Rattle.policy_image.specs.Layout.{rootOf, leftOf, rightOf}
 use Rattle.policy_expressions.specs.declared.Use.{Use}
 use Rattle.policy_expressions.specs.declared.Use.the-variants.{Nothing, Node}
 use Rattle.policy_expressions.specs.Nodes.{pick, hasRoot, hasLeft, hasRight, useOf}
-use Rattle.policy_lists.specs.inner.Joined.{withRoot, withChildren, rootMoved, leftMoved, rightMoved, renumbered}
+use Rattle.policy_lists.specs.Joined.{withRoot, withChildren, rootMoved, leftMoved, rightMoved, renumbered}
 
 abbrev pub movedUse : (ℕ → ℕ) → Use → Use
 movedUse to Nothing = Nothing

@@ -12,8 +12,8 @@ use lib.Seq.{getD-append-add}
 use Rattle.base.proofs.Numbers.{split-eq, split-le}
 use Rattle.policy_image.specs.declared.records.Record.{Record}
 use Rattle.policy_image.specs.Policy.{Policy}
-use Rattle.policy_lists.specs.inner.Lists.{recordsUpto, ofKindIn, kindList, noRecord, recordIn}
-use Rattle.policy_lists.specs.inner.Joined.{makersNode, boardsNode, renumbered, joinedKind, kindsUpto, joinedList}
+use Rattle.policy_lists.specs.Lists.{recordsUpto, ofKindIn, kindList, noRecord, recordIn}
+use Rattle.policy_lists.specs.Joined.{makersNode, boardsNode, renumbered, joinedKind, kindsUpto, joinedList}
 use Rattle.policy_lists.proofs.NodeLaws.{kind-append, place-length, place-at}
 
 -- ---- place j of two lists, one behind the other

@@ -1,0 +1,1 @@
+// One policy from maker and board.
