@@ -25,7 +25,7 @@ header-length : (c : Counts) (h : ℕ → ℕ) → length (headerBytes c h) ≡ 
 unfolding headerBytes countBytes
 header-length c h = refl
 
-record-length : (r : Record) → length (recordBytes r) ≡ 12
+pub record-length : (r : Record) → length (recordBytes r) ≡ 12
 unfolding recordBytes
 record-length r = refl
 

@@ -1,0 +1,6 @@
+pub mod CountingLaws
+pub mod RunLaws
+pub mod TableLaws
+pub mod PlacedLaws
+pub mod WriteLaws
+pub mod AskedLaws
