@@ -1,5 +1,6 @@
 pub mod CountingLaws
 pub mod RunLaws
+pub mod ChainRunLaws
 pub mod TableLaws
 pub mod PlacedLaws
 pub mod WriteLaws

@@ -70,13 +70,13 @@ abbrev pub RecordsTo : Policy → ℕ → List ℕ → List ℕ → Type 0
 RecordsTo j n old new = Filled (λ i v. v ≡ byteAt (imageOf j) (24 + i)) old new 24 0 (12 * n)
 
 -- .. and those of a run behind them
-pub records-more : (j o : Policy) (run : Run) → RunIn j o run → (records : ℕ) → records ≡ o .size → {old mid new : List ℕ} → RecordsTo j (run .before) old mid
-    → Filled (λ i v. v ≡ byteAt (runBytes o run records) i) mid new (recordStart (suc (run .before))) 0 (12 * length (kindList o (run .kind)))
+pub records-more : (j o : Policy) (run : Run) → RunIn j o run → {old mid new : List ℕ} → RecordsTo j (run .before) old mid
+    → Filled (λ i v. v ≡ byteAt (runBytes o run (o .size)) i) mid new (recordStart (suc (run .before))) 0 (12 * length (kindList o (run .kind)))
     → RecordsTo j (run .before + length (kindList o (run .kind))) old new
-records-more j o run R records e F G =
+records-more j o run R F G =
     fill-end
     (fill-then _ F G (let q : recordStart (suc (run .before)) ≡ 24 + 12 * run .before = omega arith in q) (omega arith)
-    (λ i v b q. q ∙ ap (λ (n : ℕ). byteAt (runBytes o run n) i) e ∙ run-image j o run R (o .size) i (omega arith) b))
+    (λ i v b q. q ∙ run-image j o run R (o .size) i (omega arith) b))
     (omega arith)
 
 -- ---- the two runs of each kind in the joined policy

@@ -4,6 +4,7 @@ use mathlib.Core.Path.{_≡_, refl, sym, ap, subst, _∙_}
 use mathlib.Core.Bool.{Bool, true, false, cond}
 use mathlib.Core.List.{List, [], _++_}
 use mathlib.Core.Logic.{⊎-elim}
+use native.Mathlib.Nat.{eq-or-lt-of-le}
 use native.Mathlib.Omega.{arith}
 use borrow.Author.Tests.{eq-eqb, ne-eqb}
 use lib.ListN.{length, getD, length-append, List·getD-append}
@@ -65,60 +66,53 @@ module _ (o : Policy) (run : Run) where
     kept rest j h = sym (List·getD-append (runBytes o run n) rest 0 j (omega (arith, run-length n, h)))
 
     -- is of the kind, and is written
-    one-here : o .rec (suc n) .kind ≡ run .kind → {new : List ℕ} → (at : ℕ) → at ≡ runPlace o run n
-        → Filled (λ j v. v ≡ byteAt (recordBytes (runRecord o run n)) j) mid new (recordStart at) 0 12 → WrittenTo (suc n) old new
-    one-here e {new} at p G =
+    pub written-here : o .rec (suc n) .kind ≡ run .kind → (at : ℕ) → at ≡ runPlace o run n → (r : Record) → r ≡ runRecord o run n → {new : List ℕ}
+        → Filled (λ j v. v ≡ byteAt (recordBytes r) j) mid new (recordStart at) 0 12 → WrittenTo (suc n) old new
+    written-here e at p r m {new} G =
         subst (λ (l : List ℕ). Filled (λ j v. v ≡ byteAt l j) old new (recordStart (suc (run .before))) 0 (12 * many (suc n))) (sym (run-here n e))
         (fill-end
         (fill-then _ (fill-map (λ j v b q. q ∙ kept (recordBytes (runRecord o run n)) j b) F) G
         (let x : recordStart at ≡ recordStart (suc (run .before)) + 12 * many n = omega arith in x) (omega arith)
-        (λ j v b q. q ∙ sym (getD-append-add (runBytes o run n) (recordBytes (runRecord o run n)) j 0)
+        (λ j v b q. q ∙ ap (λ (x : Record). byteAt (recordBytes x) j) m ∙ sym (getD-append-add (runBytes o run n) (recordBytes (runRecord o run n)) j 0)
         ∙ ap (λ (i : ℕ). byteAt (runBytes o run n ++ recordBytes (runRecord o run n)) (i + j)) (run-length n)))
         (let l = place-length (o .rec) (run .kind) n e in omega arith))
 
     -- is of another kind, and is passed over
-    one-passed : (o .rec (suc n) .kind ≡ run .kind → ⊥) → WrittenTo (suc n) old mid
-    one-passed d =
+    written-passed : (o .rec (suc n) .kind ≡ run .kind → ⊥) → WrittenTo (suc n) old mid
+    written-passed d =
         subst (λ (l : List ℕ). Filled (λ j v. v ≡ byteAt l j) old mid (recordStart (suc (run .before))) 0 (12 * many (suc n))) (sym (run-passed n d))
         (fill-end (fill-map (λ j v b q. q ∙ kept [] j b) F) (let l = other-length (o .rec) (run .kind) n d in omega arith))
 
-    next : suc n ≡ n + 1
-    next = omega arith
+  pub written-as : {a b : ℕ} {old new : List ℕ} → a ≡ b → WrittenTo a old new → WrittenTo b old new
+  written-as {a} {b} {old} {new} e F = subst (λ (x : ℕ). WrittenTo x old new) e F
 
-    pub written-here : o .rec (n + 1) .kind ≡ run .kind → (at : ℕ) → at ≡ runPlace o run n → (r : Record) → r ≡ runRecord o run n → {new : List ℕ}
-        → Filled (λ j v. v ≡ byteAt (recordBytes r) j) mid new (recordStart at) 0 12 → WrittenTo (n + 1) old new
-    written-here e at p r m {new} G =
-        subst (λ (i : ℕ). WrittenTo i old new) next
-        (one-here (ap (λ (i : ℕ). o .rec i .kind) next ∙ e) at p
-        (subst (λ (x : Record). Filled (λ j v. v ≡ byteAt (recordBytes x) j) mid new (recordStart at) 0 12) m G))
+  -- ---- records of other kinds, up to record m
+  abbrev pub NoneTo : ℕ → ℕ → Type 0
+  NoneTo n m = (j : ℕ) → n < j → j ≤ m → o .rec j .kind ≡ run .kind → ⊥
 
-    pub written-passed : (o .rec (n + 1) .kind ≡ run .kind → ⊥) → WrittenTo (n + 1) old mid
-    written-passed d = subst (λ (i : ℕ). WrittenTo i old mid) next (one-passed (λ e. d (ap (λ (i : ℕ). o .rec i .kind) (sym next) ∙ e)))
+  pub written-past : (n m : ℕ) → n ≤ m → NoneTo n m → {old new : List ℕ} → WrittenTo n old new → WrittenTo m old new
+  written-past n zero h none F = written-as (let e : n ≡ 0 = omega arith in e) F
+  written-past n (suc m) h none F =
+      ⊎-elim (λ (e : n ≡ suc m). written-as e F)
+      (λ (l : n < suc m). written-passed m (written-past n m (omega (arith, l)) (λ j a b. none j a (omega arith)) F) (none (suc m) l (omega arith)))
+      (eq-or-lt-of-le h)
 
-  -- all records have been looked at
-  pub written-end : (n : ℕ) {records size : ℕ} → n ≡ records → n ≡ size → {old new : List ℕ} → WrittenTo n old new
-      → Filled (λ j v. v ≡ byteAt (runBytes o run records) j) old new (recordStart (suc (run .before))) 0 (12 * many size)
-  written-end n {records} {size} a b {old} {new} F =
-      subst (λ (i : ℕ). Filled (λ j v. v ≡ byteAt (runBytes o run i) j) old new (recordStart (suc (run .before))) 0 (12 * many size)) a
-      (subst (λ (i : ℕ). Filled (λ j v. v ≡ byteAt (runBytes o run n) j) old new (recordStart (suc (run .before))) 0 (12 * many i)) b F)
+  pub many-past : (n m : ℕ) → n ≤ m → NoneTo n m → many m ≡ many n
+  many-past n zero h none = ap many (let e : 0 ≡ n = omega arith in e)
+  many-past n (suc m) h none =
+      ⊎-elim (λ (e : n ≡ suc m). ap many (sym e))
+      (λ (l : n < suc m). other-length (o .rec) (run .kind) m (none (suc m) l (omega arith)) ∙ many-past n m (omega (arith, l)) (λ j a b. none j a (omega arith)))
+      (eq-or-lt-of-le h)
 
--- ---- how many of the run's records there are up to record n + 1
-pub many-here : (o : Policy) (k n : ℕ) → o .rec (n + 1) .kind ≡ k → manyUpto o k (n + 1) ≡ manyUpto o k n + 1
-many-here o k n e =
-    let next : suc n ≡ n + 1 = omega arith in
-    let l = place-length (o .rec) k n (ap (λ (i : ℕ). o .rec i .kind) next ∙ e) in
-    subst (λ (i : ℕ). manyUpto o k i ≡ manyUpto o k n + 1) next (omega arith)
+-- record n + 1 is of the kind: it is one more, and has a place
+pub many-here : (o : Policy) (k n : ℕ) → o .rec (suc n) .kind ≡ k → manyUpto o k (suc n) ≡ manyUpto o k n + 1
+many-here o k n e = let l = place-length (o .rec) k n e in omega arith
 
-pub many-passed : (o : Policy) (k n : ℕ) → (o .rec (n + 1) .kind ≡ k → ⊥) → manyUpto o k (n + 1) ≡ manyUpto o k n
-many-passed o k n d =
-    let next : suc n ≡ n + 1 = omega arith in
-    subst (λ (i : ℕ). manyUpto o k i ≡ manyUpto o k n) next (other-length (o .rec) k n (λ e. d (ap (λ (i : ℕ). o .rec i .kind) (sym next) ∙ e)))
-
-pub many-most : (o : Policy) (k n : ℕ) → n ≤ o .size → manyUpto o k n ≤ length (kindList o k)
-many-most o k n h = upto-more-length (o .rec) k n (o .size) h
+pub place-most : (o : Policy) (k n : ℕ) → o .rec (suc n) .kind ≡ k → suc n ≤ o .size → manyUpto o k n + 1 ≤ length (kindList o k)
+place-most o k n e h = let a = many-here o k n e in let b = upto-more-length (o .rec) k (suc n) (o .size) h in omega arith
 
 -- ---- the nodes that a record uses
-module _ {s : List ℕ} {records : ℕ} {t : List ℕ} {run : Run} {room : ℕ} (R : RunFits s records t run room) (i : ℕ) (w : Within 1 (recordCount s) i) where
+module _ {s t : List ℕ} {run : Run} {room : ℕ} (R : RunFits s t run room) (i : ℕ) (w : Within 1 (recordCount s) i) where
   abbrev rec : Record
   rec = policyOf s .rec i
 

@@ -111,6 +111,9 @@ module _ {s t : List ℕ} {c d : Counts} {room : ℕ} (G : Joinable s t c d room
 
   -- ---- the runs of kind k + 1
   module _ (run : Run) (k : ℕ) (u : suc k ≤ 9) (kind : run .kind ≡ suc k) (last : run .last ≡ ends (suc k)) where
+    in-range : Within 1 9 (run .kind)
+    in-range = record { low = omega arith; high = omega arith }
+
     next-end : ends (suc k) ≡ ends k + length (kindList p (suc k)) + length (kindList q (suc k))
     next-end = let x = joined-count p q (suc k) in let y = joined-count p q k in omega arith
 
@@ -118,16 +121,18 @@ module _ {s t : List ℕ} {c d : Counts} {room : ℕ} (G : Joinable s t c d room
       makers-in : RunIn j p run
       makers-in = maker-run p q run k u kind last before (shift ∙ joined-count p q 8)
 
-      makers-fit : (n output : ℕ) (nodes : List ℕ) → room ≤ output → n ≡ p .size → NodeTable p nodes → RunFits s n nodes run output
-      makers-fit n output nodes long size T =
+      makers-fit : (output : ℕ) (nodes : List ℕ) → room ≤ output → NodeTable p nodes → RunFits s nodes run output
+      makers-fit output nodes long T =
           let m = ends-most (suc k) u in
           let x = next-end in
           let y = ap (λ (i : ℕ). length (kindList p i)) kind in
           let r = endings-rise (joinedKind p q) (suc k) 9 u in
           record {
             exact = G .maker .exact;
+            links = G .maker .links;
+            chains = G .maker .chains;
             nodes = G .maker .nodes;
-            size = size;
+            kind = in-range;
             table = T;
             most = omega arith;
             room = omega (arith, G .room, whole-size, long);
@@ -140,16 +145,18 @@ module _ {s t : List ℕ} {c d : Counts} {room : ℕ} (G : Joinable s t c d room
       boards-in : RunIn j q run
       boards-in = board-run p q run k u kind last before (shift ∙ ap (λ (x : ℕ). x + length (kindList p 9)) (joined-count p q 8))
 
-      boards-fit : (n output : ℕ) (nodes : List ℕ) → room ≤ output → n ≡ q .size → NodeTable q nodes → RunFits t n nodes run output
-      boards-fit n output nodes long size T =
+      boards-fit : (output : ℕ) (nodes : List ℕ) → room ≤ output → NodeTable q nodes → RunFits t nodes run output
+      boards-fit output nodes long T =
           let m = ends-most (suc k) u in
           let x = next-end in
           let y = ap (λ (i : ℕ). length (kindList q i)) kind in
           let r = endings-rise (joinedKind p q) (suc k) 9 u in
           record {
             exact = G .board .exact;
+            links = G .board .links;
+            chains = G .board .chains;
             nodes = G .board .nodes;
-            size = size;
+            kind = in-range;
             table = T;
             most = omega arith;
             room = omega (arith, G .room, whole-size, long);
@@ -167,31 +174,31 @@ module _ {s t : List ℕ} {c d : Counts} {room : ℕ} (G : Joinable s t c d room
     up = omega arith
 
     module _ (before : run .before ≡ ends (k - 1)) (shift : run .shift ≡ ends 8) where
-      pub makers-run-fits : (n output : ℕ) (nodes : List ℕ) → room ≤ output → n ≡ p .size → NodeTable p nodes → RunFits s n nodes run output
+      pub makers-run-fits : (output : ℕ) (nodes : List ℕ) → room ≤ output → NodeTable p nodes → RunFits s nodes run output
       makers-run-fits = makers-fit run (k - 1) up (kind ∙ this) (last ∙ ap ends this) before shift
 
-      pub makers-run-put : (n : ℕ) → n ≡ p .size → {old mid new : List ℕ} → RecordsTo j (ends (k - 1)) old mid
-          → Filled (λ i v. v ≡ byteAt (runBytes p run n) i) mid new (recordStart (suc (run .before))) 0 (12 * length (kindList p (run .kind)))
+      pub makers-run-put : {old mid new : List ℕ} → RecordsTo j (ends (k - 1)) old mid
+          → Filled (λ i v. v ≡ byteAt (runBytes p run (p .size)) i) mid new (recordStart (suc (run .before))) 0 (12 * length (kindList p (run .kind)))
           → RecordsTo j (ends (k - 1) + length (kindList p k)) old new
-      makers-run-put n e {old} {mid} {new} F G =
+      makers-run-put {old} {mid} {new} F G =
           subst (λ (x : ℕ). RecordsTo j x old new) (ap₂ (λ (x y : ℕ). x + length (kindList p y)) before kind)
-          (records-more j p run (makers-in run (k - 1) up (kind ∙ this) (last ∙ ap ends this) before shift) n e
+          (records-more j p run (makers-in run (k - 1) up (kind ∙ this) (last ∙ ap ends this) before shift)
           (subst (λ (x : ℕ). RecordsTo j x old mid) (sym before) F) G)
 
     module _ (before : run .before ≡ ends (k - 1) + length (kindList p k)) (shift : run .shift ≡ ends 8 + length (kindList p 9)) where
       behind : run .before ≡ ends (k - 1) + length (kindList p (suc (k - 1)))
       behind = before ∙ ap (λ (x : ℕ). ends (k - 1) + length (kindList p x)) this
 
-      pub boards-run-fits : (n output : ℕ) (nodes : List ℕ) → room ≤ output → n ≡ q .size → NodeTable q nodes → RunFits t n nodes run output
+      pub boards-run-fits : (output : ℕ) (nodes : List ℕ) → room ≤ output → NodeTable q nodes → RunFits t nodes run output
       boards-run-fits = boards-fit run (k - 1) up (kind ∙ this) (last ∙ ap ends this) behind shift
 
-      pub boards-run-put : (n : ℕ) → n ≡ q .size → {old mid new : List ℕ} → RecordsTo j (ends (k - 1) + length (kindList p k)) old mid
-          → Filled (λ i v. v ≡ byteAt (runBytes q run n) i) mid new (recordStart (suc (run .before))) 0 (12 * length (kindList q (run .kind)))
+      pub boards-run-put : {old mid new : List ℕ} → RecordsTo j (ends (k - 1) + length (kindList p k)) old mid
+          → Filled (λ i v. v ≡ byteAt (runBytes q run (q .size)) i) mid new (recordStart (suc (run .before))) 0 (12 * length (kindList q (run .kind)))
           → RecordsTo j (ends (k + 1 - 1)) old new
-      boards-run-put n e {old} {mid} {new} F G =
+      boards-run-put {old} {mid} {new} F G =
           subst (λ (x : ℕ). RecordsTo j x old new) (ap₂ (λ (x y : ℕ). x + length (kindList q y)) behind (kind ∙ this) ∙ sym (next-end run (k - 1) up (kind ∙ this) (last ∙ ap ends this))
           ∙ ap ends (let x : suc (k - 1) ≡ k + 1 - 1 = omega arith in x))
-          (records-more j q run (boards-in run (k - 1) up (kind ∙ this) (last ∙ ap ends this) behind shift) n e
+          (records-more j q run (boards-in run (k - 1) up (kind ∙ this) (last ∙ ap ends this) behind shift)
           (subst (λ (x : ℕ). RecordsTo j x old mid) (sym before) F) G)
 
   -- ---- the whole image

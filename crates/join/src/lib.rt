@@ -99,14 +99,14 @@ fn write(output: &mut [u8], maker: &[u8], makers: Counts, board: &[u8], boards: 
             last: ends[k],
             shift: makers_shift,
         };
-        let between = put_run(output, maker, makers.records, &maker_nodes, makers_run);
+        let between = put_run(output, maker, &maker_nodes, makers_run);
         let boards_run = Run {
             kind: k as u32,
             before: between,
             last: ends[k],
             shift: boards_shift,
         };
-        put_run(output, board, boards.records, &board_nodes, boards_run);
+        put_run(output, board, &board_nodes, boards_run);
         k += 1;
     }
 }

@@ -5,6 +5,7 @@ use policy_image::kinds::NODE;
 use policy_image::kinds::NOT;
 use policy_image::kinds::OR;
 use policy_image::records::Record;
+use policy_image::records::head_at;
 use policy_image::records::record_at;
 use policy_writing::put_record;
 ghost use Prim.Native.Nat.{ℕ, suc, _+_, _*_, _≤_, _<_};
@@ -51,11 +52,11 @@ pub fn count_kinds(policy: &[u8], records: usize) -> [usize; KINDS]
 }
 
 // For each record number, how many nodes there are up to it.
-pub fn count_nodes(policy: &[u8], records: usize) -> [usize; NUMBERS]
+pub fn count_nodes(policy: &[u8], records: usize) -> [u16; NUMBERS]
     requires { ⌜ PolicyExact (now policy) × (records ≡ recordCount (now policy)) ⌝ }
     ensures { λ r. ⌜ NodeTable (policyOf (now (policy .entry))) r ⌝ }
 {
-    let mut table = [0usize; NUMBERS];
+    let mut table = [0u16; NUMBERS];
     let mut nodes: usize = 0;
     let mut done: usize = 0;
     while done < records {
@@ -63,7 +64,7 @@ pub fn count_nodes(policy: &[u8], records: usize) -> [usize; NUMBERS]
         if record_at(policy, done).kind == NODE {
             nodes += 1;
         }
-        table[done] = nodes;
+        table[done] = nodes as u16;
     }
     table
 }
@@ -119,15 +120,15 @@ fn with_children(r: Record, left: usize, right: usize) -> Record
 }
 
 // The number of node n in the result: its entry of the table, and the shift.
-fn moved(n: usize, nodes: &[usize; NUMBERS], shift: usize) -> usize
+fn moved(n: usize, nodes: &[u16; NUMBERS], shift: usize) -> usize
     requires { ⌜ MovableNode (now nodes) shift n ⌝ }
     ensures { λ r. ⌜ (r ≡ shift + getD (now (nodes .entry)) n 0) × (r < 65536) ⌝ }
 {
-    shift + nodes[n]
+    shift + (nodes[n] as usize)
 }
 
 // The record with the nodes that it uses renumbered.
-fn renumber(r: Record, nodes: &[usize; NUMBERS], shift: usize) -> Record
+fn renumber(r: Record, nodes: &[u16; NUMBERS], shift: usize) -> Record
     requires { ⌜ Movable r (now nodes) shift ⌝ }
     ensures { λ x. ⌜ x ≡ renumbered (λ n. shift + getD (now (nodes .entry)) n 0) r ⌝ }
 {
@@ -162,27 +163,20 @@ pub fn next_upto(last: usize, i: usize) -> usize
     if i + 1 <= last { i + 1 } else { 0 }
 }
 
-// Writes a run, and gives the number of its last record, or that of the record before it where it has none.
-pub fn put_run(
-    output: &mut [u8],
-    policy: &[u8],
-    records: usize,
-    nodes: &[usize; NUMBERS],
-    run: Run,
-) -> usize
-    requires { ⌜ RunFits (now policy) records (now nodes) run (length (now output)) ⌝ }
-    ensures { λ r. ⌜ (r ≡ run .before + length (kindList (policyOf (now (policy .entry))) (run .kind))) × Filled (λ j v. v ≡ byteAt (runBytes (policyOf (now (policy .entry))) run records) j) (now (output .entry)) (now (output .exit)) (recordStart (suc (run .before))) 0 (12 * length (kindList (policyOf (now (policy .entry))) (run .kind))) ⌝ }
+// Writes a run, along the chain of its kind, and gives the number of its last record, or that of the record before it where it has none.
+pub fn put_run(output: &mut [u8], policy: &[u8], nodes: &[u16; NUMBERS], run: Run) -> usize
+    requires { ⌜ RunFits (now policy) (now nodes) run (length (now output)) ⌝ }
+    ensures { λ r. ⌜ (r ≡ run .before + length (kindList (policyOf (now (policy .entry))) (run .kind))) × Filled (λ j v. v ≡ byteAt (runBytes (policyOf (now (policy .entry))) run (recordCount (now (policy .entry)))) j) (now (output .entry)) (now (output .exit)) (recordStart (suc (run .before))) 0 (12 * length (kindList (policyOf (now (policy .entry))) (run .kind))) ⌝ }
 {
+    let kind = run.kind as usize;
     let mut at = run.before;
-    let mut done: usize = 0;
-    while done < records {
-        done += 1;
-        let r = record_at(policy, done);
-        if r.kind == run.kind {
-            at += 1;
-            let moved = renumber(r, nodes, run.shift);
-            put_record(output, at, with_next(moved, next_upto(run.last, at)));
-        }
+    let mut i = head_at(policy, kind);
+    while i != 0 {
+        let r = record_at(policy, i);
+        at += 1;
+        let moved = renumber(r, nodes, run.shift);
+        put_record(output, at, with_next(moved, next_upto(run.last, at)));
+        i = r.next;
     }
     at
 }

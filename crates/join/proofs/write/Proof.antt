@@ -22,11 +22,11 @@ abbrev ends-in : List ℕ → List ℕ → ℕ → ℕ
 ends-in maker board k = ending (joinedKind (policyOf maker) (policyOf board)) k
 
 abbrev Inv-loop : tie.InvT-loop
-Inv-loop output₀ maker makers board boards maker-nodes board-nodes ends makers-shift boards-shift k₀ output k =
+Inv-loop output₀ maker board maker-nodes board-nodes ends makers-shift boards-shift k₀ output k =
     (1 ≤ k) × (k ≤ 10) × (length output ≡ length output₀) × RecordsTo (joined (policyOf maker) (policyOf board)) (ends-in maker board (k - 1)) output₀ output
 
 abbrev μ-loop : tie.MeasureT-loop
-μ-loop output₀ maker makers board boards maker-nodes board-nodes ends makers-shift boards-shift k₀ output k = 10 - k
+μ-loop output₀ maker board maker-nodes board-nodes ends makers-shift boards-shift k₀ output k = 10 - k
 
 -- what is known where both tables of kinds and of nodes are there
 module _ (N : tie.After-count-nodes2 Inv-loop μ-loop) where
@@ -141,8 +141,8 @@ put-run-requires c κs =
     let L = c .before .before .before in
     let k = L .loop .k in
     let N = known L in
-    makers-run-fits (ready N) k (omega arith) (omega arith) _ refl (ends (made L) k (omega arith)) (ends (made L) (k - 1) (omega arith)) (makers-shift L) _ _ _ (same-room L)
-    (ready N .makers-size) (N .before .count-nodes .ensures)
+    makers-run-fits (ready N) k (omega arith) (omega arith) _ refl (ends (made L) k (omega arith)) (ends (made L) (k - 1) (omega arith)) (makers-shift L) _ _ (same-room L)
+    (N .before .count-nodes .ensures)
 
 -- what is known where the maker's run is written
 module _ (P : tie.After-put-run Inv-loop μ-loop) where
@@ -160,8 +160,8 @@ put-run-requires-2 c κs =
     let L = here P in
     let k = L .loop .k in
     let N = known L in
-    boards-run-fits (ready N) k (omega arith) (omega arith) _ refl (ends (made L) k (omega arith)) (between P) (boards-shift L) _ _ _
-    (omega (arith, same-room L, P .put-run .kept .0)) (ready N .boards-size) (N .count-nodes2 .ensures)
+    boards-run-fits (ready N) k (omega arith) (omega arith) _ refl (ends (made L) k (omega arith)) (between P) (boards-shift L) _ _
+    (omega (arith, same-room L, P .put-run .kept .0)) (N .count-nodes2 .ensures)
 
 loop-again : tie.Need-loop-again Inv-loop μ-loop
 loop-again c =
@@ -173,8 +173,8 @@ loop-again c =
       omega arith,
       omega arith,
       B .put-run2 .kept .0 ∙ P .put-run .kept .0 ∙ L .loop .inv .2,
-      boards-run-put G k (omega arith) (omega arith) _ refl (ends (made L) k (omega arith)) (between P) (boards-shift L) _ (G .boards-size)
-          (makers-run-put G k (omega arith) (omega arith) _ refl (ends (made L) k (omega arith)) (ends (made L) (k - 1) (omega arith)) (makers-shift L) _ (G .makers-size) (L .loop .inv .3)
+      boards-run-put G k (omega arith) (omega arith) _ refl (ends (made L) k (omega arith)) (between P) (boards-shift L)
+          (makers-run-put G k (omega arith) (omega arith) _ refl (ends (made L) k (omega arith)) (ends (made L) (k - 1) (omega arith)) (makers-shift L) (L .loop .inv .3)
           (P .put-run .ensures .1))
           (B .put-run2 .ensures .1),
     )

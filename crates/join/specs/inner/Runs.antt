@@ -5,12 +5,14 @@ use mathlib.Core.Bool.{true, cond}
 use mathlib.Core.List.{List, [], _++_}
 use lib.Dec.{eqb}
 use lib.ListN.{length, getD}
+use Rattle.base.specs.Ranges.{Within}
 use Rattle.policy_image.specs.declared.records.Record.{Record}
 use Rattle.policy_image.specs.Layout.{PolicyExact, rootOf, leftOf, rightOf}
 use Rattle.policy_image.specs.Policy.{Policy, policyOf}
 use Rattle.policy_image.specs.Encoding.{recordBytes}
 use Rattle.policy_image.specs.inner.Reading.{Bytes}
 use Rattle.policy_image.specs.inner.Writable.{WritableRecord}
+use Rattle.policy_links.specs.Chains.{LinksRise, ChainsByKind}
 use Rattle.policy_expressions.specs.Nodes.{hasRoot, hasLeft, hasRight, NodesInOrder}
 use Rattle.policy_lists.specs.Lists.{recordsUpto, ofKindIn, kindList, withNext}
 use Rattle.policy_lists.specs.Joined.{nodesUpto, renumbered}
@@ -45,10 +47,12 @@ runBytes o run zero = []
 runBytes o run (suc n) = runBytes o run n ++ cond (eqb (o .rec (suc n) .kind) (run .kind)) (recordBytes (runRecord o run n)) []
 
 -- the run of the image s can be written into so many bytes, by its table of nodes t
-pub record RunFits (s : List ℕ) (records : ℕ) (t : List ℕ) (run : Run) (output : ℕ) : Type 0 where
+pub record RunFits (s t : List ℕ) (run : Run) (output : ℕ) : Type 0 where
   pub exact : PolicyExact s
+  pub links : LinksRise (policyOf s)
+  pub chains : ChainsByKind (policyOf s)
   pub nodes : NodesInOrder (policyOf s)
-  pub size : records ≡ policyOf s .size
+  pub kind : Within 1 9 (run .kind)
   pub table : NodeTable (policyOf s) t
   pub most : run .before + length (kindList (policyOf s) (run .kind)) ≤ 4095
   pub room : 24 + 12 * (run .before + length (kindList (policyOf s) (run .kind))) ≤ output

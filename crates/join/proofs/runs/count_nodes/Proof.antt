@@ -1,5 +1,6 @@
 use Prim.Native.Nat.{ℕ, _+_, _-_, _≤_, _<_}
 use mathlib.Core.Path.{_≡_, refl, sym, ap, subst, _∙_}
+use mathlib.Core.List.{List}
 use mathlib.Core.Logic.{⊎-elim}
 use native.Mathlib.Omega.{arith}
 use lib.ListN.{set}
@@ -46,17 +47,26 @@ add-nodes c =
     let f = numbered-fits (p K) (K .before .before .loop .inv .2) in
     omega (arith, f, room K)
 
+-- the count after record done + 1, which is a node or is not
+module _ (c : tie.Joined1 Inv-loop μ-loop) where
+  abbrev read : tie.After-record-at Inv-loop μ-loop
+  read = c .before .before
+
+  abbrev table : List ℕ
+  table = read .before .before .loop .table
+
+  entered : NumberedTo (p read) (done read + 1) (c .if1 .nodes) (set table (done read + 1) (c .if1 .nodes))
+  entered =
+      let N = read .before .before .loop .inv .2 in
+      let then : ℕ → Type 0 = λ n. NumberedTo (p read) (done read + 1) n (set table (done read + 1) n) in
+      ⊎-elim (λ w. subst then (sym (w .1)) (numbered-node (p read) N (room read) (omega (arith, same read .kind, w .0 .taken))))
+      (λ w. subst then (sym (w .1)) (numbered-other (p read) N (room read) (λ e. omega (arith, same read .kind, w .0 .left)))) (c .if1 .came)
+
+cast-table : tie.Need-cast-table Inv-loop μ-loop
+cast-table c = let f = numbered-fits (p (read (c .before))) (entered (c .before)) in omega (arith, f, room (read (c .before)))
+
 loop-again : tie.Need-loop-again Inv-loop μ-loop
-loop-again c =
-    let K = c .before .before in
-    let l = K .before .before .loop in
-    let N = l .inv .2 in
-    let entered : ℕ → Type 0 = λ n. NumberedTo (p K) (done K + 1) n (set (l .table) (done K + 1) n) in (
-      omega arith,
-      l .inv .1,
-      ⊎-elim (λ w. subst entered (sym (w .1)) (numbered-node (p K) N (room K) (omega (arith, same K .kind, w .0 .taken))))
-          (λ w. subst entered (sym (w .1)) (numbered-other (p K) N (room K) (λ e. omega (arith, same K .kind, w .0 .left)))) (c .if1 .came),
-    )
+loop-again c = let K = read (c .before) in (omega arith, K .before .before .loop .inv .1, entered (c .before))
 
 returns : tie.Need-returns Inv-loop μ-loop
 returns c n h = let l = c .before .loop in l .inv .2 .upto n (omega (arith, l .inv .0, l .inv .1))
@@ -64,5 +74,5 @@ returns c n h = let l = c .before .loop in l .inv .2 .upto n (omega (arith, l .i
 pub count-nodes-spec : {M : Type 1} → statement M
 count-nodes-spec =
     tie.close
-    (tie.spec Inv-loop μ-loop loop-holds (λ c. search needs) record-at-requires add-nodes (λ c. omega (arith, room (c .before .before)))
-    (λ c. room (c .before .before)) (λ c. search needs) loop-again returns)
+    (tie.spec Inv-loop μ-loop loop-holds (λ c. search needs) record-at-requires add-nodes cast-table (λ c. omega (arith, room (read (c .before)))) (λ c. room (read (c .before)))
+    (λ c. search needs) loop-again returns)
