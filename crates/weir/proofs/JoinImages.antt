@@ -161,14 +161,14 @@ unfolding written
 nothing = join-is w10-empty w10-empty (omega arith) refl w10-empty
 
 -- ---- node numbers above 255
-pub wide-root : rootOf (joined (manyPolicy 250) (policyOf nodesBoard) .rec 254) ≡ 257
+pub wide-root : rootOf (joined (manyPolicy 251) (policyOf nodesBoard) .rec 255) ≡ 258
 unfolding written
 wide-root = refl
 
-pub wide-left : leftOf (joined (manyPolicy 250) (policyOf nodesBoard) .rec 257) ≡ 255
+pub wide-left : leftOf (joined (manyPolicy 251) (policyOf nodesBoard) .rec 258) ≡ 256
 unfolding written
 wide-left = refl
 
-pub wide-right : rightOf (joined (manyPolicy 250) (policyOf nodesBoard) .rec 257) ≡ 256
+pub wide-right : rightOf (joined (manyPolicy 251) (policyOf nodesBoard) .rec 258) ≡ 257
 unfolding written
 wide-right = refl

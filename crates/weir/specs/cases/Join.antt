@@ -80,10 +80,10 @@ pub record JoinCases : Type 0 where
   -- kind.": byte by byte. Node numbers as they were, adjusted in roots or in children alone, or in a mask that is none, the board's first, and the
   -- records policy by policy would each be other bytes (JoinStandIns)
   pub nodes : JoinIs nodesMaker nodesBoard nodesJoined
-  -- .. in both bytes of a root, a left and a right: behind 250 records of a maker the board's nodes are 255 to 257, and its constraint is 254
-  pub wide-root : rootOf (joined (manyPolicy 250) (policyOf nodesBoard) .rec 254) ≡ 257
-  pub wide-left : leftOf (joined (manyPolicy 250) (policyOf nodesBoard) .rec 257) ≡ 255
-  pub wide-right : rightOf (joined (manyPolicy 250) (policyOf nodesBoard) .rec 257) ≡ 256
+  -- .. in both bytes of a root, a left and a right: behind 251 records of a maker the board's nodes are 256 to 258, and its constraint is 255
+  pub wide-root : rootOf (joined (manyPolicy 251) (policyOf nodesBoard) .rec 255) ≡ 258
+  pub wide-left : leftOf (joined (manyPolicy 251) (policyOf nodesBoard) .rec 258) ≡ 256
+  pub wide-right : rightOf (joined (manyPolicy 251) (policyOf nodesBoard) .rec 258) ≡ 257
   -- ---- "The result's counts are the larger of each pair.": whichever of the two has it. The smaller, the maker's, the board's or both added would
   -- be other bytes
   pub counts : JoinIs countsMaker countsBoard countsJoined
