@@ -15,6 +15,7 @@ use policy_image::counts::Counts;
 use policy_image::counts::HEADER;
 use policy_image::counts::MOST_RECORDS;
 use policy_image::counts::RECORD;
+use policy_image::kinds::CONSTRAINTS;
 use policy_writing::answer::Writing;
 use policy_writing::put_header;
 ghost use Prim.Native.Nat.{ℕ, _+_, _*_, _-_, _≤_, _<_};
@@ -26,6 +27,9 @@ ghost use Rattle.policy_lists.specs.Joined.{larger, largerCounts};
 ghost use Rattle.policy_lists.specs.inner.Places.{nextUpto};
 ghost use Rattle.join.specs.Join.{joinedImage, JoinPromise};
 ghost use Rattle.join.specs.inner.Parts.{Summed, FewOfEach, FewUpto, HeadTable, Joinable};
+
+// The last kind, as heads are numbered.
+const NODES: usize = 9;
 
 // The larger of two counts.
 fn larger_of(a: u32, b: u32) -> u32
@@ -55,7 +59,7 @@ fn ends_of(maker: &[usize; KINDS], board: &[usize; KINDS]) -> [usize; KINDS]
 {
     let mut ends = [0usize; KINDS];
     let mut k: usize = 1;
-    while k <= 9 {
+    while k <= NODES {
         ends[k] = ends[k - 1] + (maker[k] + board[k]);
         k += 1;
     }
@@ -69,7 +73,7 @@ fn heads_of(ends: &[usize; KINDS]) -> [usize; KINDS]
 {
     let mut heads = [0usize; KINDS];
     let mut k: usize = 1;
-    while k <= 9 {
+    while k <= NODES {
         heads[k] = next_upto(ends[k], ends[k - 1]);
         k += 1;
     }
@@ -88,11 +92,11 @@ fn write(output: &mut [u8], maker: &[u8], makers: Counts, board: &[u8], boards: 
     let ends = ends_of(&of_maker, &of_board);
     let heads = heads_of(&ends);
     put_header(output, larger_counts(makers, boards), &heads);
-    // nodes stand behind all records of other kinds
-    let makers_shift = ends[8];
-    let boards_shift = ends[8] + of_maker[9];
+    // nodes stand behind all records of other kinds, constraints the last of them
+    let makers_shift = ends[CONSTRAINTS];
+    let boards_shift = ends[CONSTRAINTS] + of_maker[NODES];
     let mut k: usize = 1;
-    while k <= 9 {
+    while k <= NODES {
         let makers_run = Run {
             kind: k as u32,
             before: ends[k - 1],
