@@ -60,21 +60,29 @@ fn homely(text: &str, label: &str) -> String {
     text.split(' ').map(word).collect::<Vec<_>>().join(" ")
 }
 
-/// The words with their further lines; where a line begins a sentence of its own, a semicolon stands before it.
+/// The sentence that tells most of two types: what they come to.
+const COMPUTED: &str = "computed as far as they go";
+
+/// The sentences of an error, one behind the other with semicolons. Which of them the prover puts into the line of the place hangs on the
+/// length of that place, so on the folder that the repository stands in: here what the types come to comes first, wherever it stood.
 fn joined(said: &Said) -> String {
-    let mut text = said.first.clone();
+    let (name, first) = theorem(&said.first);
+    let mut sentences = vec![first.to_string()];
     for line in &said.more {
-        let begins = ["computed as far", "as printed", "expected type"].iter().any(|start| line.starts_with(start));
-        text += if begins { "; " } else { " " };
-        text += line;
+        let begins = [COMPUTED, "as printed", "expected type"].iter().any(|start| line.starts_with(start));
+        match sentences.last_mut() {
+            Some(last) if !begins => *last += &format!(" {line}"),
+            _ => sentences.push(line.clone()),
+        }
     }
-    text
+    sentences.sort_by_key(|sentence| !sentence.starts_with(COMPUTED));
+    format!("{name}{}", sentences.join("; "))
 }
 
 /// The part of an error that says most: what two types come to, the numbers at which a goal fails, what a rewriting left; and
 /// what the error goes on to say of the types.
 fn telling(text: &str) -> (&str, &str) {
-    let from = if let Some(at) = text.find("computed as far as they go") {
+    let from = if let Some(at) = text.find(COMPUTED) {
         at
     } else if let Some(at) = text.find("does not follow from what it read") {
         text[..at].rfind("`omega`: the").unwrap_or(0)
