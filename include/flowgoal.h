@@ -25,16 +25,17 @@
  *
  * What is lent. An image is lent as a pointer to its first byte and its length in bytes. It is only read, and only while the
  * call runs; nothing is kept. A work slice or a path slice is lent as a pointer to its first entry, of 32 bits, and the number
- * of its entries. No memory is allocated, no file is touched, and no state is held between calls, so calls may run at the same
- * time in several threads, also on the same images, each with slices of its own.
+ * of its entries, the output of a join as a pointer to its first byte and the number of its bytes. No memory is allocated, no
+ * file is touched, and no state is held between calls, so calls may run at the same time in several threads, also on the same
+ * images, each with slices of its own.
  *
  * What comes back. Every call ends, whatever the bytes and the numbers are, and its result is what the specification gives
  * for them: that is proved, for all bytes and all values.
  *
  * What the caller must not do. A pointer must lead to at least so many bytes or entries as its length says, and they must not
  * be changed by anyone else while the call runs: nothing can be promised where they are. No two of the slices of a call may
- * overlap, nor a slice and an image. A null pointer with length 0 is an empty image or slice; a null pointer with any other
- * length is not allowed.
+ * overlap, nor a slice and an image; two images may. A null pointer with length 0 is an empty image or slice; a null pointer
+ * with any other length is not allowed.
  *
  * Stack. A call needs FLOWGOAL_STACK bytes of stack at the most: what the goal question and least steps make of the images
  * stands there, and constraints are evaluated by recursion, where the deepest constraint of an accepted policy has 4,093 nested
@@ -69,10 +70,12 @@ extern "C" {
 #define FLOWGOAL_PATH_ENTRIES(steps) (2 * (size_t)(steps) + 1)
 
 /* A result is 256 * steps + 4 * number + answer. The number is that of the refusal, and 0 for every other answer. Steps are
- * those of a shortest path that breaks a goal, or leads from one context to another, and 0 where there is none to tell of. */
+ * those of a shortest path that breaks a goal, or leads from one context to another, and 0 where there is none to tell of. A
+ * join has in place of steps the length of the image that it wrote, in bytes, and 0 where it is refused. */
 #define FLOWGOAL_ANSWER(result) ((unsigned)((result) % 4))
 #define FLOWGOAL_NUMBER(result) ((unsigned)((result) / 4 % 64))
 #define FLOWGOAL_STEPS(result) ((uint64_t)((result) / 256))
+#define FLOWGOAL_LENGTH(result) ((size_t)((result) / 256))
 
 /* The answers to the goal question. */
 #define FLOWGOAL_HOLDS 0
@@ -86,6 +89,9 @@ extern "C" {
 /* The answers to least steps. */
 #define FLOWGOAL_NONE 0
 #define FLOWGOAL_SHOWN 1
+
+/* The answer to a join. */
+#define FLOWGOAL_WRITTEN 0
 
 /* An answer to all of them: refused, with its number. */
 #define FLOWGOAL_REFUSED 3
@@ -157,6 +163,24 @@ uint64_t flowgoal_flows(const uint8_t *policy, size_t policy_length, uint32_t t1
 uint64_t flowgoal_least_steps(const uint8_t *policy, size_t policy_length, uint32_t t1, uint32_t r1, uint32_t u1,
                               uint32_t t2, uint32_t r2, uint32_t u2, uint32_t *work1, size_t work1_length, uint32_t *work2,
                               size_t work2_length, uint32_t *path, size_t path_length);
+
+/* Writes the one policy that the maker's and the board's make together.
+ *
+ * FLOWGOAL_WRITTEN  the first FLOWGOAL_LENGTH bytes of the output are the image: maker_length + board_length - 24 of them, so
+ *                   that FLOWGOAL_LARGEST_POLICY bytes are room for all. Later bytes are left as they are.
+ *
+ * Each count is the larger of the two. The records are those of both, kinds 1 to 9 in turn, the maker's first within a kind and
+ * each list in its order; each kind is linked in that order, and constraints and nodes name the same nodes as before by their
+ * new numbers. What is allowed is judged on the whole list: a constraint of the board's may take away what the maker allows,
+ * and a type that either calls a domain is one.
+ *
+ * The call refuses with 1 to 6 and 14 as flowgoal_authorized does, of the maker's policy, then of the board's, or with
+ *   15  the two have more than 4,095 records together
+ *   16  the output is shorter than the image
+ * and these are asked in this order: the first that applies is the number. The output is left as it is where the call refuses.
+ */
+uint64_t flowgoal_join(const uint8_t *maker, size_t maker_length, const uint8_t *board, size_t board_length,
+                       uint8_t *output, size_t output_length);
 
 #ifdef __cplusplus
 }

@@ -3,7 +3,8 @@
 #include "flowgoal.h"
 #include "images.h"
 
-/* The specification: holds 0, order 1, events 2, refused 3; no 0, yes 1. Of least steps: none 0, a path is shown 1. */
+/* The specification: holds 0, order 1, events 2, refused 3; no 0, yes 1. Of least steps: none 0, a path is shown 1. Of a join:
+ * written 0. */
 static void answers(void)
 {
     expect("FLOWGOAL_HOLDS", FLOWGOAL_HOLDS, 0);
@@ -14,6 +15,7 @@ static void answers(void)
     expect("FLOWGOAL_YES", FLOWGOAL_YES, 1);
     expect("FLOWGOAL_NONE", FLOWGOAL_NONE, 0);
     expect("FLOWGOAL_SHOWN", FLOWGOAL_SHOWN, 1);
+    expect("FLOWGOAL_WRITTEN", FLOWGOAL_WRITTEN, 0);
 }
 
 struct fields {
@@ -21,7 +23,7 @@ struct fields {
     unsigned number, answer;
 };
 
-/* The specification: 256m + 4k + answer. */
+/* The specification: 256m + 4k + answer, where a join has the length of its image for m. */
 static void fields(void)
 {
     static const struct fields cases[] = {
@@ -36,6 +38,10 @@ static void fields(void)
         {524595, 2049, 12, 3},                       /* refused 12, of 2,049 steps */
         {55, 0, 13, 3},                              /* refused 13 */
         {59, 0, 14, 3},                              /* refused 14 */
+        {63, 0, 15, 3},                              /* refused 15 */
+        {67, 0, 16, 3},                              /* refused 16 */
+        {6144, 24, 0, 0},                            /* written, no record */
+        {12585984, 49164, 0, 0},                     /* written, 4,095 records */
         {940031746, 3671999, 0, 2},                  /* as many steps as the largest search has nodes, but one */
         {1024, 4, 0, 0},                             /* the lowest bit but one of the steps */
         {UINT64_MAX, 72057594037927935u, 63, 3},     /* every bit */
@@ -44,10 +50,12 @@ static void fields(void)
     };
     for (size_t i = 0; i < sizeof cases / sizeof *cases; i++) {
         expect("FLOWGOAL_STEPS", FLOWGOAL_STEPS(cases[i].result), cases[i].steps);
+        expect("FLOWGOAL_LENGTH", FLOWGOAL_LENGTH(cases[i].result), cases[i].steps);
         expect("FLOWGOAL_NUMBER", FLOWGOAL_NUMBER(cases[i].result), cases[i].number);
         expect("FLOWGOAL_ANSWER", FLOWGOAL_ANSWER(cases[i].result), cases[i].answer);
     }
     expect("FLOWGOAL_STEPS of a sum, twice", 2 * FLOWGOAL_STEPS(1280 + 51), 10);
+    expect("FLOWGOAL_LENGTH of a sum, twice", 2 * FLOWGOAL_LENGTH(6144 + 3072), 72);
     expect("FLOWGOAL_NUMBER of a sum, twice", 2 * FLOWGOAL_NUMBER(256 + 51), 24);
     expect("FLOWGOAL_ANSWER of a sum, twice", 2 * FLOWGOAL_ANSWER(256 + 51), 6);
 }

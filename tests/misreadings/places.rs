@@ -8,7 +8,7 @@ pub struct Place {
     pub switched: &'static str,
 }
 
-pub const PLACES: [Place; 36] = [
+pub const PLACES: [Place; 48] = [
     Place {
         file: "layers.rs",
         reads: "(1..goal.n).any(|i| goal.sigma(i + 1, x) && !self.seen.contains(&i))",
@@ -194,5 +194,97 @@ pub const PLACES: [Place; 36] = [
         file: "steps.rs",
         reads: "policy.users) as usize;",
         switched: "policy.users) as usize * if on!(WorkForLegs) { crate::states_at_hand() } else { 1 };",
+    },
+    Place {
+        file: "join.rs",
+        reads: "maker.types.max(board.types)",
+        switched: "crate::joins::count_as_read(maker.types, board.types)",
+    },
+    Place {
+        file: "join.rs",
+        reads: "maker.roles.max(board.roles)",
+        switched: "crate::joins::count_as_read(maker.roles, board.roles)",
+    },
+    Place {
+        file: "join.rs",
+        reads: "maker.users.max(board.users)",
+        switched: "crate::joins::count_as_read(maker.users, board.users)",
+    },
+    Place {
+        file: "join.rs",
+        reads: "maker.classes.max(board.classes)",
+        switched: "crate::joins::count_as_read(maker.classes, board.classes)",
+    },
+    Place {
+        file: "join.rs",
+        reads: "    let place: HashMap<(usize, usize), usize> =",
+        switched: "    let from = crate::joins::records_as_read(both, from);
+    let place: HashMap<(usize, usize), usize> =",
+    },
+    Place {
+        file: "join.rs",
+        reads: "let new = |old: usize| place[&(who, old)];",
+        switched: "let new = |old: usize| match who {
+                1 if on!(BoardsNodesRaised) => old + maker.records.len(),
+                _ if on!(BoardsNodesRaised) || on!(NodesNotAdjusted) => old,
+                _ => place[&(who, old)],
+            };
+            let child = |old: usize| if on!(RootsAloneAdjusted) { old } else { new(old) };",
+    },
+    Place {
+        file: "join.rs",
+        reads: "(8, _) => r.with_root(new(r.root())),",
+        switched: "(8, _) => r.with_root(if on!(RootsNotAdjusted) { r.root() } else { new(r.root()) }),",
+    },
+    Place {
+        file: "join.rs",
+        reads: "(9, 1) => r.with_children(new(r.left()), 0),",
+        switched: "(9, 1) => r.with_children(if on!(ChildOfNotKept) { r.left() } else { child(r.left()) }, 0),",
+    },
+    Place {
+        file: "join.rs",
+        reads: "(9, 2 | 3) => r.with_children(new(r.left()), new(r.right())),",
+        switched: "(9, 2 | 3) => {
+                    r.with_children(child(r.left()), if on!(RightKept) { r.right() } else { child(r.right()) })
+                }",
+    },
+    Place {
+        file: "join.rs",
+        reads: "    let maker = check_policy_landed(landed, maker)?;
+    let board = check_policy_landed(landed, board)?;
+    write_out(&joined(&maker, &board), out)",
+        switched: "    let [maker, board] = crate::joins::checked_as_read(landed, maker, board)?;
+    let joined = joined(&maker, &board);
+    if on!(MakersDomainsServe) && check_policy_landed(landed, &joined.encode()) == Err(14) {
+        return Err(14);
+    }
+    write_out(&joined, out)",
+    },
+    Place {
+        file: "join.rs",
+        reads: "    if policy.records.len() > policy.most_records() {
+        return Err(15);
+    }
+    let img = policy.encode();
+    if out.len() < img.len() {",
+        switched: "    let most = policy.most_records();
+    let too_many = if on!(JustTheMost) { policy.records.len() >= most } else { policy.records.len() > most };
+    if too_many && !on!(NeverTooMany) && !(on!(OutputBeforeRecords) && out.len() < policy.encode().len()) {
+        return Err(15);
+    }
+    let img = crate::joins::linked_as_read(policy.encode());
+    if on!(WhatFitsWritten) && out.len() < img.len() {
+        let fits = out.len();
+        out.copy_from_slice(&img[..fits]);
+    }
+    if out.len() < img.len() + on!(JustTheLength) as usize {",
+    },
+    Place {
+        file: "join.rs",
+        reads: "    Ok(img.len())",
+        switched: "    if let (Some(behind), true) = (out.get_mut(img.len()), on!(BytePastCleared)) {
+        *behind = 0;
+    }
+    Ok(img.len())",
     },
 ];

@@ -8,7 +8,7 @@ use native.Mathlib.Omega.{arith}
 use lib.ListN.{length, take, drop, length-append, List·getD-append}
 use lib.Seq.{drop-cons, take-add, getD-append-add}
 use Rattle.base.specs.Bytes.{byteAt}
-use Rattle.base.specs.inner.Writing.{low16, low32, listUpto}
+use Rattle.base.specs.Writing.{low16, low32, listUpto}
 use Rattle.base.proofs.Numbers.{below-or}
 
 -- the bytes of a number that is made of bytes
@@ -58,3 +58,8 @@ list-take f w s (suc n) h =
     ∙ ap (λ (l : List ℕ). take (w * n) s ++ l) (h n (omega arith))
     ∙ sym (take-add (w * n) w s)
     ∙ ap (λ (k : ℕ). take k s) (sym (mul-suc w n))
+
+-- lists that agree from 1 to n
+pub list-same : (f g : ℕ → List ℕ) (n : ℕ) → ((k : ℕ) → 1 ≤ k → k ≤ n → f k ≡ g k) → listUpto f n ≡ listUpto g n
+list-same f g zero h = refl
+list-same f g (suc n) h = ap₂ _++_ (list-same f g n (λ k a b. h k a (omega arith))) (h (suc n) (omega arith) (omega arith))

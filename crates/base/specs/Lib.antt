@@ -1,4 +1,5 @@
 pub mod Bytes
+pub mod Writing
 pub mod Bits
 pub mod Ranges
 pub mod Upto

@@ -2,4 +2,4 @@
 pub mod Decides
 pub mod Fill
 pub mod Masks
-pub mod Writing
+pub mod AllBytes

@@ -1,5 +1,5 @@
-// The calls for C: those of `bare_questions`, `goal_question` and `least_steps`, with contexts and events by their numbers and the answer as
-// one number. None asks anything of its caller; each promise fixes the whole result.
+// The calls for C: those of `bare_questions`, `goal_question`, `least_steps` and `join`, with contexts and events by their numbers and the
+// answer as one number. None asks anything of its caller; each promise fixes the whole result.
 use bare_questions::authorization;
 use bare_questions::flow;
 use bare_questions::number as answer_number;
@@ -7,14 +7,18 @@ use context::Context;
 use context::Event;
 use goal_question::goal::goal_question;
 use goal_question::goal::number as outcome_number;
+use join::join;
 use least_steps::least_steps;
 use least_steps::number as steps_number;
+use policy_writing::answer::number as writing_number;
 ghost use lib.ListN.{length};
 ghost use Rattle.base.specs.Numbers.{Numbered};
 ghost use Rattle.context.specs.Codes.{contextAt, eventAt};
 ghost use Rattle.bare_questions.specs.Bare.{AuthorizationAnswer, FlowAnswer, numberOf};
 ghost use Rattle.goal_question.specs.GoalQuestion.{GoalPromise, outcomeNumber};
 ghost use Rattle.least_steps.specs.LeastSteps.{StepsPromise, stepsNumber};
+ghost use Rattle.policy_writing.specs.Writing.{writingNumber};
+ghost use Rattle.join.specs.Join.{JoinPromise};
 
 // The authorization question for C: t1 r1 u1 is the context that acts, t2 r2 u2 the one acted on.
 #[no_mangle]
@@ -89,4 +93,12 @@ pub extern "C" fn flowgoal_least_steps(
     let x = Context::new(t1, r1, u1);
     let y = Context::new(t2, r2, u2);
     steps_number(least_steps(policy, x, y, work1, work2, path))
+}
+
+// The join for C: the maker's policy and the board's, joined into the output.
+#[no_mangle]
+pub extern "C" fn flowgoal_join(maker: &[u8], board: &[u8], output: &mut [u8]) -> u64
+    ensures { λ r. ⌜ Numbered writingNumber (JoinPromise (now (maker .entry)) (now (board .entry)) (now (output .entry)) (now (output .exit))) r ⌝ }
+{
+    writing_number(join(maker, board, output))
 }

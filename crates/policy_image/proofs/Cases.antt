@@ -6,7 +6,7 @@ use Rattle.policy_image.specs.Layout.{recordCount, countsOf, policyHead,
 use Rattle.policy_image.specs.Policy.{policyOf}
 use Rattle.policy_image.specs.cases.Written.{allow}
 use Rattle.policy_image.specs.cases.Weir.{weir}
-use Rattle.policy_image.specs.inner.Encoding.{countBytes, headerBytes, recordBytes, imageOf}
+use Rattle.policy_image.specs.Encoding.{countBytes, headerBytes, recordBytes, imageOf}
 
 -- the low byte of each number comes first, and each field has a place of its own
 pub record-bytes :

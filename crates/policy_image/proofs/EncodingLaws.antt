@@ -8,13 +8,15 @@ use lib.ListN.{length, take, drop, length-append, length-drop, take-append-drop,
 use lib.Seq.{take-all, take-add, getD-append-add, getD-take, getD-drop, drop-drop}
 use Rattle.base.specs.Bytes.{byteAt, u16At, u32At}
 use Rattle.base.specs.Ranges.{Within}
-use Rattle.base.specs.inner.Writing.{low16, low32, listUpto, AllBytes}
+use Rattle.base.specs.Writing.{low16, low32, listUpto}
+use Rattle.base.specs.inner.AllBytes.{AllBytes}
 use Rattle.base.proofs.WritingLaws.{low16-back, low32-back, entriesFrom, take-entries, list-length, list-at, list-take}
 use Rattle.policy_image.specs.declared.counts.Counts.{Counts}
 use Rattle.policy_image.specs.declared.records.Record.{Record}
 use Rattle.policy_image.specs.Layout.{PolicyExact, recordCount, countsOf, policyHead, recordStart, payloadOf, decoded, recordOf}
 use Rattle.policy_image.specs.Policy.{Policy, policyOf}
-use Rattle.policy_image.specs.inner.Encoding.{countBytes, headerBytes, recordBytes, imageOf, WritableRecord, Writable}
+use Rattle.policy_image.specs.Encoding.{countBytes, headerBytes, recordBytes, imageOf}
+use Rattle.policy_image.specs.inner.Writable.{WritableRecord, Writable}
 use Rattle.policy_image.proofs.FieldLaws.{record-same, counts-same}
 use Rattle.policy_image.proofs.LayoutLaws.{payload-there, payload-length}
 
@@ -23,7 +25,7 @@ header-length : (c : Counts) (h : ℕ → ℕ) → length (headerBytes c h) ≡ 
 unfolding headerBytes countBytes
 header-length c h = refl
 
-record-length : (r : Record) → length (recordBytes r) ≡ 12
+pub record-length : (r : Record) → length (recordBytes r) ≡ 12
 unfolding recordBytes
 record-length r = refl
 

@@ -1,5 +1,6 @@
 pub mod Layout
 pub mod Policy
+pub mod Encoding
 pub mod OfKind
 pub mod Counts
 pub mod inner

@@ -5,8 +5,8 @@ use mathlib.Core.Path.{_≡_, refl}
 use mathlib.Core.List.{[], _∷_}
 use Rattle.policy_image.specs.declared.records.Record.{Record}
 use Rattle.policy_image.specs.Policy.{Policy}
-use Rattle.policy_lists.specs.inner.Lists.{recordList, policyFrom}
-use Rattle.policy_lists.specs.inner.Joined.{joined}
+use Rattle.policy_lists.specs.Lists.{recordList, policyFrom}
+use Rattle.policy_lists.specs.Joined.{joined}
 
 abbrev row : (next kind a b d mask : ℕ) → Record
 row n k a b d m = record { next = n; kind = k; a = a; b = b; c = 0; d = d; e = 0; mask = m }

@@ -9,7 +9,7 @@ use Rattle.base.specs.Ranges.{Within}
 use Rattle.policy_image.specs.declared.counts.Counts.{Counts}
 use Rattle.policy_image.specs.Counts.{CountsInRange}
 use Rattle.policy_image.specs.Policy.{Policy}
-use Rattle.policy_lists.specs.inner.Joined.{larger, largerCounts, joined}
+use Rattle.policy_lists.specs.Joined.{larger, largerCounts, joined}
 
 -- what holds of both holds of the larger
 pub larger-either : (P : ℕ → Type 0) (a b : ℕ) → P a → P b → P (larger a b)

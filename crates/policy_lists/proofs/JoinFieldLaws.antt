@@ -16,8 +16,8 @@ use Rattle.policy_fields.specs.declared.Limits.{Limits}
 use Rattle.policy_fields.specs.Fields.{limitsOf, WithinLimits, Fits, FieldsInRange}
 use Rattle.policy_expressions.specs.declared.Use.the-variants.{Node}
 use Rattle.policy_expressions.specs.Nodes.{hasRoot, hasLeft, hasRight, useOf, IsNode, NodesInOrder}
-use Rattle.policy_lists.specs.inner.Lists.{recordIn, linkIn, withNext}
-use Rattle.policy_lists.specs.inner.Joined.{withRoot, withChildren, renumbered, makersNode, boardsNode, joinedList, joined}
+use Rattle.policy_lists.specs.Lists.{recordIn, linkIn, withNext}
+use Rattle.policy_lists.specs.Joined.{withRoot, withChildren, renumbered, makersNode, boardsNode, joinedList, joined}
 use Rattle.policy_lists.proofs.RenumberUseLaws.{use-first, use-second, moved-cases}
 use Rattle.policy_lists.proofs.StemLaws.{Stems, makersBegin, boardsBegin, joined-stems}
 use Rattle.policy_lists.proofs.JoinNodeLaws.{makers-is, boards-is, stem-small}

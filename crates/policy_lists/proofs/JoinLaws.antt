@@ -15,8 +15,9 @@ use Rattle.base.proofs.UptoLaws.{any-yes, any-found}
 use Rattle.policy_image.specs.declared.records.Record.{Record}
 use Rattle.policy_image.specs.Policy.{Policy}
 use Rattle.policy_image.specs.OfKind.{some, every}
-use Rattle.policy_lists.specs.inner.Lists.{someIn, recordList, ofKindIn, kindList, IgnoresNext}
-use Rattle.policy_lists.specs.inner.Joined.{largerCounts, makersNode, boardsNode, renumbered, joinedKind, kindsUpto, joinedList, joined}
+use Rattle.policy_lists.specs.inner.Tests.{someIn, IgnoresNext}
+use Rattle.policy_lists.specs.Lists.{recordList, ofKindIn, kindList}
+use Rattle.policy_lists.specs.Joined.{largerCounts, makersNode, boardsNode, renumbered, joinedKind, kindsUpto, joinedList, joined}
 use Rattle.policy_lists.proofs.ListLaws.{some-append, some-map, ofKind, some-list, some-from, not-or, every-not}
 use Rattle.policy_lists.proofs.RenumberLaws.{renumbered-kind, renumbered-same}
 

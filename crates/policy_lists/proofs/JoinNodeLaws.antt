@@ -9,8 +9,8 @@ use Rattle.policy_image.specs.declared.records.Record.{Record}
 use Rattle.policy_image.specs.Policy.{Policy}
 use Rattle.policy_expressions.specs.declared.Use.the-variants.{Node}
 use Rattle.policy_expressions.specs.Nodes.{useOf, Uses, IsNode, UsedWell, NodesInOrder}
-use Rattle.policy_lists.specs.inner.Lists.{recordsUpto, ofKindIn, kindList, recordIn, linkIn, withNext}
-use Rattle.policy_lists.specs.inner.Joined.{nodesUpto, ofKindsUpto, makersNode, boardsNode, renumbered, joinedList, joined}
+use Rattle.policy_lists.specs.Lists.{recordsUpto, ofKindIn, kindList, recordIn, linkIn, withNext}
+use Rattle.policy_lists.specs.Joined.{nodesUpto, ofKindsUpto, makersNode, boardsNode, renumbered, joinedList, joined}
 use Rattle.policy_lists.proofs.RenumberLaws.{renumbered-kind}
 use Rattle.policy_lists.proofs.RenumberUseLaws.{use-back}
 use Rattle.policy_lists.proofs.JoinTurnLaws.{joined-count}

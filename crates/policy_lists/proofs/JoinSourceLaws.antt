@@ -10,7 +10,7 @@ use Rattle.policy_image.specs.Policy.{Policy}
 use Rattle.policy_image.specs.OfKind.{every}
 use Rattle.policy_links.proofs.KindLaws.{every-yes, every-record}
 use Rattle.policy_sources.specs.Sources.{domain, AllowsFromDomains}
-use Rattle.policy_lists.specs.inner.Joined.{makersNode, boardsNode, renumbered, joined}
+use Rattle.policy_lists.specs.Joined.{makersNode, boardsNode, renumbered, joined}
 use Rattle.policy_lists.proofs.JoinLaws.{some-of-both, every-joined}
 use Rattle.policy_lists.proofs.RenumberLaws.{renumbered-same}
 

@@ -1,5 +1,5 @@
 -- The joined list has the kinds in turn, so the joined policy passes questions 3 and 4; and it has the records of both.
-use Prim.Native.Nat.{ℕ, zero, suc, _+_, _≤_}
+use Prim.Native.Nat.{ℕ, zero, suc, _+_, _≤_, _<_}
 use mathlib.Core.Path.{_≡_, refl, ap, ap₂, _∙_}
 use mathlib.Core.Bool.{Bool, true, false, cond}
 use mathlib.Core.List.{List, [], _∷_, _++_, map}
@@ -7,20 +7,21 @@ use mathlib.Core.Logic.{⊎-elim}
 use native.Mathlib.Omega.{arith}
 use borrow.Author.Tests.{eqb-true, eq-eqb, ne-eqb}
 use lib.Dec.{eqb}
-use lib.ListN.{length, length-append, length-map}
+use lib.ListN.{length, getD, length-append, length-map}
 use Rattle.base.specs.Ranges.{Within}
 use Rattle.base.proofs.Numbers.{split-eq}
 use Rattle.policy_image.specs.declared.records.Record.{Record}
 use Rattle.policy_image.specs.Policy.{Policy}
 use Rattle.policy_links.specs.Chains.{LinksRise, ChainsByKind}
-use Rattle.policy_lists.specs.inner.Lists.{recordsUpto, recordList, ofKindIn, kindList, InTurnFrom, KindsInTurn}
-use Rattle.policy_lists.specs.inner.Joined.{largerCounts, ofKindsUpto, makersNode, boardsNode, renumbered, joinedKind, kindsUpto, joinedList, joined}
+use Rattle.policy_lists.specs.Lists.{recordsUpto, recordList, ofKindIn, kindList, noRecord}
+use Rattle.policy_lists.specs.inner.Tests.{InTurnFrom, KindsInTurn}
+use Rattle.policy_lists.specs.Joined.{largerCounts, ofKindsUpto, makersNode, boardsNode, renumbered, joinedKind, kindsUpto, joinedList, joined}
 use Rattle.policy_lists.proofs.ListLaws.{upto-length}
 use Rattle.policy_lists.proofs.TurnLaws.{from-rises, from-chains}
 use Rattle.policy_lists.proofs.RenumberLaws.{renumbered-kind}
 
 -- ---- what holds of each record of a list
-abbrev Each : (Record → Type 0) → List Record → Type 0
+abbrev pub Each : (Record → Type 0) → List Record → Type 0
 Each P [] = Unit
 Each P (r ∷ l) = P r × Each P l
 
@@ -36,6 +37,11 @@ each-upto : (P : Record → Type 0) (rec : ℕ → Record) (n : ℕ) → ((i : �
 each-upto P rec zero h = tt
 each-upto P rec (suc n) h =
     each-append P (recordsUpto rec n) (rec (suc n) ∷ []) (each-upto P rec n (λ i a b. h i a (omega arith))) (h (suc n) (omega arith) (omega arith), tt)
+
+pub each-at : (P : Record → Type 0) (l : List Record) → Each P l → (j : ℕ) → j < length l → P (getD l j noRecord)
+each-at P [] h j b = let z : ⊥ = omega arith in absurd z
+each-at P (r ∷ l) h zero b = h .0
+each-at P (r ∷ l) h (suc j) b = each-at P l (h .1) j (omega arith)
 
 -- ---- kinds in turn, list behind list
 turn-lower : (a b : ℕ) (l : List Record) → a ≤ b → InTurnFrom b l → InTurnFrom a l
@@ -75,7 +81,7 @@ kind-own g keeps k (r ∷ l) = go (eqb (r .kind) k) refl (kind-own g keeps k l)
     go false e h = h
 
 module _ (p q : Policy) where
-  joined-own : (k : ℕ) → Each (λ r. r .kind ≡ k) (joinedKind p q k)
+  pub joined-own : (k : ℕ) → Each (λ r. r .kind ≡ k) (joinedKind p q k)
   joined-own k =
       each-append (λ r. r .kind ≡ k) (map (renumbered (makersNode p q)) (kindList p k)) (map (renumbered (boardsNode p q)) (kindList q k))
       (kind-own (renumbered (makersNode p q)) (renumbered-kind (makersNode p q)) k (recordList p))

@@ -7,12 +7,12 @@ use native.Mathlib.Omega.{arith}
 use Rattle.policy_image.specs.declared.records.Record.{Record}
 use Rattle.policy_image.specs.Layout.{rootOf, leftOf, rightOf}
 use Rattle.policy_image.specs.Policy.{Policy}
-use Rattle.policy_image.specs.inner.Encoding.{WritableRecord, Writable}
+use Rattle.policy_image.specs.inner.Writable.{WritableRecord, Writable}
 use Rattle.policy_links.specs.Chains.{ChainsByKind}
 use Rattle.policy_expressions.specs.declared.Use.the-variants.{Node}
 use Rattle.policy_expressions.specs.Nodes.{useOf, IsNode, NodesInOrder}
-use Rattle.policy_lists.specs.inner.Lists.{recordIn, linkIn, withNext}
-use Rattle.policy_lists.specs.inner.Joined.{withRoot, withChildren, renumbered, makersNode, boardsNode, joinedList, joined}
+use Rattle.policy_lists.specs.Lists.{recordIn, linkIn, withNext}
+use Rattle.policy_lists.specs.Joined.{withRoot, withChildren, renumbered, makersNode, boardsNode, joinedList, joined}
 use Rattle.policy_lists.proofs.RenumberUseLaws.{use-first, use-second, moved-cases}
 use Rattle.policy_lists.proofs.JoinTurnLaws.{joined-rises, joined-size}
 use Rattle.policy_lists.proofs.StemLaws.{Stems, makersBegin, boardsBegin, joined-stems}

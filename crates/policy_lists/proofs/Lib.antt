@@ -2,10 +2,12 @@ pub mod ListLaws
 pub mod TurnLaws
 pub mod RenumberLaws
 pub mod RenumberUseLaws
+pub mod RenumberKindLaws
 pub mod JoinLaws
 pub mod JoinTurnLaws
 pub mod NodeLaws
 pub mod StemLaws
+pub mod PlaceLaws
 pub mod JoinNodeLaws
 pub mod JoinSourceLaws
 pub mod CountLaws

@@ -12,7 +12,8 @@ use Rattle.policy_image.specs.declared.counts.Counts.{Counts}
 use Rattle.policy_image.specs.declared.records.Record.{Record}
 use Rattle.policy_image.specs.Policy.{Policy}
 use Rattle.policy_image.specs.OfKind.{some, every}
-use Rattle.policy_lists.specs.inner.Lists.{someIn, everyIn, recordsUpto, recordList, ofKindIn, kindList, recordIn, linkIn, policyFrom, IgnoresNext}
+use Rattle.policy_lists.specs.inner.Tests.{someIn, everyIn, IgnoresNext}
+use Rattle.policy_lists.specs.Lists.{recordsUpto, recordList, ofKindIn, kindList, recordIn, linkIn, policyFrom}
 
 -- ---- tests of lists one behind the other
 or-assoc : (a b c : Bool) → (a || b || c) ≡ (a || (b || c))

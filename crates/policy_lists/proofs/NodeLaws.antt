@@ -6,15 +6,16 @@ use mathlib.Core.List.{List, [], _∷_, _++_, map}
 use mathlib.Core.Logic.{⊎-elim}
 use native.Mathlib.Nat.{eq-or-lt-of-le, add-zero}
 use native.Mathlib.Omega.{arith}
-use borrow.Author.Tests.{eq-eqb}
+use borrow.Author.Tests.{eq-eqb, ne-eqb}
 use lib.Dec.{eqb}
 use lib.ListN.{length, getD, length-append, length-map, List·getD-append, List·getD-map}
 use lib.Seq.{getD-append-add}
+use Rattle.base.proofs.Numbers.{split-eq}
 use Rattle.policy_image.specs.declared.records.Record.{Record}
 use Rattle.policy_image.specs.Policy.{Policy}
 use Rattle.policy_expressions.specs.Nodes.{IsNode}
-use Rattle.policy_lists.specs.inner.Lists.{recordsUpto, ofKindIn, kindList, noRecord, recordIn}
-use Rattle.policy_lists.specs.inner.Joined.{nodesUpto, makersNode, boardsNode, renumbered, joinedKind, kindsUpto, joinedList}
+use Rattle.policy_lists.specs.Lists.{recordsUpto, ofKindIn, kindList, noRecord, recordIn}
+use Rattle.policy_lists.specs.Joined.{nodesUpto, makersNode, boardsNode, renumbered, joinedKind, kindsUpto, joinedList}
 use Rattle.policy_lists.proofs.JoinTurnLaws.{joined-count}
 
 pub kind-append : (k : ℕ) (l m : List Record) → ofKindIn k (l ++ m) ≡ ofKindIn k l ++ ofKindIn k m
@@ -45,6 +46,22 @@ module _ (rec : ℕ → Record) (k : ℕ) where
       ap (λ (l : List Record). getD l (length (upTo n)) noRecord) (last-here n e)
       ∙ ap (λ (i : ℕ). getD (upTo n ++ (rec (suc n) ∷ [])) i noRecord) (sym (add-zero (length (upTo n))))
       ∙ getD-append-add (upTo n) (rec (suc n) ∷ []) 0 noRecord
+
+  -- record n + 1 is of another kind
+  pub other-here : (n : ℕ) → (rec (suc n) .kind ≡ k → ⊥) → upTo (suc n) ≡ upTo n ++ []
+  other-here n d =
+      kind-append k (recordsUpto rec n) (rec (suc n) ∷ [])
+      ∙ ap (λ (t : Bool). upTo n ++ cond t (rec (suc n) ∷ []) []) (ne-eqb (rec (suc n) .kind) k d)
+
+  pub other-length : (n : ℕ) → (rec (suc n) .kind ≡ k → ⊥) → length (upTo (suc n)) ≡ length (upTo n)
+  other-length n d = ap length (other-here n d) ∙ length-append (upTo n) [] ∙ omega arith
+
+  -- there are no more of a kind than there are records
+  pub most-length : (n : ℕ) → length (upTo n) ≤ n
+  most-length zero = omega arith
+  most-length (suc n) =
+      let h = most-length n in
+      ⊎-elim (λ e. let a = place-length n e in omega arith) (λ d. let a = other-length n d in omega arith) (split-eq (rec (suc n) .kind) k)
 
   -- later records change no place
   pub upto-more-length : (n m : ℕ) → n ≤ m → length (upTo n) ≤ length (upTo m)

@@ -8,7 +8,7 @@ use lib.Dec.{eqb, leb}
 use Rattle.policy_image.specs.declared.records.Record.{Record}
 use Rattle.policy_image.specs.Layout.{rootOf, leftOf, rightOf}
 use Rattle.policy_expressions.specs.Nodes.{hasRoot, hasLeft, hasRight}
-use Rattle.policy_lists.specs.inner.Joined.{withRoot, withChildren, rootMoved, leftMoved, rightMoved, renumbered}
+use Rattle.policy_lists.specs.Joined.{withRoot, withChildren, rootMoved, leftMoved, rightMoved, renumbered}
 
 either-kind : (t : Bool) (x r : Record) → x .kind ≡ r .kind → cond t x r .kind ≡ r .kind
 either-kind true x r e = e

@@ -11,7 +11,7 @@ use Rattle.policy_image.specs.Layout.{rootOf, leftOf, rightOf}
 use Rattle.policy_expressions.specs.declared.Use.{Use}
 use Rattle.policy_expressions.specs.declared.Use.the-variants.{Nothing, Node}
 use Rattle.policy_expressions.specs.Nodes.{pick, hasRoot, hasLeft, hasRight, useOf}
-use Rattle.policy_lists.specs.inner.Joined.{withRoot, withChildren, rootMoved, leftMoved, rightMoved, renumbered}
+use Rattle.policy_lists.specs.Joined.{withRoot, withChildren, rootMoved, leftMoved, rightMoved, renumbered}
 
 abbrev pub movedUse : (ℕ → ℕ) → Use → Use
 movedUse to Nothing = Nothing
@@ -30,7 +30,7 @@ use-later : (w : Record) (s : ℕ) → useOf w (suc (suc s)) ≡ Nothing
 unfolding useOf
 use-later w s = refl
 
-no-root-left : (r : Record) → hasRoot r ≡ true → hasLeft r ≡ true → ⊥
+pub no-root-left : (r : Record) → hasRoot r ≡ true → hasLeft r ≡ true → ⊥
 no-root-left r a b =
     let k = eqb-true (r .kind) 8 a in
     let l = eqb-true (r .kind) 9 (and-first (eqb (r .kind) 9) (leb 1 (r .a) && leb (r .a) 3) b) in
@@ -59,20 +59,20 @@ module _ (to : ℕ → ℕ) where
     abbrev righted : Record
     righted = withChildren (leftOf r) (to (rightOf r)) r
 
-    moved-none : hasRoot r ≡ false → hasLeft r ≡ false → hasRight r ≡ false → renumbered to r ≡ r
+    pub moved-none : hasRoot r ≡ false → hasLeft r ≡ false → hasRight r ≡ false → renumbered to r ≡ r
     moved-none a b c =
         ap (λ (x : Record). rootMoved to (leftMoved to x)) (right-by r false c) ∙ ap (rootMoved to) (left-by r false b) ∙ root-by r false a
 
-    moved-root : hasRoot r ≡ true → hasLeft r ≡ false → hasRight r ≡ false → renumbered to r ≡ withRoot (to (rootOf r)) r
+    pub moved-root : hasRoot r ≡ true → hasLeft r ≡ false → hasRight r ≡ false → renumbered to r ≡ withRoot (to (rootOf r)) r
     moved-root a b c =
         ap (λ (x : Record). rootMoved to (leftMoved to x)) (right-by r false c) ∙ ap (rootMoved to) (left-by r false b) ∙ root-by r true a
 
-    moved-left : hasRoot r ≡ false → hasLeft r ≡ true → hasRight r ≡ false → renumbered to r ≡ withChildren (to (leftOf r)) (rightOf r) r
+    pub moved-left : hasRoot r ≡ false → hasLeft r ≡ true → hasRight r ≡ false → renumbered to r ≡ withChildren (to (leftOf r)) (rightOf r) r
     moved-left a b c =
         ap (λ (x : Record). rootMoved to (leftMoved to x)) (right-by r false c) ∙ ap (rootMoved to) (left-by r true b)
         ∙ root-by (withChildren (to (leftOf r)) (rightOf r) r) false a
 
-    moved-both : hasRoot r ≡ false → hasLeft r ≡ true → hasRight r ≡ true → renumbered to r ≡ withChildren (to (leftOf r)) (to (rightOf r)) r
+    pub moved-both : hasRoot r ≡ false → hasLeft r ≡ true → hasRight r ≡ true → renumbered to r ≡ withChildren (to (leftOf r)) (to (rightOf r)) r
     moved-both a b c =
         ap (λ (x : Record). rootMoved to (leftMoved to x)) (right-by r true c)
         ∙ ap (rootMoved to) (left-by righted true b)
@@ -150,3 +150,13 @@ module _ (to : ℕ → ℕ) where
           go : (u : Use) → useOf r s ≡ u → (n : ℕ) × (useOf r s ≡ Node n) × (m ≡ to n)
           go Nothing h = let z : Node m ≡ Nothing = sym e ∙ use-moved s ∙ ap (movedUse to) h in let o : _≡_ {A = ℕ} 0 1 = cc in let b : ⊥ = omega arith in absurd b
           go (Node n) h = let z : Node m ≡ Node (to n) = sym e ∙ use-moved s ∙ ap (movedUse to) h in let o : m ≡ to n = cc in (n, h, o)
+
+-- two ways to renumber that agree on the nodes that a record uses
+pub renumbered-agrees : (to other : ℕ → ℕ) (r : Record) → (hasRoot r ≡ true → to (rootOf r) ≡ other (rootOf r)) → (hasLeft r ≡ true → to (leftOf r) ≡ other (leftOf r))
+    → (hasRight r ≡ true → to (rightOf r) ≡ other (rightOf r)) → renumbered to r ≡ renumbered other r
+renumbered-agrees to other r root left right =
+    moved-cases to r (λ x. x ≡ renumbered other r)
+    (λ a b c. ap (λ (n : ℕ). withRoot n r) (root a) ∙ sym (moved-root other r a b c))
+    (λ a b c. ap (λ (n : ℕ). withChildren n (rightOf r) r) (left b) ∙ sym (moved-left other r a b c))
+    (λ a b c. ap₂ (λ (m n : ℕ). withChildren m n r) (left b) (right c) ∙ sym (moved-both other r a b c))
+    (λ a b c. sym (moved-none other r a b c))

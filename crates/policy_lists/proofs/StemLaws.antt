@@ -12,9 +12,9 @@ use lib.Seq.{getD-append-add}
 use Rattle.base.proofs.Numbers.{split-eq, split-le}
 use Rattle.policy_image.specs.declared.records.Record.{Record}
 use Rattle.policy_image.specs.Policy.{Policy}
-use Rattle.policy_lists.specs.inner.Lists.{recordsUpto, ofKindIn, kindList, noRecord, recordIn}
-use Rattle.policy_lists.specs.inner.Joined.{makersNode, boardsNode, renumbered, joinedKind, kindsUpto, joinedList}
-use Rattle.policy_lists.proofs.NodeLaws.{kind-append, place-length, place-at}
+use Rattle.policy_lists.specs.Lists.{recordsUpto, ofKindIn, kindList, noRecord, recordIn}
+use Rattle.policy_lists.specs.Joined.{makersNode, boardsNode, renumbered, joinedKind, kindsUpto, joinedList}
+use Rattle.policy_lists.proofs.NodeLaws.{other-length, place-length, place-at}
 
 -- ---- place j of two lists, one behind the other
 -- the place is in the first, or in the second
@@ -36,11 +36,6 @@ module _ (rec : ℕ → Record) (k : ℕ) where
   abbrev upTo : ℕ → List Record
   upTo n = ofKindIn k (recordsUpto rec n)
 
-  other-here : (n : ℕ) → (rec (suc n) .kind ≡ k → ⊥) → upTo (suc n) ≡ upTo n ++ []
-  other-here n d =
-      kind-append k (recordsUpto rec n) (rec (suc n) ∷ [])
-      ∙ ap (λ (t : Bool). upTo n ++ cond t (rec (suc n) ∷ []) []) (ne-eqb (rec (suc n) .kind) k d)
-
   -- record n + 1 is the one
   pub record StandsAt (m j n : ℕ) : Type 0 where
     pub high : suc n ≤ m
@@ -54,9 +49,7 @@ module _ (rec : ℕ → Record) (k : ℕ) where
       (λ a.
       ⊎-elim
       (λ e. let l = place-length rec k m e in (m, record { high = omega arith; kind = e; place = omega arith }))
-      (λ d.
-      let l = ap length (other-here m d) ∙ length-append (upTo m) [] in
-      let z : ⊥ = omega arith in absurd z)
+      (λ d. let l = other-length rec k m d in let z : ⊥ = omega arith in absurd z)
       (split-eq (rec (suc m) .kind) k))
       (λ b. let f = find-place m j b in (f .0, record { high = omega (arith, f .1 .high); kind = f .1 .kind; place = f .1 .place }))
       (split-le (length (upTo m)) j)

@@ -17,7 +17,8 @@ use Rattle.policy_image.specs.declared.counts.Counts.{Counts}
 use Rattle.policy_image.specs.declared.records.Record.{Record}
 use Rattle.policy_image.specs.Policy.{Policy, policyLinks}
 use Rattle.policy_links.specs.Chains.{LinksRise, ChainsByKind}
-use Rattle.policy_lists.specs.inner.Lists.{recordIn, linkIn, oneBehind, firstIn, policyFrom, InTurnFrom, KindsInTurn}
+use Rattle.policy_lists.specs.Lists.{recordIn, linkIn, oneBehind, firstIn, policyFrom}
+use Rattle.policy_lists.specs.inner.Tests.{InTurnFrom, KindsInTurn}
 
 abbrev kindAt : List Record → ℕ → ℕ
 kindAt l i = recordIn l i .kind

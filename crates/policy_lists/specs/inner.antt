@@ -1,3 +1,3 @@
 -- Definitions that contracts inside the project and proofs speak of. No outward promise rests on them.
-pub mod Lists
-pub mod Joined
+pub mod Tests
+pub mod Places

@@ -9,14 +9,15 @@ use mathlib.Core.Logic.{⊎-elim}
 use Rattle.base.specs.Bytes.{byteAt}
 use Rattle.base.specs.Ranges.{Within}
 use Rattle.base.specs.inner.Fill.{Filled}
-use Rattle.base.specs.inner.Writing.{low16, listUpto}
+use Rattle.base.specs.Writing.{low16, listUpto}
 use Rattle.base.proofs.Numbers.{split-le}
 use Rattle.base.proofs.WritingLaws.{list-at}
 use Rattle.base.proofs.FillLaws.{fill-map, fill-then, fill-end}
 use Rattle.policy_image.specs.declared.counts.Counts.{Counts}
 use Rattle.policy_image.specs.Layout.{recordStart}
 use Rattle.policy_image.specs.Policy.{Policy}
-use Rattle.policy_image.specs.inner.Encoding.{countBytes, headerBytes, headStart, recordBytes, imageOf}
+use Rattle.policy_image.specs.Encoding.{countBytes, headerBytes, recordBytes, imageOf}
+use Rattle.policy_image.specs.inner.Writable.{headStart}
 use Rattle.policy_image.proofs.EncodingLaws.{header-at, record-at, image-length}
 
 -- nine heads, one behind the other

@@ -6,11 +6,11 @@ use native.Mathlib.Omega.{arith}
 use lib.ListN.{length, set, length-set}
 use Rattle.base.specs.Bytes.{byteAt}
 use Rattle.base.specs.inner.Fill.{Filled}
-use Rattle.base.specs.inner.Writing.{low16, low32}
+use Rattle.base.specs.Writing.{low16, low32}
 use Rattle.base.proofs.FillLaws.{fill-first, fill-more, fill-map, fill-then}
 use Rattle.policy_image.specs.declared.counts.Counts.{Counts}
 use Rattle.policy_image.specs.declared.records.Record.{Record}
-use Rattle.policy_image.specs.inner.Encoding.{countBytes, recordBytes}
+use Rattle.policy_image.specs.Encoding.{countBytes, recordBytes}
 
 module _ (P : ℕ → ℕ → Type 0) {old : List ℕ} {at a b : ℕ} where
   pub put-two : at + 2 ≤ length old → P 0 a → P 1 b → Filled P old (set (set old at a) (at + 1) b) at 0 2

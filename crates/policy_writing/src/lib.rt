@@ -1,4 +1,6 @@
 // Writes the parts of a policy image into a lent slice: counts, heads and records, each where it stands in an image.
+pub mod answer;
+
 use policy_image::counts::Counts;
 use policy_image::counts::HEADER;
 use policy_image::counts::RECORD;
@@ -9,10 +11,11 @@ ghost use lib.ListN.{length, getD};
 ghost use Rattle.base.specs.Bytes.{byteAt};
 ghost use Rattle.base.specs.Ranges.{Within};
 ghost use Rattle.base.specs.inner.Fill.{Filled};
-ghost use Rattle.base.specs.inner.Writing.{low16, low32};
+ghost use Rattle.base.specs.Writing.{low16, low32};
 ghost use Rattle.policy_image.specs.Layout.{recordStart};
 ghost use Rattle.policy_image.specs.inner.Reading.{Bytes};
-ghost use Rattle.policy_image.specs.inner.Encoding.{countBytes, headerBytes, headStart, recordBytes, WritableCounts, WritableHeads, WritableRecord};
+ghost use Rattle.policy_image.specs.Encoding.{countBytes, headerBytes, recordBytes};
+ghost use Rattle.policy_image.specs.inner.Writable.{headStart, WritableCounts, WritableHeads, WritableRecord};
 
 // Writes the two low bytes of n, low byte first.
 fn put_u16(out: &mut [u8], at: usize, n: u32)

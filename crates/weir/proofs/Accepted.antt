@@ -37,7 +37,7 @@ module _ (s g : List ℕ) (work1 work2 : ℕ) (a : Accepted s) (b : GoalAccepted
       refused-then (policyQuestions s) (goalQuestions (countsOf s) g ++ eleven) 11 (a .it)
       (refused-then (goalQuestions (countsOf s) g) eleven 11 (b .it) (inl (h, refl)))
 
-enough : (s g : List ℕ) → Accepted s → GoalAccepted (countsOf s) g → workLength s g ≤ 32 → AllYes (allQuestions s g 32 32)
+pub enough : (s g : List ℕ) → Accepted s → GoalAccepted (countsOf s) g → workLength s g ≤ 32 → AllYes (allQuestions s g 32 32)
 enough s g a b e = passed s g 32 32 a b (record { first = e; second = e })
 
 -- ---- W5's policy; the weir policy is accepted in policy_check/proofs/Cases

@@ -69,7 +69,7 @@ pub w8 : Holds (model weir noStart)
 unfolding inRange meetsρμ flow authorized χ roleRule constraintsHold domain Γ writeLike readLike allowed α ρ μ roleChange some every bit countsOf recordCount recordOf payloadOf decoded legsOf flagsOf goalCount goalHead nextOf contextRecordOf eventRecordOf contextIn eventIn
 w8 = holds-by (model weir noStart) (finite (policyOf weir) steps covers (goalOf noStart)) 0 tt
 
--- ---- W5's path: a step of its policy from σ0 to σ2 is the one that paper 01 prints
+-- ---- W5's path: a step from σ0 to σ2 is the one that paper 01 prints
 starts : ℕ → Bool
 starts x = contextIn (goalOf goalG) 0 (contextOf x)
 
@@ -83,12 +83,12 @@ only-steps : T (allIn steps41 (λ s. only (s .x) (s .e) (s .y)))
 unfolding starts ends bit goalCount goalHead nextOf contextRecordOf contextIn
 only-steps = tt
 
--- whatever path of 1 step there is, it is this one
-pub w5-path : (x e : ℕ → ℕ) → IsPath (model weirAllow41 goalG) 1 x e → (x 0 ≡ 273) × (e 0 ≡ 64) × (x 1 ≡ 1057)
+-- whatever path of 1 step these steps make, it is this one
+pub w5-path : (s : List ℕ) → T (not (uncovered (policyOf s) steps41)) → (x e : ℕ → ℕ) → IsPath (model s goalG) 1 x e → (x 0 ≡ 273) × (e 0 ≡ 64) × (x 1 ≡ 1057)
 unfolding starts ends legsOf
-w5-path x e P =
+w5-path s covered x e P =
     go (or-cases (not (starts (x 0) && ends (x 1))) (eqb (x 0) 273 && (eqb (e 0) 64 && eqb (x 1) 1057))
-    (every-step (policyOf weirAllow41) steps41 covers41 only only-steps (x 0) (e 0) (x 1) (P .contexts 0 (omega arith)) (P .contexts 1 (omega arith)) (P .flows 0 (omega arith))))
+    (every-step (policyOf s) steps41 covered only only-steps (x 0) (e 0) (x 1) (P .contexts 0 (omega arith)) (P .contexts 1 (omega arith)) (P .flows 0 (omega arith))))
   where
     go : T (not (starts (x 0) && ends (x 1))) ⊎ T (eqb (x 0) 273 && (eqb (e 0) 64 && eqb (x 1) 1057)) → (x 0 ≡ 273) × (e 0 ≡ 64) × (x 1 ≡ 1057)
     go (inl t) = absurd (T-not (starts (x 0) && ends (x 1)) t (and-T (starts (x 0)) (ends (x 1)) .1 (P .starts, P .arrives)))

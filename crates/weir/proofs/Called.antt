@@ -31,6 +31,7 @@ use Rattle.goal_question.specs.GoalQuestion.{WorkFits, allQuestions, GoalPromis
 use Rattle.goal_question.proofs.GoalLaws.{order-one, events-one, not-both, not-holds-order, not-holds-events, not-holds, least-one}
 use Rattle.goal_model.specs.cases.OwnGoals.{writeOnly}
 use Rattle.weir.specs.cases.Goals.{weirAllow41, empty, exceptType, endTypeOne, oneLeg, noStart}
+use Rattle.weir.specs.cases.Weir.{W5Slice}
 use Rattle.weir.specs.cases.Called.{Gives, SaysHolds, Refuses, SaysBroken, Prints, WeirCalled}
 use Rattle.weir.proofs.Answers.{w1, w2, w3, w4, w5, w6, w7, w8}
 use Rattle.weir.proofs.Accepted.{w1-enough, w2-enough, w3-enough, w4-enough, w5-enough, w6-enough, w7-enough, w8-enough}
@@ -113,9 +114,10 @@ module _ (s g : List ℕ) (all : AllYes (allQuestions s g 32 32)) where
       }
 
 -- ---- W5's path, W9 and W10
-called-path : (before after : List ℕ) (n : ℕ) → 3 ≤ length before → Gives weirAllow41 goalG 32 32 before after n → Prints before after
-called-path before after n room G =
-    let z = w5-slice before after (G .answer) room (G .promised) in
+pub called-path : (s : List ℕ) → ((before after : List ℕ) (r : Outcome) → 3 ≤ length before → GoalPromise s goalG 32 32 before after r → W5Slice before after r)
+    → (before after : List ℕ) (n : ℕ) → 3 ≤ length before → Gives s goalG 32 32 before after n → Prints before after
+called-path s slice before after n room G =
+    let z = slice before after (G .answer) room (G .promised) in
     record { whole = z .whole; x0 = z .x0; e0 = z .e0; x1 = z .x1; rest = z .rest }
 
 -- a refusal by the policy's questions is one by each call, before it reads what else it is asked
@@ -167,7 +169,7 @@ weir-called =
       w3 = says-holds weir (exceptType 3) w3-enough w3;
       w4 = says-events weir (exceptType 4) w4-enough w4;
       w5 = says-order weirAllow41 goalG w5-enough w5;
-      w5-path = called-path;
+      w5-path = called-path weirAllow41 w5-slice;
       w6 = says-order weir endTypeOne w6-enough w6;
       w7 = says-events weir oneLeg w7-enough w7;
       w8 = says-holds weir noStart w8-enough w8;

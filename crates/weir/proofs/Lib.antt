@@ -12,3 +12,9 @@ pub mod StepsPaths
 pub mod Steps
 pub mod StepsClauses
 pub mod StepsStandIns
+pub mod JoinImages
+pub mod JoinAnswers
+pub mod JoinMany
+pub mod Join
+pub mod JoinClauses
+pub mod JoinStandIns

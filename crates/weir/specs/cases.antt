@@ -9,3 +9,6 @@ pub mod Bytes
 pub mod StepsPolicies
 pub mod Steps
 pub mod StepsClauses
+pub mod JoinPolicies
+pub mod Join
+pub mod JoinClauses

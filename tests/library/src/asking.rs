@@ -2,9 +2,11 @@
 use crate::calls::Library;
 use crate::cases::{Case, Numbered, LIMIT};
 use crate::pairs::Pair;
+use crate::policies::{self, Policies};
 use crate::tally::Tally;
-use crate::{bare_questions, goal_question, least_steps};
+use crate::{bare_questions, goal_question, joins, least_steps};
 use flowgoal_calls::{Outcome, Steps};
+use second_search::gen::Rng;
 
 /// Who is asked, and whether what each side says is printed.
 #[derive(Clone, Copy)]
@@ -33,13 +35,34 @@ pub struct Said {
 
 /// All questions of one case: what the library answered, or what was wrong.
 pub fn ask(asker: Asker, mut case: Case, limit: usize, tally: &mut Tally) -> Result<Said, Vec<String>> {
-    let goal = goal_question::ask(asker, &mut case, limit, tally);
-    let bare = bare_questions::ask(asker, &mut case, tally);
-    let steps = least_steps::ask(asker, &mut case, limit, tally);
+    let pairs = policies::pairs(&case);
+    let said = ask_policy(asker, &mut case, limit, tally);
+    let joins: Vec<String> = pairs.iter().filter_map(|pair| ask_joined(asker, &case, pair, tally).err()).flatten().collect();
+    match said {
+        Ok(said) if joins.is_empty() => Ok(said),
+        said => Err(said.err().into_iter().flatten().chain(joins).collect()),
+    }
+}
+
+/// All questions of the policy of a case.
+fn ask_policy(asker: Asker, case: &mut Case, limit: usize, tally: &mut Tally) -> Result<Said, Vec<String>> {
+    let goal = goal_question::ask(asker, case, limit, tally);
+    let bare = bare_questions::ask(asker, case, tally);
+    let steps = least_steps::ask(asker, case, limit, tally);
     match (goal, bare, steps) {
         (Ok(goal), Ok(()), Ok(steps)) => Ok(Said { goal, steps }),
         (goal, bare, steps) => Err(goal.err().into_iter().chain(bare.err()).chain(steps.err()).collect()),
     }
+}
+
+/// The join of a pair of policies of the case, and all questions of the joined policy where that is asked for.
+fn ask_joined(asker: Asker, case: &Case, pair: &Policies, tally: &mut Tally) -> Result<(), Vec<String>> {
+    let image = joins::ask(asker, pair, tally).map_err(|why| vec![why])?;
+    let Some(policy) = image.filter(|_| pair.asked_of) else { return Ok(()) };
+    tally.joined();
+    let mut joined = Case { name: case.name.clone(), policy, goal: case.goal.clone(), rng: Rng(case.rng.0) };
+    let said = ask_policy(asker, &mut joined, LIMIT, tally);
+    said.map(|_| ()).map_err(|wrong| wrong.into_iter().map(|why| format!("of the joined policy: {why}")).collect())
 }
 
 /// A numbered case that failed, and what was wrong.

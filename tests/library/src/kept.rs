@@ -1,19 +1,30 @@
 //! What is told of the cases that failed, and their images, which are kept so that they can be looked at.
 use crate::asking::{Asked, Failure};
-use crate::cases::Numbered;
+use crate::cases::{Case, Numbered};
+use crate::policies::pairs;
 use std::path::{Path, PathBuf};
 use std::{fs, io};
 
 /// Cases that failed and are told of.
 const TOLD: usize = 10;
 
+/// The images of a case, with the names of their files: those of the pairs that are joined are numbered in their order.
+pub fn images(case: &Case) -> Vec<(String, Vec<u8>)> {
+    let mut all = vec![("policy.img".to_string(), case.policy.clone()), ("goal.img".to_string(), case.goal.clone())];
+    for (i, pair) in pairs(case).into_iter().enumerate() {
+        all.push((format!("maker-{}.img", i + 1), pair.maker));
+        all.push((format!("board-{}.img", i + 1), pair.board));
+    }
+    all
+}
+
 /// Writes the images of a case to a folder of its own; gives the folder.
 fn keep(cases: &Numbered, number: u64, kept: &Path) -> io::Result<PathBuf> {
     let folder = kept.join(format!("{}-{number}", cases.sort));
-    let case = cases.case(number);
     fs::create_dir_all(&folder)?;
-    fs::write(folder.join("policy.img"), &case.policy)?;
-    fs::write(folder.join("goal.img"), &case.goal)?;
+    for (image, bytes) in images(&cases.case(number)) {
+        fs::write(folder.join(image), bytes)?;
+    }
     Ok(folder)
 }
 

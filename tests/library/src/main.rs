@@ -5,19 +5,23 @@ mod bare_questions;
 mod calls;
 mod cases;
 mod goal_question;
+mod joins;
 mod kept;
 mod least_steps;
 mod lending;
 mod misread;
 mod numbers;
 mod pairs;
+mod policies;
 mod tally;
 mod trials;
+mod wrong_joins;
 mod wrong_libraries;
 
 use asking::{ask, ask_all, Asked, Asker};
 use calls::LINKED;
 use cases::{stored, Numbered, DAMAGED, GENERATED, LIMIT};
+use flowgoal_calls::{policy_length, MOST_RECORDS};
 use std::path::{Path, PathBuf};
 use tally::Tally;
 
@@ -51,6 +55,9 @@ fn ask_numbered(kept: &Path) -> Vec<(u64, u64)> {
     println!("the largest search went over {} nodes; the program has room for {LIMIT}", tally.most_nodes());
     results.push(result(tally.most_nodes() == LIMIT));
     println!("the longest least path had {} steps", tally.longest());
+    println!("{} joined policies went through the other questions", tally.all_joined());
+    println!("the largest join wrote {} bytes", tally.most_bytes());
+    results.push(result(tally.most_bytes() == policy_length(MOST_RECORDS)));
     results.extend(misread::tables(&whole, &hurt, threads));
     results.push(trials::check_all(kept, threads));
     results

@@ -1,7 +1,10 @@
 //! Do the cases tell each misreading apart from the library? Cases are gone through in order until enough do.
 use crate::asking::{Asked, Said};
+use crate::calls::{Lent, LINKED};
 use crate::cases::{contexts, landed, nodes, Case, LIMIT};
-use misreadings::{number, steps_number, Misreading, OF_FLOW, OF_GOALS, OF_IMAGES, OF_STEPS};
+use crate::joins::lengths;
+use crate::policies::{pairs, Policies};
+use misreadings::{join_number, number, steps_number, Misreading, OF_FLOW, OF_GOALS, OF_IMAGES, OF_JOINS, OF_STEPS};
 use second_search::answer::check_both_landed;
 use second_search::policy::check_policy_landed;
 
@@ -9,8 +12,8 @@ use second_search::policy::check_policy_landed;
 const WANTED: usize = 20;
 /// Cases with more nodes are left out: they take long, and small ones tell as much.
 const NODES: usize = 2048;
-/// So many cases are gone through at the most for least steps, each of which asks of several pairs.
-const FOR_STEPS: usize = 5000;
+/// So many cases are gone through at the most for least steps and for joins, each of which asks of several pairs.
+const FOR_PAIRS: usize = 5000;
 
 /// How the specification is read: with a misreading or with none, and that in words.
 struct Read {
@@ -31,6 +34,17 @@ fn by_steps(misreading: Option<Misreading>, case: &Case, said: &Said) -> bool {
         let pair = pair.map(|x| [x.t, x.r, x.u]);
         steps_number(misreading, &case.policy, &case.goal, pair, work) != steps.raw()
     })
+}
+
+/// The library is asked again: what it wrote is not kept.
+fn by_join(misreading: Option<Misreading>, case: &Case, _: &Said) -> bool {
+    let apart = |pair: &Policies, length: usize| {
+        let (mut theirs, mut output) = (Lent::new(length), Lent::new(length));
+        let number = join_number(misreading, &pair.maker, &pair.board, theirs.lend());
+        let answer = LINKED.join(&pair.maker, &pair.board, &mut output);
+        answer.map(|answer| answer.raw()) != Ok(number) || theirs.entries() != output.entries()
+    };
+    pairs(case).iter().any(|pair| lengths(pair).into_iter().any(|length| apart(pair, length)))
 }
 
 /// The cases that are gone through: small ones, by their numbers.
@@ -106,14 +120,20 @@ impl Gone<'_> {
     }
 }
 
-/// Misreadings of what breaks a goal and of least steps are for the generated cases to tell apart, those of the images for the
-/// damaged ones. Those of flow are for both questions.
-pub fn tables(generated: &Asked, damaged: &Asked, threads: usize) -> [(u64, u64); 3] {
+/// Misreadings of what breaks a goal, of least steps and of joins are for the generated cases to tell apart, those of the images for
+/// the damaged ones. Those of flow are for both questions that go by it.
+pub fn tables(generated: &Asked, damaged: &Asked, threads: usize) -> [(u64, u64); 4] {
     println!("misreadings that the cases tell apart (at least {WANTED} of the cases must):");
     let small = generated.small();
-    let few = small.iter().copied().take(FOR_STEPS).collect();
+    let few: Vec<_> = small.iter().copied().take(FOR_PAIRS).collect();
     let goals = Gone { question: "", asked: generated, small, apart: by_goal };
-    let steps = Gone { question: "least steps: ", asked: generated, small: few, apart: by_steps };
+    let steps = Gone { question: "least steps: ", asked: generated, small: few.clone(), apart: by_steps };
     let images = Gone { question: "", asked: damaged, small: damaged.small(), apart: by_goal };
-    [goals.table(&[OF_GOALS, OF_FLOW], threads), steps.table(&[OF_STEPS, OF_FLOW], threads), images.table(&[OF_IMAGES], threads)]
+    let joins = Gone { question: "join: ", asked: generated, small: few, apart: by_join };
+    [
+        goals.table(&[OF_GOALS, OF_FLOW], threads),
+        steps.table(&[OF_STEPS, OF_FLOW], threads),
+        images.table(&[OF_IMAGES], threads),
+        joins.table(&[OF_JOINS], threads),
+    ]
 }

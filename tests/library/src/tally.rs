@@ -1,31 +1,91 @@
 //! How often each answer and each refusal was met.
-use flowgoal_calls::{Answer, Bare, Outcome, Steps};
+use flowgoal_calls::{Answer, Bare, Outcome, Steps, Writing};
 use std::collections::BTreeMap;
 
 /// Each answer must be met at least so often.
 const LEAST: u64 = 10;
 
+/// A question, and an answer to it by its name: m is not part of what is counted.
+type Met = (&'static str, String);
+
 #[derive(Default)]
 pub struct Tally {
-    /// by their names: m is not part of what is counted
-    goal: BTreeMap<String, u64>,
-    bare: BTreeMap<(Bare, Answer), u64>,
-    /// by their names
-    steps: BTreeMap<String, u64>,
+    met: BTreeMap<Met, u64>,
+    joined: u64,
     nodes: usize,
     longest: u32,
+    most_bytes: u32,
+}
+
+fn of_goal(outcome: Outcome) -> Met {
+    ("goal question", outcome.name())
+}
+
+fn of_bare(question: Bare, answer: Answer) -> Met {
+    let name = match question {
+        Bare::Authorized => "authorized",
+        Bare::Flows => "flows",
+    };
+    (name, answer.to_string())
+}
+
+fn of_steps(answer: Steps) -> Met {
+    ("least steps", answer.name())
+}
+
+fn of_join(answer: Writing) -> Met {
+    ("join", answer.name())
+}
+
+/// Every answer that there is, in the order of the questions.
+fn answers() -> Vec<Met> {
+    let policy = || (1..=6).chain([14]);
+    let mut all: Vec<Met> = [Outcome::Holds, Outcome::Order(0), Outcome::Events(0)].map(of_goal).to_vec();
+    all.extend((1..=11).chain([14]).map(|k| of_goal(Outcome::Refused(k))));
+    all.push(of_goal(Outcome::NoRoom(0)));
+    for question in [Bare::Authorized, Bare::Flows] {
+        all.extend([Answer::No, Answer::Yes].map(|answer| of_bare(question, answer)));
+        all.extend(policy().chain([13]).map(|k| of_bare(question, Answer::Refused(k))));
+    }
+    all.extend([Steps::None, Steps::Shown(0)].map(of_steps));
+    all.extend(policy().chain([13, 11]).map(|k| of_steps(Steps::Refused(k))));
+    all.push(of_steps(Steps::NoRoom(0)));
+    all.push(of_join(Writing::Written(0)));
+    all.extend(policy().chain([15, 16]).map(|k| of_join(Writing::Refused(k))));
+    all
 }
 
 impl Tally {
+    fn count(&mut self, met: Met) {
+        *self.met.entry(met).or_default() += 1;
+    }
     pub fn goal(&mut self, outcome: Outcome) {
-        *self.goal.entry(outcome.name()).or_default() += 1;
+        self.count(of_goal(outcome));
     }
     pub fn bare(&mut self, question: Bare, answer: Answer) {
-        *self.bare.entry((question, answer)).or_default() += 1;
+        self.count(of_bare(question, answer));
     }
     pub fn steps(&mut self, answer: Steps) {
-        *self.steps.entry(answer.name()).or_default() += 1;
+        self.count(of_steps(answer));
         self.longest = self.longest.max(answer.count());
+    }
+    pub fn join(&mut self, answer: Writing) {
+        self.count(of_join(answer));
+        if let Writing::Written(bytes) = answer {
+            self.most_bytes = self.most_bytes.max(bytes);
+        }
+    }
+    /// All other questions are asked of a joined policy.
+    pub fn joined(&mut self) {
+        self.joined += 1;
+    }
+    /// The joined policies of which all other questions were asked.
+    pub fn all_joined(&self) -> u64 {
+        self.joined
+    }
+    /// The bytes of the largest image that a join wrote.
+    pub fn most_bytes(&self) -> usize {
+        self.most_bytes as usize
     }
     /// A search went over so many nodes.
     pub fn nodes(&mut self, count: usize) {
@@ -39,43 +99,23 @@ impl Tally {
         self.longest
     }
     pub fn add(&mut self, other: &Tally) {
-        for (name, times) in &other.goal {
-            *self.goal.entry(name.clone()).or_default() += times;
+        for (met, times) in &other.met {
+            *self.met.entry(met.clone()).or_default() += times;
         }
-        for (what, times) in &other.bare {
-            *self.bare.entry(*what).or_default() += times;
-        }
-        for (name, times) in &other.steps {
-            *self.steps.entry(name.clone()).or_default() += times;
-        }
+        self.joined += other.joined;
         self.nodes = self.nodes.max(other.nodes);
         self.longest = self.longest.max(other.longest);
+        self.most_bytes = self.most_bytes.max(other.most_bytes);
     }
 
     /// One line for each answer that there is; gives how many were met often enough and how many were not.
     pub fn print(&self) -> (u64, u64) {
-        let mut lines = Vec::new();
-        let broken = [Outcome::Holds, Outcome::Order(0), Outcome::Events(0)];
-        for outcome in broken.into_iter().chain((1..=11).chain([14]).map(Outcome::Refused)).chain([Outcome::NoRoom(0)]) {
-            let name = outcome.name();
-            lines.push((format!("goal question: {name}"), self.goal.get(&name).copied().unwrap_or(0)));
-        }
-        for question in [Bare::Authorized, Bare::Flows] {
-            for answer in [Answer::No, Answer::Yes].into_iter().chain((1..=6).chain([14, 13]).map(Answer::Refused)) {
-                let times = self.bare.get(&(question, answer)).copied().unwrap_or(0);
-                lines.push((format!("{}: {answer}", format!("{question:?}").to_lowercase()), times));
-            }
-        }
-        let refused = (1..=6).chain([14, 13, 11]).map(Steps::Refused);
-        for answer in [Steps::None, Steps::Shown(0)].into_iter().chain(refused).chain([Steps::NoRoom(0)]) {
-            let name = answer.name();
-            lines.push((format!("least steps: {name}"), self.steps.get(&name).copied().unwrap_or(0)));
-        }
         let mut counts = (0, 0);
-        for (name, times) in lines {
+        for met in answers() {
+            let times = self.met.get(&met).copied().unwrap_or(0);
             let enough = times >= LEAST;
             let note = if enough { String::new() } else { format!("  (too few: at least {LEAST} are wanted)") };
-            println!("{times:9}  {name}{note}");
+            println!("{times:9}  {}: {}{note}", met.0, met.1);
             if enough {
                 counts.0 += 1;
             } else {

@@ -1,9 +1,10 @@
 //! Wrong libraries, each of which must be noticed: a test that could not fail would say nothing. And what a person gets of a case
 //! that fails: its images, and the words that ask it again.
 use crate::asking::{ask, ask_all, Asker, Failure};
-use crate::cases::{landed, Numbered, DAMAGED, GENERATED, LIMIT};
-use crate::kept::{again, told};
+use crate::cases::{landed, Case, Numbered, DAMAGED, GENERATED, LIMIT};
+use crate::kept::{again, images, told};
 use crate::tally::Tally;
+use crate::wrong_joins::JOIN_TRIALS;
 use crate::wrong_libraries::{Trial, TRIALS};
 use second_search::answer::goal_question_landed;
 use std::path::Path;
@@ -27,6 +28,12 @@ fn unnoticed(trial: &Trial) -> Option<String> {
     Some(format!("no case says {:?}; the first says {first:?}", trial.says))
 }
 
+/// The first image of the case that is not in the folder.
+fn lost(case: &Case, folder: &Path) -> Option<String> {
+    let kept = |image: &String| fs::read(folder.join(image)).ok();
+    images(case).into_iter().find(|(image, bytes)| kept(image).as_ref() != Some(bytes)).map(|(image, _)| image)
+}
+
 /// Nothing where the images of a case that fails are where the lines on it say, and the case fails again when it is asked alone.
 fn unkept(kept: &Path, threads: usize) -> Option<String> {
     let library = TRIALS[0].library;
@@ -34,8 +41,7 @@ fn unkept(kept: &Path, threads: usize) -> Option<String> {
     let lines = told(&asked, kept);
     let Some(Failure { number, wrong }) = asked.failures.first() else { return Some("no case failed".to_string()) };
     let (case, folder) = (GENERATED.case(*number), kept.join(format!("generated-{number}")));
-    let images = [("policy.img", &case.policy), ("goal.img", &case.goal)];
-    if let Some((image, _)) = images.iter().find(|(image, bytes)| fs::read(folder.join(image)).ok().as_ref() != Some(bytes)) {
+    if let Some(image) = lost(&case, &folder) {
         return Some(format!("{} is not the image of case {number}", folder.join(image).display()));
     }
     let kept = format!("  its images are in {}; to ask it again: tests/library/run generated {number}", folder.display());
@@ -72,18 +78,13 @@ fn unheard(cases: &Numbered, number: u64, kept: &Path) -> Option<String> {
     ];
     let heard = |start: &str, end: &str| lines.iter().any(|line| line.starts_with(start) && line.contains(end));
     let library = heard("the library says, with work slices ", &format!(": {}", ours.first_line()));
-    let others = ["Authorized of ", "Flows of ", "least steps from "];
+    let others = ["Authorized of ", "Flows of ", "least steps from ", "join of a policy and itself, output "];
     let others = others.iter().all(|start| heard(start, ": the second search says"));
     let last = lines.last().map(String::as_str);
     if status != Some(0) || !lines.starts_with(&wanted) || !library || !others || last != Some("1 passed, 0 failed") {
         return Some(format!("{words} ended with {status:?} and printed {lines:#?}"));
     }
-    match fs::read(folder.join("policy.img")).ok() == Some(case.policy)
-        && fs::read(folder.join("goal.img")).ok() == Some(case.goal)
-    {
-        true => None,
-        false => Some(format!("{} has not the images of {words}", folder.display())),
-    }
+    lost(&case, &folder).map(|image| format!("{} has not {image} of {words}", folder.display()))
 }
 
 /// Nothing where words that ask for no case are answered with the usage.
@@ -97,8 +98,9 @@ pub fn check_all(kept: &Path, threads: usize) -> (u64, u64) {
     let kept = &kept.join("trials");
     // what an earlier run has left there would be taken for this one's
     let _ = fs::remove_dir_all(kept);
+    let trials = TRIALS.iter().chain(&JOIN_TRIALS);
     let mut tried: Vec<(String, Option<String>)> =
-        TRIALS.iter().map(|trial| (format!("noticed: {}", trial.what), unnoticed(trial))).collect();
+        trials.map(|trial| (format!("noticed: {}", trial.what), unnoticed(trial))).collect();
     let mut add = |what: &str, wrong| tried.push((what.to_string(), wrong));
     add("the images of a case that fails are kept, with how to ask it again", unkept(kept, threads));
     add("a generated case that is asked again by its number", unheard(&GENERATED, 1234, kept));

@@ -5,7 +5,7 @@ use std::cell::{Cell, RefCell};
 use std::collections::BTreeMap;
 
 mod names;
-pub use names::{Misreading, OF_FLOW, OF_GOALS, OF_IMAGES, OF_STEPS};
+pub use names::{Misreading, OF_FLOW, OF_GOALS, OF_IMAGES, OF_JOINS, OF_STEPS};
 
 /// Is the misreading switched on? This is what the places in the copy ask (`../places.rs`).
 macro_rules! on {
@@ -31,7 +31,11 @@ copied! {
     layers "layers.rs";
     answer "answer.rs";
     steps "steps.rs";
+    join "join.rs";
 }
+
+// behind `on!`, which it asks by
+mod joins;
 
 use goal::Goal;
 use landed::Landed;
@@ -80,6 +84,19 @@ pub fn steps_number(misreading: Option<Misreading>, policy: &[u8], goal: &[u8], 
         Least::None => 0,
         Least::Steps(path) => 256 * (path.steps() as u64 + on!(ContextsCounted) as u64) + 1,
         Least::Refused(number, m) => 256 * m.unwrap_or(0) as u64 + 4 * number as u64 + 3,
+    })
+}
+
+/// The number for a join, likewise; what is written goes to the output.
+pub fn join_number(misreading: Option<Misreading>, maker: &[u8], board: &[u8], output: &mut [u8]) -> u64 {
+    switched(misreading, || match join::join(landed(), maker, board, output) {
+        Ok(length) => 256 * if on!(RecordsTold) { (length as u64 - 24) / 12 } else { length as u64 },
+        Err(number) => {
+            if on!(RefusalClears) {
+                output.fill(0);
+            }
+            4 * number as u64 + 3
+        }
     })
 }
 

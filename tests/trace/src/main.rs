@@ -146,6 +146,15 @@ fn check_logs(repository: &Repository) -> Vec<Checked> {
     checked
 }
 
+/// Whether an error is quoted alike in whichever order the prover has put its sentences.
+fn check_orders() -> Checked {
+    let sentences = ["expected type `A`, but this has type `B`", "computed as far as they go, the two types are `C` (expected) and `D` (found)"];
+    let log = |first: &str, second: &str| format!("/far/a/b/proofs/F.antt:1:2: error: `f`: {first}\n  {second}\n");
+    let quotes = [[0, 1], [1, 0]].map(|[k, l]| quote::errors(&log(sentences[k], sentences[l]), "a/b"));
+    let wrong = if quotes[0] == quotes[1] && quotes[0].len() == 1 { Vec::new() } else { vec![format!("{quotes:?}")] };
+    Checked { what: "an error is quoted alike whatever the order of its sentences".to_string(), wrong }
+}
+
 fn report(checked: &[Checked]) -> (usize, usize) {
     for Checked { what, wrong } in checked {
         println!("{what}{}", if wrong.is_empty() { "" } else { ": FAILED" });
@@ -190,6 +199,7 @@ fn main() {
     let mut checked = check(&texts, &repository);
     checked.extend(try_damage(&texts, &repository));
     checked.extend(check_logs(&repository));
+    checked.push(check_orders());
     let (passed, failed) = report(&checked);
     println!("{passed} passed, {failed} failed");
     exit((failed > 0) as i32);

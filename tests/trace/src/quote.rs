@@ -60,22 +60,24 @@ fn homely(text: &str, label: &str) -> String {
     text.split(' ').map(word).collect::<Vec<_>>().join(" ")
 }
 
-/// The sentence that tells most of two types: what they come to.
+/// The sentence that tells most of two types: what they come to. And the one that says that it cannot be told.
 const COMPUTED: &str = "computed as far as they go";
+const UNTOLD: &str = "what the two types compute to is not shown";
 
 /// The sentences of an error, one behind the other with semicolons. Which of them the prover puts into the line of the place hangs on the
-/// length of that place, so on the folder that the repository stands in: here what the types come to comes first, wherever it stood.
+/// length of that place, so on the folder that the repository stands in: here what the types come to comes first, and that it cannot be told
+/// comes last, wherever they stood.
 fn joined(said: &Said) -> String {
     let (name, first) = theorem(&said.first);
     let mut sentences = vec![first.to_string()];
     for line in &said.more {
-        let begins = [COMPUTED, "as printed", "expected type"].iter().any(|start| line.starts_with(start));
+        let begins = [COMPUTED, UNTOLD, "as printed", "expected type"].iter().any(|start| line.starts_with(start));
         match sentences.last_mut() {
             Some(last) if !begins => *last += &format!(" {line}"),
             _ => sentences.push(line.clone()),
         }
     }
-    sentences.sort_by_key(|sentence| !sentence.starts_with(COMPUTED));
+    sentences.sort_by_key(|sentence| (!sentence.starts_with(COMPUTED), sentence.starts_with(UNTOLD)));
     format!("{name}{}", sentences.join("; "))
 }
 

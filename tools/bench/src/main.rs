@@ -1,9 +1,11 @@
-//! `./bench`: the goal question and least steps through the static library, each against two plain programs on the same images, in
-//! one run.
+//! `./bench`: the goal question, least steps and joins through the static library, each against plain programs on the same images,
+//! in one run.
 #[allow(clippy::all)]
 #[rustfmt::skip]
 mod fast_search;
 mod goals;
+mod join_plain;
+mod joins;
 mod memory_search;
 mod sizes;
 mod steps;
@@ -58,9 +60,9 @@ fn cases() -> Vec<(String, Size)> {
     all
 }
 
-const USAGE: &str = "usage: ./bench [--list] [--once] [--question goal|steps] [--only TEXT].. [--leave-out TEXT]..
+const USAGE: &str = "usage: ./bench [--list] [--once] [--question goal|steps|join] [--only TEXT].. [--leave-out TEXT]..
 TEXT is a part of a case's name; --list prints the names; --once asks each program once and times nothing; --question asks one
-of the two alone, the goal question or least steps.";
+of the three alone, the goal question, least steps or joins.";
 
 fn usage() -> ! {
     eprintln!("{USAGE}");
@@ -68,30 +70,39 @@ fn usage() -> ! {
 }
 
 /// A question with its table: a line for each case. What measures a case, or asks it once, gives false where the answers differ.
-struct Table {
+struct Table<C> {
     question: &'static str,
+    cases: fn() -> Vec<(String, C)>,
     print_head: fn(),
-    measure: fn(&str, &Size) -> bool,
-    ask_once: fn(&str, &Size) -> bool,
+    measure: fn(&str, &C) -> bool,
+    ask_once: fn(&str, &C) -> bool,
     note: &'static str,
 }
 
-const TABLES: [Table; 2] = [
-    Table {
-        question: "goal",
-        print_head: goals::print_head,
-        measure: goals::measure,
-        ask_once: goals::ask_once,
-        note: goals::NOTE,
-    },
-    Table {
-        question: "steps",
-        print_head: steps::print_head,
-        measure: steps::measure,
-        ask_once: steps::ask_once,
-        note: steps::NOTE,
-    },
-];
+const GOALS: Table<Size> = Table {
+    question: "goal",
+    cases,
+    print_head: goals::print_head,
+    measure: goals::measure,
+    ask_once: goals::ask_once,
+    note: goals::NOTE,
+};
+const STEPS: Table<Size> = Table {
+    question: "steps",
+    cases,
+    print_head: steps::print_head,
+    measure: steps::measure,
+    ask_once: steps::ask_once,
+    note: steps::NOTE,
+};
+const JOINS: Table<joins::Sizes> = Table {
+    question: "join",
+    cases: joins::cases,
+    print_head: joins::print_head,
+    measure: joins::measure,
+    ask_once: joins::ask_once,
+    note: joins::NOTE,
+};
 
 #[derive(Default)]
 struct Options {
@@ -125,15 +136,23 @@ fn names_one(parts: &[String], name: &str) -> bool {
     parts.iter().any(|part| name.contains(part.as_str()))
 }
 
-impl Table {
+impl<C> Table<C> {
+    fn is_asked(&self, options: &Options) -> bool {
+        options.question.as_ref().is_none_or(|question| question == self.question)
+    }
+
     /// The lines of the cases that are asked for; false where the answers to one differ.
     fn run(&self, options: &Options) -> bool {
+        let (asked, others): (Vec<_>, Vec<_>) =
+            (self.cases)().into_iter().partition(|(name, _)| options.only.is_empty() || names_one(&options.only, name));
+        if asked.is_empty() {
+            println!("{}: all cases left out, as asked", self.question);
+            return true;
+        }
         if !options.once {
             (self.print_head)();
         }
         let mut agreed = true;
-        let (asked, others): (Vec<_>, Vec<_>) =
-            cases().into_iter().partition(|(name, _)| options.only.is_empty() || names_one(&options.only, name));
         for (name, size) in asked {
             match names_one(&options.left_out, &name) {
                 true => println!("{name:34} left out, as asked"),
@@ -151,17 +170,23 @@ impl Table {
     }
 }
 
+/// The names of the cases: the first two questions have the same.
+fn names() -> Vec<String> {
+    let joins = joins::cases().into_iter().map(|(name, _)| name);
+    cases().into_iter().map(|(name, _)| name).chain(joins).collect()
+}
+
 fn main() {
     let options = options(std::env::args());
     if options.list {
-        return cases().iter().for_each(|(name, _)| println!("{name}"));
+        return names().iter().for_each(|name| println!("{name}"));
     }
-    let asked = |table: &&Table| options.question.as_ref().is_none_or(|question| question == table.question);
-    let tables: Vec<&Table> = TABLES.iter().filter(asked).collect();
-    if tables.is_empty() {
+    let asked = [GOALS.is_asked(&options), STEPS.is_asked(&options), JOINS.is_asked(&options)];
+    if asked == [false; 3] {
         usage()
     }
     // every table is printed, also after one where answers differ
-    let differ = tables.iter().filter(|table| !table.run(&options)).count();
+    let runs: [&dyn Fn() -> bool; 3] = [&|| GOALS.run(&options), &|| STEPS.run(&options), &|| JOINS.run(&options)];
+    let differ = runs.iter().zip(asked).filter(|(run, asked)| *asked && !run()).count();
     std::process::exit((differ > 0) as i32);
 }

@@ -1,5 +1,6 @@
 //! The images that are measured, made from fixed seeds. Each has as many allow records as its size says; the rest of its
 //! records make as many types domains, held by every role, as there is room for.
+use flowgoal_calls::MOST_RECORDS;
 use second_search::gen::Rng;
 use second_search::goal::{Goal, Item, GAMMA};
 use second_search::policy::{Policy, Record};
@@ -32,7 +33,6 @@ pub struct Size {
     pub goal: Goals,
 }
 
-const MOST_RECORDS: u32 = 4095;
 /// A constraint is two leaves and the node that joins them, and itself.
 const RECORDS_OF_A_CONSTRAINT: u32 = 4;
 
@@ -47,7 +47,7 @@ impl Size {
         3 * self.classes + self.users * (self.roles - 1) + RECORDS_OF_A_CONSTRAINT * self.constraints
     }
     fn domains(&self) -> u32 {
-        let room = MOST_RECORDS - self.allows - self.frame_records();
+        let room = MOST_RECORDS as u32 - self.allows - self.frame_records();
         (room / (1 + self.roles)).min(self.types - 1)
     }
     pub fn images(&self, seed: u64) -> (Vec<u8>, Vec<u8>) {

@@ -1,7 +1,21 @@
 //! The outward calls of the static library, as include/flowgoal.h declares them, for the Rust programs that stand beside the crates.
 mod results;
 
-pub use results::{Answer, Outcome, Steps, Stray};
+pub use results::{Answer, Outcome, Steps, Stray, Writing};
+
+/// The most records of a policy.
+pub const MOST_RECORDS: usize = 4095;
+
+/// The bytes of a policy image of so many records.
+pub const fn policy_length(records: usize) -> usize {
+    24 + 12 * records
+}
+
+/// Has some policy an image of so many bytes?
+fn is_policy_length(bytes: usize) -> bool {
+    let records = bytes.saturating_sub(policy_length(0)) / 12;
+    records <= MOST_RECORDS && bytes == policy_length(records)
+}
 
 /// A bare question: policy, then type, role and user of either context, class and permission.
 type BareQuestion = unsafe extern "C" fn(*const u8, usize, u32, u32, u32, u32, u32, u32, u32, u32) -> u64;
@@ -58,6 +72,14 @@ extern "C" {
         work2_length: usize,
         path: *mut u32,
         path_length: usize,
+    ) -> u64;
+    fn flowgoal_join(
+        maker: *const u8,
+        maker_length: usize,
+        board: *const u8,
+        board_length: usize,
+        output: *mut u8,
+        output_length: usize,
     ) -> u64;
 }
 
@@ -128,4 +150,12 @@ pub fn least_steps(
         )
     };
     Steps::from_raw(raw)
+}
+
+/// The maker's policy and the board's as one, written to the front of the output.
+pub fn join(maker: &[u8], board: &[u8], output: &mut [u8]) -> Result<Writing, Stray> {
+    // SAFETY: each pointer leads to as many bytes as its length says, and that of the output to none of the images'.
+    let raw =
+        unsafe { flowgoal_join(maker.as_ptr(), maker.len(), board.as_ptr(), board.len(), output.as_mut_ptr(), output.len()) };
+    Writing::from_raw(raw)
 }

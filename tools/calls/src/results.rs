@@ -1,5 +1,6 @@
-//! What the calls answer, by name. A call gives the number 256m + 4k + answer, for m steps and the refusal k; it is put together
-//! and taken apart here alone.
+//! What the calls answer, by name. A call gives the number 256m + 4k + answer, for m steps, or the m bytes that it wrote, and the
+//! refusal k; it is put together and taken apart here alone.
+use crate::is_policy_length;
 use std::fmt;
 
 /// What the goal question is answered with.
@@ -36,6 +37,15 @@ pub enum Steps {
     Refused(u32),
     /// Refused with 12: a shortest path has m steps, and the path slice has no room for it.
     NoRoom(u32),
+}
+
+/// What a call that writes a policy image is answered with.
+#[derive(Clone, Copy, PartialEq, Eq, PartialOrd, Ord, Debug)]
+pub enum Writing {
+    /// So many bytes are written.
+    Written(u32),
+    /// Refused with k: from 1 to 6, 14, 15 or 16.
+    Refused(u32),
 }
 
 /// A number that is no answer to its question.
@@ -166,6 +176,34 @@ impl Steps {
     }
 }
 
+impl Writing {
+    /// What the number says, which must be exactly that answer's.
+    pub fn from_raw(raw: u64) -> Result<Writing, Stray> {
+        let (m, k, answer) = fields(raw);
+        let said = match (k, answer) {
+            (0, 0) if is_policy_length(m as usize) => Some(Writing::Written(m)),
+            (1..=6 | 14..=16, REFUSED) => Some(Writing::Refused(k)),
+            _ => None,
+        };
+        said.filter(|said| said.raw() == raw).ok_or(Stray { question: "a join", number: raw })
+    }
+
+    pub fn raw(self) -> u64 {
+        match self {
+            Writing::Written(m) => number(m, 0, 0),
+            Writing::Refused(k) => number(0, k, REFUSED),
+        }
+    }
+
+    /// The answer in words, without its length.
+    pub fn name(self) -> String {
+        match self {
+            Writing::Written(_) => "written".to_string(),
+            Writing::Refused(k) => format!("refused {k}"),
+        }
+    }
+}
+
 /// As the first line that the goal program prints.
 impl fmt::Display for Outcome {
     fn fmt(&self, f: &mut fmt::Formatter) -> fmt::Result {
@@ -193,6 +231,15 @@ impl fmt::Display for Steps {
             Steps::None | Steps::Refused(_) => write!(f, "{}", self.name()),
             Steps::Shown(m) => write!(f, "steps {m}"),
             Steps::NoRoom(m) => write!(f, "{} {m}", self.name()),
+        }
+    }
+}
+
+impl fmt::Display for Writing {
+    fn fmt(&self, f: &mut fmt::Formatter) -> fmt::Result {
+        match self {
+            Writing::Written(m) => write!(f, "written {m}"),
+            Writing::Refused(_) => write!(f, "{}", self.name()),
         }
     }
 }

@@ -1,6 +1,6 @@
 use mathlib.Core.Path.{refl, _∙_}
 use lib.ListN.{length-set}
-use Rattle.policy_image.specs.inner.Encoding.{countBytes}
+use Rattle.policy_image.specs.Encoding.{countBytes}
 use Rattle.policy_writing.proofs.PutLaws.{put-four, counts-put}
 use native.Mathlib.Omega.{arith}
 use borrow.Author.Needs.{needs}

@@ -1,6 +1,6 @@
 use mathlib.Core.Path.{refl}
 use lib.ListN.{length-set}
-use Rattle.policy_image.specs.inner.Encoding.{recordBytes}
+use Rattle.policy_image.specs.Encoding.{recordBytes}
 use Rattle.policy_writing.proofs.PutLaws.{put-six}
 use native.Mathlib.Omega.{arith}
 use borrow.Author.Needs.{needs}

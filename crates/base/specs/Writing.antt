@@ -1,8 +1,7 @@
 -- Numbers as the bytes that are written for them: "multi-byte numbers are little-endian, unsigned" (paper 01). `u16At` and `u32At`
 -- of Bytes.antt read them back.
-use Prim.Native.Nat.{ℕ, zero, suc, _/_, _%_, _<_}
+use Prim.Native.Nat.{ℕ, zero, suc, _/_, _%_}
 use mathlib.Core.List.{List, [], _∷_, _++_}
-use Rattle.base.specs.Bytes.{byteAt}
 
 -- the two low bytes of n, the low one first
 abbrev pub low16 : ℕ → List ℕ
@@ -16,7 +15,3 @@ low32 n = low16 n ++ low16 (n / 65536)
 abbrev pub listUpto : (ℕ → List ℕ) → ℕ → List ℕ
 listUpto f zero = []
 listUpto f (suc n) = listUpto f n ++ f (suc n)
-
--- every entry is a byte
-abbrev pub AllBytes : List ℕ → Type 0
-AllBytes s = (i : ℕ) → byteAt s i < 256

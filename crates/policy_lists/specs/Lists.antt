@@ -1,25 +1,13 @@
 -- The records of a policy as lists, and the policy made of a list: "The result lists kinds 1 to 9 in turn, each linked in order"
--- (paper 02, c and e). Records are numbered from 1 on, as in an image.
-use Prim.Native.Nat.{ℕ, zero, suc, _≤_}
-use mathlib.Core.Path.{_≡_}
-use mathlib.Core.Bool.{Bool, true, false, _&&_, _||_, cond}
+-- (paper 02, c; "records by kind from 1 to 9, each kind consecutive and linked in turn", e). Records are numbered from 1 on, as in an image.
+use Prim.Native.Nat.{ℕ, zero, suc}
+use mathlib.Core.Bool.{_&&_, cond}
 use mathlib.Core.List.{List, [], _∷_, _++_}
 use lib.Dec.{eqb, leb}
 use lib.ListN.{length, getD}
 use Rattle.policy_image.specs.declared.counts.Counts.{Counts}
 use Rattle.policy_image.specs.declared.records.Record.{Record}
 use Rattle.policy_image.specs.Policy.{Policy}
-
--- ---- tests of the records of a list
--- whether some record passes the test
-abbrev pub someIn : List Record → (Record → Bool) → Bool
-someIn [] f = false
-someIn (r ∷ l) f = f r || someIn l f
-
--- whether every record passes the test
-abbrev pub everyIn : List Record → (Record → Bool) → Bool
-everyIn [] f = true
-everyIn (r ∷ l) f = f r && everyIn l f
 
 -- ---- the records of a policy
 -- records 1 to n, one after the other
@@ -80,17 +68,3 @@ policyFrom c l =
       head = firstIn l;
       rec = λ i. withNext (linkIn l i) (recordIn l i);
     }
-
--- ---- which lists, and which tests
--- kinds from a to 9, each record's at least that of the one before
-abbrev pub InTurnFrom : ℕ → List Record → Type 0
-InTurnFrom a [] = Unit
-InTurnFrom a (r ∷ l) = (a ≤ r .kind) × (r .kind ≤ 9) × InTurnFrom (r .kind) l
-
--- "kinds 1 to 9 in turn"
-abbrev pub KindsInTurn : List Record → Type 0
-KindsInTurn l = InTurnFrom 1 l
-
--- a test that does not look at the next
-abbrev pub IgnoresNext : (Record → Bool) → Type 0
-IgnoresNext f = (n : ℕ) (r : Record) → f (withNext n r) ≡ f r

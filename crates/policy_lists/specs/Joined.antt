@@ -9,7 +9,7 @@ use Rattle.policy_image.specs.declared.records.Record.{Record}
 use Rattle.policy_image.specs.Layout.{rootOf, leftOf, rightOf}
 use Rattle.policy_image.specs.Policy.{Policy}
 use Rattle.policy_expressions.specs.Nodes.{hasRoot, hasLeft, hasRight}
-use Rattle.policy_lists.specs.inner.Lists.{recordsUpto, ofKindIn, kindList, policyFrom}
+use Rattle.policy_lists.specs.Lists.{recordsUpto, ofKindIn, kindList, policyFrom}
 
 -- ---- counts: "The result's counts are the larger of each pair"
 abbrev pub larger : ℕ → ℕ → ℕ

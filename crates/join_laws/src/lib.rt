@@ -1,0 +1,1 @@
+// What the joined policy states: definitions and theorems alone.
