@@ -2,16 +2,18 @@
 -- (`right-unique`), so each theorem rules out what the misreading would answer.
 -- specs/cases/Drawings.antt has the drawings.
 use mathlib.Core.List.{[]}
-use Prim.Native.Nat.{_+_}
+use Prim.Native.Nat.{ℕ, _+_, _-_, _%_, _^_, _<_}
 use native.Mathlib.Omega.{arith}
 use Rattle.base.specs.Bits.{bit}
 use Rattle.paths.specs.Paths.{IsPath, BreaksEvents}
 use Rattle.paths.specs.Slice.{contextsIn, eventsIn, Shows}
+use Rattle.paths.specs.inner.Stages.{Advanced}
 use Rattle.paths.specs.inner.Verdict.{holds, order, events, Right}
 use Rattle.paths.specs.cases.Drawn.{drawnModel, except, failing, only}
 use Rattle.paths.specs.cases.Drawings.{selfRelease, startInFirst, oneLeg, startTooEarly, midTooEarly, highestAlone, lowestAlone, oneStepStays, repeatedStays, noStep, middleEvent, wrongPlace, bad, endGoesOn, outOfRange, metTwice, tie, fewest, pastTheEnd}
 use Rattle.paths.proofs.Drawn.{answer-by}
 use Rattle.paths.proofs.Monitors.{events-verdict}
+use Rattle.paths.proofs.StageLaws.{stageStep, step-law, low-args}
 
 -- ---- order
 -- "has no xl in σi with l < j". Context 1 is in σ1 and in σ2, and nothing before it is in σ1: it does not release itself.
@@ -141,6 +143,37 @@ order-on-a-tie = answer-by tie (order 1) tt
 pub fewest-steps : Right (drawnModel fewest) (events 1)
 unfolding bit
 fewest-steps = answer-by fewest (events 1) tt
+
+-- ---- stage sets: a step has one result (`advanced-one`), and here it is the one that the byte has, its arguments cut
+in-byte : (s r e c n : ℕ) → n < 8 → Advanced s r e c n (stageStep 8 (s % 2 ^ 8) (r % 2 ^ 8) (e % 2 ^ 8) (c % 2 ^ 8) n)
+in-byte s r e c n h = low-args h (step-law 8 (s % 2 ^ 8) (r % 2 ^ 8) (e % 2 ^ 8) (c % 2 ^ 8) n h)
+
+-- "Bits above n count for nothing on entry to a step": leg 0 of six goes on and ends, whatever is set besides. Bit 6 is stage n, from
+-- which no leg goes on (decision D37), and bit 7 the last that a byte has; misread as counting, they would end as bits 7 and 8.
+pub bits-6-7 : Advanced (1 + 2 ^ 6 + 2 ^ 7) 63 (2 ^ 8 - 1) (2 ^ 9 - 1) 6 3
+bits-6-7 = in-byte (1 + 2 ^ 6 + 2 ^ 7) 63 (2 ^ 8 - 1) (2 ^ 9 - 1) 6 (omega arith)
+
+-- bit 8 is the first that a byte has not, and bit 31 the last of all
+pub bit-8 : Advanced (1 + 2 ^ 8) 63 63 127 6 3
+bit-8 = in-byte (1 + 2 ^ 8) 63 63 127 6 (omega arith)
+
+pub bit-31 : Advanced (1 + 2 ^ 31) 63 63 127 6 3
+bit-31 = in-byte (1 + 2 ^ 31) 63 63 127 6 (omega arith)
+
+-- .. also those of the memberships: with all bits set in all four, stages 0 to 6 are possible, and no bit above
+pub all-bits : Advanced (2 ^ 32 - 1) (2 ^ 32 - 1) (2 ^ 32 - 1) (2 ^ 32 - 1) 6 127
+all-bits = in-byte (2 ^ 32 - 1) (2 ^ 32 - 1) (2 ^ 32 - 1) (2 ^ 32 - 1) 6 (omega arith)
+
+-- the last leg of six ends in stage 6, and of seven, which no goal has, in stage 7
+pub last-of-six : Advanced (2 ^ 5) 0 (2 ^ 5) (2 ^ 6) 6 (2 ^ 6)
+last-of-six = in-byte (2 ^ 5) 0 (2 ^ 5) (2 ^ 6) 6 (omega arith)
+
+pub last-of-seven : Advanced (2 ^ 6) 0 (2 ^ 6) (2 ^ 7) 7 (2 ^ 7)
+last-of-seven = in-byte (2 ^ 6) 0 (2 ^ 6) (2 ^ 7) 7 (omega arith)
+
+-- with eight legs bit 8 counts, which is why the 32-bit step stays for them (decision D96)
+pub last-of-eight : Advanced (2 ^ 7) 0 (2 ^ 7) (2 ^ 8) 8 (2 ^ 8)
+last-of-eight = step-law 32 (2 ^ 7) 0 (2 ^ 7) (2 ^ 8) 8 (omega arith)
 
 -- ---- what stands behind the end of a path counts for nothing
 -- "0 = p0 < p1 < .. < pn = m": 0, 1 ends in σ2 after one step, and two legs take two. Misread as pn ≥ m: events are followed by 0, 1, 2,

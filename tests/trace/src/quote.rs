@@ -60,24 +60,31 @@ fn homely(text: &str, label: &str) -> String {
     text.split(' ').map(word).collect::<Vec<_>>().join(" ")
 }
 
-/// The sentence that tells most of two types: what they come to. And the one that says that it cannot be told.
+/// The sentence that tells most of two types: what they come to. The one that has them as they are written, and the one that says that what
+/// they come to cannot be told.
 const COMPUTED: &str = "computed as far as they go";
+const EXPECTED: &str = "expected type";
 const UNTOLD: &str = "what the two types compute to is not shown";
 
+/// Where a sentence stands among those of its error.
+fn place_of(sentence: &str) -> usize {
+    let later = [EXPECTED, UNTOLD].iter().position(|start| sentence.starts_with(start));
+    later.map_or(if sentence.starts_with(COMPUTED) { 0 } else { 1 }, |at| at + 2)
+}
+
 /// The sentences of an error, one behind the other with semicolons. Which of them the prover puts into the line of the place hangs on the
-/// length of that place, so on the folder that the repository stands in: here what the types come to comes first, and that it cannot be told
-/// comes last, wherever they stood.
+/// length of that place, so on the folder that the repository stands in: here they come in one order, what the types come to first.
 fn joined(said: &Said) -> String {
     let (name, first) = theorem(&said.first);
     let mut sentences = vec![first.to_string()];
     for line in &said.more {
-        let begins = [COMPUTED, UNTOLD, "as printed", "expected type"].iter().any(|start| line.starts_with(start));
+        let begins = [COMPUTED, "as printed", EXPECTED, UNTOLD].iter().any(|start| line.starts_with(start));
         match sentences.last_mut() {
             Some(last) if !begins => *last += &format!(" {line}"),
             _ => sentences.push(line.clone()),
         }
     }
-    sentences.sort_by_key(|sentence| (!sentence.starts_with(COMPUTED), sentence.starts_with(UNTOLD)));
+    sentences.sort_by_key(|sentence| place_of(sentence));
     format!("{name}{}", sentences.join("; "))
 }
 
