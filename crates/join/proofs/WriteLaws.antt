@@ -17,6 +17,7 @@ use Rattle.policy_image.specs.Encoding.{countBytes, headerBytes, imageOf}
 use Rattle.policy_image.specs.inner.Writable.{WritableRecord, WritableCounts, WritableHeads, Writable}
 use Rattle.policy_image.proofs.FieldLaws.{counts-same}
 use Rattle.policy_image.proofs.EncodingLaws.{image-writable}
+use Rattle.policy_check.specs.inner.Sound.{Sound}
 use Rattle.policy_lists.specs.Lists.{kindList}
 use Rattle.policy_lists.specs.inner.Places.{nextUpto}
 use Rattle.policy_lists.specs.Joined.{ofKindsUpto, nodesUpto, largerCounts, joinedKind, joined}
@@ -109,6 +110,25 @@ module _ {s t : List ℕ} {c d : Counts} {room : ℕ} (G : Joinable s t c d room
           (subst (λ (l : List ℕ). Filled (λ i v. v ≡ byteAt l i) old new 0 0 24)
           (ap₂ _++_ (ap countBytes (r ∙ counts-are)) (list-same (λ k. low16 (getD h k 0)) (λ k. low16 (j .head k)) 9 (λ k l u. ap low16 (heads-are k l u)))) F)
 
+  -- ---- a run of either policy, whose image is x, that the joined policy has at its place
+  run-fits : {x : List ℕ} → Sound x → (run : Run) → RunIn j (policyOf x) run → Within 1 9 (run .kind)
+      → run .before + length (kindList (policyOf x) (run .kind)) ≤ j .size → run .shift + length (kindList (policyOf x) 9) ≤ j .size
+      → (output : ℕ) (nodes : List ℕ) → room ≤ output → NodeTable (policyOf x) nodes → RunFits x nodes run output
+  run-fits {x} S run R kind place shift output nodes long T =
+      let o : Policy = policyOf x in
+      record {
+        exact = S .exact;
+        links = S .links;
+        chains = S .chains;
+        nodes = S .nodes;
+        kind = kind;
+        table = T;
+        most = omega (arith, place, whole-size, G .few);
+        room = omega (arith, place, whole-size, G .room, long);
+        shifted = λ i h. let f = upto-more-length (o .rec) 9 i (o .size) h in omega (arith, f, shift, whole-size, G .few);
+        writable = λ i h e. subst WritableRecord (R .same i h e) (writable .fields (runPlace o run i) (record { low = omega arith; high = R .high i h e }));
+      }
+
   -- ---- the runs of kind k + 1
   module _ (run : Run) (k : ℕ) (u : suc k ≤ 9) (kind : run .kind ≡ suc k) (last : run .last ≡ ends (suc k)) where
     in-range : Within 1 9 (run .kind)
@@ -117,53 +137,30 @@ module _ {s t : List ℕ} {c d : Counts} {room : ℕ} (G : Joinable s t c d room
     next-end : ends (suc k) ≡ ends k + length (kindList p (suc k)) + length (kindList q (suc k))
     next-end = let x = joined-count p q (suc k) in let y = joined-count p q k in omega arith
 
+    -- what ends up to the kind's end, or up to the nodes of both, ends up to the last record
+    up-to-kind : (n : ℕ) → n ≤ ends (suc k) → n ≤ j .size
+    up-to-kind n h = let r = endings-rise (joinedKind p q) (suc k) 9 u in omega arith
+
+    up-to-nodes : (n : ℕ) → n ≤ ends 8 + length (kindList p 9) + length (kindList q 9) → n ≤ j .size
+    up-to-nodes n h = let x = joined-count p q 8 in let y = joined-count p q 9 in omega arith
+
     module _ (before : run .before ≡ ends k) (shift : run .shift ≡ ends 8) where
       makers-in : RunIn j p run
       makers-in = maker-run p q run k u kind last before (shift ∙ joined-count p q 8)
 
       makers-fit : (output : ℕ) (nodes : List ℕ) → room ≤ output → NodeTable p nodes → RunFits s nodes run output
-      makers-fit output nodes long T =
-          let m = ends-most (suc k) u in
-          let x = next-end in
+      makers-fit =
           let y = ap (λ (i : ℕ). length (kindList p i)) kind in
-          let r = endings-rise (joinedKind p q) (suc k) 9 u in
-          record {
-            exact = G .maker .exact;
-            links = G .maker .links;
-            chains = G .maker .chains;
-            nodes = G .maker .nodes;
-            kind = in-range;
-            table = T;
-            most = omega arith;
-            room = omega (arith, G .room, whole-size, long);
-            shifted = λ i h. let f = upto-more-length (p .rec) 9 i (p .size) h in let g = joined-count p q 9 in let e8 = joined-count p q 8 in omega (arith, f, g, e8, shift, whole-size, G .few);
-            writable = λ i h e.
-                subst WritableRecord (makers-in .same i h e) (writable .fields (runPlace p run i) (record { low = omega arith; high = makers-in .high i h e }));
-          }
+          run-fits (G .maker) run makers-in in-range (up-to-kind _ (omega (arith, next-end, y, before))) (up-to-nodes _ (omega (arith, shift)))
 
     module _ (before : run .before ≡ ends k + length (kindList p (suc k))) (shift : run .shift ≡ ends 8 + length (kindList p 9)) where
       boards-in : RunIn j q run
       boards-in = board-run p q run k u kind last before (shift ∙ ap (λ (x : ℕ). x + length (kindList p 9)) (joined-count p q 8))
 
       boards-fit : (output : ℕ) (nodes : List ℕ) → room ≤ output → NodeTable q nodes → RunFits t nodes run output
-      boards-fit output nodes long T =
-          let m = ends-most (suc k) u in
-          let x = next-end in
+      boards-fit =
           let y = ap (λ (i : ℕ). length (kindList q i)) kind in
-          let r = endings-rise (joinedKind p q) (suc k) 9 u in
-          record {
-            exact = G .board .exact;
-            links = G .board .links;
-            chains = G .board .chains;
-            nodes = G .board .nodes;
-            kind = in-range;
-            table = T;
-            most = omega arith;
-            room = omega (arith, G .room, whole-size, long);
-            shifted = λ i h. let f = upto-more-length (q .rec) 9 i (q .size) h in let g = joined-count p q 9 in let e8 = joined-count p q 8 in omega (arith, f, g, e8, shift, whole-size, G .few);
-            writable = λ i h e.
-                subst WritableRecord (boards-in .same i h e) (writable .fields (runPlace q run i) (record { low = omega arith; high = boards-in .high i h e }));
-          }
+          run-fits (G .board) run boards-in in-range (up-to-kind _ (omega (arith, next-end, y, before))) (up-to-nodes _ (omega (arith, shift)))
 
   -- ---- one kind after the other
   module _ (k : ℕ) (low : 1 ≤ k) (high : k ≤ 9) (run : Run) (kind : run .kind ≡ k) (last : run .last ≡ ends k) where
