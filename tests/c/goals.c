@@ -37,9 +37,7 @@ static uint64_t ask(size_t work1_length, size_t work2_length, size_t path_length
 
 static int untouched_from(unsigned entry)
 {
-    while (entry < PATH && path[entry] == UNTOUCHED)
-        entry++;
-    return entry == PATH;
+    return all_from(path, entry, PATH, UNTOUCHED);
 }
 
 static void expect_refused(const char *what, unsigned number)

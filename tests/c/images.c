@@ -148,6 +148,13 @@ void *lent(const void *source, size_t length)
     return copy;
 }
 
+int all_from(const uint32_t *entries, size_t from, size_t end, uint32_t value)
+{
+    while (from < end && entries[from] == value)
+        from++;
+    return from == end;
+}
+
 void expect(const char *what, uint64_t got, uint64_t wanted)
 {
     if (got == wanted) {

@@ -49,6 +49,9 @@ size_t read_image(const char *folder, const char *name, uint8_t *bytes, size_t m
  * source, bytes that nobody set, so that it sees where an answer hangs on what they are. To be freed. */
 void *lent(const void *source, size_t length);
 
+/* Whether the entries from one on, up to the end, all have the value. */
+int all_from(const uint32_t *entries, size_t from, size_t end, uint32_t value);
+
 /* Counts one check, and prints what it got where that is not what was wanted. */
 void expect(const char *what, uint64_t got, uint64_t wanted);
 /* Holds the result of a call to the number of the specification, and what the header's macros take out of it to its parts. */

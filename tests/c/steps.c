@@ -41,9 +41,7 @@ static uint64_t ask(struct context x, struct context y, size_t work1_length, siz
 
 static int untouched_from(unsigned entry)
 {
-    while (entry < PATH && path[entry] == UNTOUCHED)
-        entry++;
-    return entry == PATH;
+    return all_from(path, entry, PATH, UNTOUCHED);
 }
 
 static void expect_refused(const char *what, uint64_t result, uint64_t steps, unsigned number)
