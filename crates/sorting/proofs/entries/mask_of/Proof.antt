@@ -1,7 +1,7 @@
 use borrow.Author.Needs.{needs}
 use borrow.Author.Tests.{lt-ltb, le-ltb}
-use Rattle.plan_index.proofs.unite.mask_of.Statement.{statement}
-use Rattle.plan_index.proofs.unite.mask_of.Tie as tie
+use Rattle.sorting.proofs.entries.mask_of.Statement.{statement}
+use Rattle.sorting.proofs.entries.mask_of.Tie as tie
 
 pub mask-of-spec : {M : Type 1} → statement M
 mask-of-spec =

@@ -1,7 +1,7 @@
 use borrow.Author.Needs.{needs}
-use Rattle.plan_index.proofs.UniteLaws.{placed-last, placed-next}
-use Rattle.plan_index.proofs.unite.entry_for.Statement.{statement}
-use Rattle.plan_index.proofs.unite.entry_for.Tie as tie
+use Rattle.sorting.proofs.EntryLaws.{placed-last, placed-next}
+use Rattle.sorting.proofs.entries.entry_for.Statement.{statement}
+use Rattle.sorting.proofs.entries.entry_for.Tie as tie
 
 pub entry-for-spec : {M : Type 1} → statement M
 entry-for-spec =
