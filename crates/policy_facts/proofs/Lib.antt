@@ -1,0 +1,9 @@
+pub mod KindsLaws
+pub mod GatherLaws
+pub mod FactListLaws
+pub mod MaskLaws
+pub mod FactTableLaws
+pub mod FactFieldLaws
+pub mod KeyLaws
+pub mod StatedLaws
+pub mod RelationLaws

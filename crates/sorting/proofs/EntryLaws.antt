@@ -11,10 +11,10 @@ use lib.Dec.{ltb}
 use lib.ListN.{length, getD, set}
 use lib.Seq.{getD-set-same, getD-set-other}
 use Rattle.base.specs.Bits.{bit}
-use Rattle.base.proofs.Numbers.{split-eq}
+use Rattle.base.proofs.Numbers.{split-eq, below-or}
 use Rattle.sorting.specs.inner.Order.{Ordered}
 use Rattle.sorting.specs.inner.Entries.{codeIn, HasCode, Gives, Bears, RisingKeys, CodesRise, Placed, EntryKeys, Unites}
-use Rattle.sorting.proofs.MaskLaws.{below-or, bit-or-cases, bit-or-left, bit-or-right, bit-where, bit-there}
+use Rattle.sorting.proofs.MaskLaws.{bit-or-cases, bit-or-left, bit-or-right, bit-where, bit-there}
 
 -- ---- where the entry of a code belongs
 module _ {keys : List ℕ} {m code : ℕ} (R : CodesRise keys m code) (some : m ≡ 0 → ⊥) where

@@ -1,17 +1,12 @@
--- Bits of united and of cut masks, and a number below n + 1.
+-- Bits of united and of cut masks.
 use mathlib.Core.Path.{_≡_, refl, sym, _∙_}
 use mathlib.Core.Bool.{Bool, true, false, cond}
 use mathlib.Core.Logic.{_⊎_}
-use Prim.Native.Nat.{ℕ, _+_, _<_}
-use native.Mathlib.Nat.{eq-or-lt-of-le}
-use native.Mathlib.Omega.{arith}
+use Prim.Native.Nat.{ℕ}
 use lib.Bits.{bitAnd, bitOr}
 use Rattle.base.specs.Bits.{bit}
 use Rattle.base.proofs.BitLaws.{bit-and, bit-or, bit-zero}
 use Rattle.base.proofs.BoolLaws.{clash, or-true, or-left, or-cases, and-true, and-first, and-second}
-
-pub below-or : {i n : ℕ} → i < n + 1 → (i ≡ n) ⊎ (i < n)
-below-or l = eq-or-lt-of-le (omega arith)
 
 pub bit-or-cases : (a b p : ℕ) → bit (bitOr a b) p ≡ true → (bit a p ≡ true) ⊎ (bit b p ≡ true)
 bit-or-cases a b p e = or-cases (bit a p) (bit b p) (sym (bit-or a b p) ∙ e)
