@@ -1,15 +1,14 @@
 -- A table of the facts of a policy has the records of kinds 1 to 7 of its canonical policy, in their order.
 use Prim.Native.Nat.{ℕ, zero, suc, _+_, _-_, _*_, _/_, _%_, _≤_, _<_}
 use mathlib.Core.Path.{_≡_, refl, sym, ap, ap₂, _∙_}
-use mathlib.Core.Bool.{Bool, true, false, cond}
+use mathlib.Core.Bool.{Bool, cond}
 use mathlib.Core.List.{List, [], _∷_, _++_, append-nil}
 use mathlib.Core.Logic.{⊎-elim}
 use native.Mathlib.Nat.{eq-or-lt-of-le}
 use native.Mathlib.Omega.{arith}
-use borrow.Author.Tests.{eq-eqb, ne-eqb, eqb-true, eqb-false}
+use borrow.Author.Tests.{eq-eqb, ne-eqb}
 use lib.Dec.{eqb}
-use lib.ListN.{length, getD, List·getD-append}
-use lib.Seq.{getD-append-add}
+use lib.ListN.{length, getD}
 use Rattle.base.proofs.Numbers.{split-eq, split-le}
 use Rattle.base.proofs.BoolLaws.{true-or-false}
 use Rattle.policy_image.specs.declared.records.Record.{Record}
@@ -19,8 +18,8 @@ use Rattle.policy_lists.specs.Joined.{kindsUpto}
 use Rattle.policy_lists.proofs.ListLaws.{upto-length}
 use Rattle.policy_facts.specs.Facts.{isWritten}
 use Rattle.policy_facts.specs.Canonical.{keyA, keyB, keyC, keyNumbers, factRecord, factAt, factKind}
-use Rattle.policy_facts.specs.inner.FactTable.{kindIn, numberIn, tableRecord, Written, FactTable}
-use Rattle.policy_facts.proofs.KindsLaws.{kinds-of}
+use Rattle.policy_facts.specs.inner.FactTable.{kindIn, numberIn, tableRecord, FactTable}
+use Rattle.policy_facts.proofs.KindsLaws.{upto-at, kinds-of}
 use Rattle.policy_facts.proofs.GatherLaws.{gather, gather-same, gather-next, gather-none, gather-more}
 use Rattle.policy_facts.proofs.FactListLaws.{facts-gather, fact-own}
 
@@ -123,17 +122,6 @@ module _ (f : ℕ → List Record) (key : ℕ → ℕ) (row : ℕ → Record) (m
       (λ l. let a = B .1 .most in omega arith) (split-le (suc i) m))
 
 -- ---- the table
-upto-at : (rec : ℕ → Record) (m i : ℕ) → i < m → getD (recordsUpto rec m) i noRecord ≡ rec (suc i)
-upto-at rec zero i h = let z : ⊥ = omega arith in absurd z
-upto-at rec (suc m) i h =
-    let n = upto-length rec m in
-    ⊎-elim
-    (λ (e : i ≡ m).
-    ap (λ (j : ℕ). getD (recordsUpto rec m ++ (rec (suc m) ∷ [])) j noRecord) (let q : i ≡ length (recordsUpto rec m) + 0 = omega arith in q)
-    ∙ getD-append-add (recordsUpto rec m) (rec (suc m) ∷ []) 0 noRecord ∙ ap (λ (j : ℕ). rec (suc j)) (sym e))
-    (λ (l : i < m). List·getD-append (recordsUpto rec m) (rec (suc m) ∷ []) noRecord i (omega arith) ∙ upto-at rec m i l)
-    (eq-or-lt-of-le (let b : i ≤ m = omega arith in b))
-
 module _ {p : Policy} {keys masks : List ℕ} {m : ℕ} (T : FactTable p keys masks m) where
   abbrev keyAt : ℕ → ℕ
   keyAt i = getD keys i 0

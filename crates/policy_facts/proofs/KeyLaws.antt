@@ -19,9 +19,6 @@ use Rattle.policy_facts.specs.Canonical.{keyA, keyB, keyC, keyNumbers}
 abbrev pub SaysBoth : Record → Type 0
 SaysBoth r = (r .kind ≡ 3) × (r .b ≡ 3)
 
-abbrev OneOrTwo : ℕ → Type 0
-OneOrTwo b = (b ≡ 1) ⊎ (b ≡ 2)
-
 module _ (r : Record) where
   abbrev bothTest : Bool
   bothTest = eqb (r .kind) 3 && eqb (r .b) 3

@@ -7,3 +7,14 @@ pub mod FactFieldLaws
 pub mod KeyLaws
 pub mod StatedLaws
 pub mod RelationLaws
+pub mod RenumberTwiceLaws
+pub mod PolicyFromLaws
+pub mod SameLaws
+pub mod CanonicalSameLaws
+pub mod WrittenKeyLaws
+pub mod CanonicalTurnLaws
+pub mod CanonicalStemLaws
+pub mod CanonicalNodeLaws
+pub mod CanonicalFieldLaws
+pub mod CanonicalWritableLaws
+pub mod CanonicalSourceLaws

@@ -6,9 +6,9 @@ use mathlib.Core.Logic.{_⊎_, inl, inr, ⊎-elim}
 use native.Mathlib.Nat.{eq-or-lt-of-le}
 use native.Mathlib.Omega.{arith}
 use borrow.Author.Tests.{lt-ltb}
-use lib.Dec.{ltb}
 use lib.Pow.{pow-pos, high, low}
 use Rattle.base.specs.Bits.{bit}
+use Rattle.base.proofs.Numbers.{split-le}
 use Rattle.base.proofs.BoolLaws.{clash, true-or-false}
 use Rattle.base.proofs.BitLaws.{bit-above, bit-zero, bit-mod, bit-shr, bit-ext}
 use Rattle.policy_facts.specs.Facts.{maskOf}
@@ -36,6 +36,10 @@ module _ (m n : ℕ) (h : m < 2 ^ n) where
   -- .. and else it has one
   pub mask-some : (m ≡ 0 → ⊥) → (i : ℕ) × (i < n) × (bit m i ≡ true)
   mask-some d = ⊎-elim (λ s. s) (λ a. absurd (d (mask-none a))) (find-below (bit m) n)
+
+  -- all its bits are below n
+  pub bit-below : (i : ℕ) → bit m i ≡ true → i < n
+  bit-below i e = ⊎-elim (λ l. absurd (clash e (bit-above {m = m} {k = n} i h l))) (λ l. l) (split-le n i)
 
 -- ---- the mask of f
 module _ (f : ℕ → Bool) where

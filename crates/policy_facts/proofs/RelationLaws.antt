@@ -74,11 +74,14 @@ module _ (k : ℕ) (f : Record → Bool) (B : ByKey k f) where
 
 -- a test of a, b and c, of any kind but flow
 fields-key : (k : ℕ) → (k ≡ 3 → ⊥) → (g : ℕ → ℕ → ℕ → Bool) → ByKey k (λ r. g (r .a) (r .b) (r .c))
-fields-key k d g r e h =
-    (r .b, says-one r (r .b) (λ s. d (sym e ∙ s .0)) refl, λ s κ t.
-    let K = key-has (r .a) (r .b) (r .c) s t in
-    let b : s .b ≡ r .b = ⊎-elim (λ x. absurd (d (sym κ ∙ x .0 .0))) (λ x. x .1) (says-cases s (r .b) (K .1)) in
-    (λ j. g (K .0 j) (b j) (K .2 j)) ∙ h)
+fields-key k d g r e h = (
+  r .b,
+  says-one r (r .b) (λ s. d (sym e ∙ s .0)) refl,
+  λ s κ t.
+      let K = key-has (r .a) (r .b) (r .c) s t in
+      let b : s .b ≡ r .b = ⊎-elim (λ x. absurd (d (sym κ ∙ x .0 .0))) (λ x. x .1) (says-cases s (r .b) (K .1)) in
+      (λ j. g (K .0 j) (b j) (K .2 j)) ∙ h,
+)
 
 -- the test of a flow record's class and way
 abbrev flowTest : ℕ → ℕ → Record → Bool
@@ -102,11 +105,14 @@ module _ (way : ℕ) (w : (way ≡ 1) ⊎ (way ≡ 2)) (r : Record) where
       (says-cases r way h)
 
 flow-key : (c way : ℕ) → (way ≡ 1) ⊎ (way ≡ 2) → ByKey 3 (flowTest c way)
-flow-key c way w r e h =
-    (way, flow-says way w r e (and-second (eqb (r .a) c) (eqb (r .b) way || eqb (r .b) 3) h), λ s κ t.
-    let K = key-has (r .a) way (r .c) s t in
-    and-true (eqb (s .a) c) (eqb (s .b) way || eqb (s .b) 3)
-    (ap (λ (n : ℕ). eqb n c) (K .0) ∙ and-first (eqb (r .a) c) (eqb (r .b) way || eqb (r .b) 3) h) (says-flow way w s (K .1)))
+flow-key c way w r e h = (
+  way,
+  flow-says way w r e (and-second (eqb (r .a) c) (eqb (r .b) way || eqb (r .b) 3) h),
+  λ s κ t.
+      let K = key-has (r .a) way (r .c) s t in
+      and-true (eqb (s .a) c) (eqb (s .b) way || eqb (s .b) 3)
+      (ap (λ (n : ℕ). eqb n c) (K .0) ∙ and-first (eqb (r .a) c) (eqb (r .b) way || eqb (r .b) 3) h) (says-flow way w s (K .1)),
+)
 
 -- ---- the tests of the relations
 module _ {p q : Policy} (S : SameFacts p q) where

@@ -9,9 +9,7 @@ use borrow.Author.Tests.{le-leb, ne-eqb, eqb-false, not-true}
 use lib.Dec.{eqb, leb}
 use Rattle.base.specs.Bits.{bit}
 use Rattle.base.specs.Ranges.{Within}
-use Rattle.base.proofs.Numbers.{split-le}
-use Rattle.base.proofs.BoolLaws.{clash, same-truth, and-true, and-first, and-second}
-use Rattle.base.proofs.BitLaws.{bit-above}
+use Rattle.base.proofs.BoolLaws.{same-truth, and-true, and-first, and-second}
 use Rattle.policy_image.specs.declared.records.Record.{Record}
 use Rattle.policy_image.specs.Counts.{CountsInRange}
 use Rattle.policy_image.specs.Policy.{Policy}
@@ -24,12 +22,12 @@ use Rattle.policy_lists.specs.inner.Tests.{someIn, IgnoresNext}
 use Rattle.policy_lists.proofs.ListLaws.{some-kind, some-from}
 use Rattle.policy_lists.proofs.RenumberLaws.{renumbered-kind}
 use Rattle.policy_lists.proofs.JoinTurnLaws.{Each}
-use Rattle.policy_facts.specs.Facts.{saysB, hasKey, states, permits, unitedMask, carriesMask, isWritten}
+use Rattle.policy_facts.specs.Facts.{hasKey, states, permits, unitedMask, carriesMask, isWritten}
 use Rattle.policy_facts.specs.Canonical.{keyA, keyB, keyC, keyNumbers, factRecord, factKind, canonicalNode, canonicalKind, canonicalList, canonicalOf}
 use Rattle.policy_facts.specs.inner.FactTable.{Written}
 use Rattle.policy_facts.proofs.KindsLaws.{kind-own, kinds-of}
 use Rattle.policy_facts.proofs.FactListLaws.{fact-own, fact-yes, fact-some}
-use Rattle.policy_facts.proofs.MaskLaws.{mask-bit, mask-above, mask-holds, mask-found}
+use Rattle.policy_facts.proofs.MaskLaws.{bit-below, mask-small, mask-bit, mask-holds, mask-found}
 use Rattle.policy_facts.proofs.FactFieldLaws.{mask-within, fact-fields}
 use Rattle.policy_facts.proofs.KeyLaws.{says-cases, says-one, says-no-three, says-low, has-key, key-has, states-record, permits-record, KeyOf, key-number}
 
@@ -59,23 +57,20 @@ module _ (p : Policy) where
 -- ---- which keys are written
 module _ (p : Policy) (k : ℕ) where
   module _ (a b c : ℕ) where
-    written-bare : carriesMask k ≡ false → isWritten p k a b c ≡ states p k a b c
-    written-bare m = ap (λ (t : Bool). cond t (not (eqb (unitedMask p k a b c) 0)) (states p k a b c)) m
-
-    written-mask : carriesMask k ≡ true → isWritten p k a b c ≡ not (eqb (unitedMask p k a b c) 0)
-    written-mask m = ap (λ (t : Bool). cond t (not (eqb (unitedMask p k a b c) 0)) (states p k a b c)) m
+    pub written-by : (t : Bool) → carriesMask k ≡ t → isWritten p k a b c ≡ cond t (not (eqb (unitedMask p k a b c) 0)) (states p k a b c)
+    written-by t m = ap (λ (t : Bool). cond t (not (eqb (unitedMask p k a b c) 0)) (states p k a b c)) m
 
     -- of a kind that carries a mask, those with some permission
-    mask-written : carriesMask k ≡ true → (i : ℕ) → i < 32 → permits p k a b c i ≡ true → isWritten p k a b c ≡ true
-    mask-written m i h e = written-mask m ∙ ap not (ne-eqb (unitedMask p k a b c) 0 (mask-holds (permits p k a b c) 32 i h e))
+    pub mask-written : carriesMask k ≡ true → (i : ℕ) → i < 32 → permits p k a b c i ≡ true → isWritten p k a b c ≡ true
+    mask-written m i h e = written-by true m ∙ ap not (ne-eqb (unitedMask p k a b c) 0 (mask-holds (permits p k a b c) 32 i h e))
 
-    mask-permits : carriesMask k ≡ true → isWritten p k a b c ≡ true → (i : ℕ) × (i < 32) × (permits p k a b c i ≡ true)
+    pub mask-permits : carriesMask k ≡ true → isWritten p k a b c ≡ true → (i : ℕ) × (i < 32) × (permits p k a b c i ≡ true)
     mask-permits m w =
         mask-found (permits p k a b c) 32
-        (eqb-false (unitedMask p k a b c) 0 (not-true (eqb (unitedMask p k a b c) 0) (sym (written-mask m) ∙ w)))
+        (eqb-false (unitedMask p k a b c) 0 (not-true (eqb (unitedMask p k a b c) 0) (sym (written-by true m) ∙ w)))
 
     -- a flow record's 3 is none of them
-    no-three : isWritten p k a b c ≡ true → k ≡ 3 → b ≡ 3 → ⊥
+    pub no-three : isWritten p k a b c ≡ true → k ≡ 3 → b ≡ 3 → ⊥
     no-three w e h =
         let s = mask-permits (ap carriesMask e) w in
         let r = permits-record p k a b c (s .0) (s .2) in
@@ -83,12 +78,12 @@ module _ (p : Policy) (k : ℕ) where
 
   -- ---- the record of a key that is written has that key alone
   module _ (x a b c : ℕ) (w : Written p k x) where
-    own-key : KeyOf a b c x → hasKey a b c (factRecord p k x) ≡ true
+    pub own-key : KeyOf a b c x → hasKey a b c (factRecord p k x) ≡ true
     own-key K =
         has-key a b c (factRecord p k x) (K .isA)
         (says-one (factRecord p k x) b (λ s. no-three (keyA x) (keyB x) (keyC x) w (s .0) (s .1)) (K .isB)) (K .isC)
 
-    key-own : hasKey a b c (factRecord p k x) ≡ true → KeyOf a b c x
+    pub key-own : hasKey a b c (factRecord p k x) ≡ true → KeyOf a b c x
     key-own e =
         let h = key-has a b c (factRecord p k x) e in
         record {
@@ -111,7 +106,7 @@ at-key g a b c x K = λ j. g (K .isA j) (K .isB j) (K .isC j)
 
 module _ (p : Policy) (C : CountsInRange (p .counts)) (E : FieldsInRange p) (k a b c : ℕ) where
   -- a key that some record has is a number
-  stated-number : (i : ℕ) → Within 1 7 k → OfKind p k i → hasKey a b c (p .rec i) ≡ true → (x : ℕ) × (x < keyNumbers) × KeyOf a b c x
+  pub stated-number : (i : ℕ) → Within 1 7 k → OfKind p k i → hasKey a b c (p .rec i) ≡ true → (x : ℕ) × (x < keyNumbers) × KeyOf a b c x
   stated-number i w o e =
       let r = p .rec i in
       let F = fact-fields p C E k i w o in
@@ -124,14 +119,14 @@ module _ (p : Policy) (C : CountsInRange (p .counts)) (E : FieldsInRange p) (k a
     key-stated e =
         let s = fact-some p k (hasKey a b c) keyNumbers e in
         let x : ℕ = s .0 in
-        sym (at-key (states p k) a b c x (key-own p k x a b c (s .2) (s .3))) ∙ sym (written-bare p k (keyA x) (keyB x) (keyC x) m) ∙ s .2
+        sym (at-key (states p k) a b c x (key-own p k x a b c (s .2) (s .3))) ∙ sym (written-by p k (keyA x) (keyB x) (keyC x) false m) ∙ s .2
 
     stated-key : states p k a b c ≡ true → someIn (factKind p k) (hasKey a b c) ≡ true
     stated-key e =
         let s = states-record p k a b c e in
         let n = stated-number (s .0) w (s .1) (s .2) in
         let x : ℕ = n .0 in
-        let t : Written p k x = written-bare p k (keyA x) (keyB x) (keyC x) m ∙ at-key (states p k) a b c x (n .2) ∙ e in
+        let t : Written p k x = written-by p k (keyA x) (keyB x) (keyC x) false m ∙ at-key (states p k) a b c x (n .2) ∙ e in
         fact-yes p k (hasKey a b c) keyNumbers x (n .1) t (own-key p k x a b c t (n .2))
 
     pub states-canonical : states (canonicalOf p) k a b c ≡ states p k a b c
@@ -152,8 +147,8 @@ module _ (p : Policy) (C : CountsInRange (p .counts)) (E : FieldsInRange p) (k a
         let K = key-own p k x a b c (s .2) (and-first (hasKey a b c r) (bit (r .mask) i) (s .3)) in
         let h = and-second (hasKey a b c r) (bit (r .mask) i) (s .3) in
         let f : ℕ → Bool = permits p k (keyA x) (keyB x) (keyC x) in
-        ⊎-elim (λ l. absurd (clash h (mask-above f 32 i l)))
-        (λ l. sym (at-key (λ a b c. permits p k a b c i) a b c x K) ∙ sym (mask-bit f 32 i l) ∙ h) (split-le 32 i)
+        let l = bit-below (r .mask) 32 (mask-small f 32) i h in
+        sym (at-key (λ a b c. permits p k a b c i) a b c x K) ∙ sym (mask-bit f 32 i l) ∙ h
 
     stated-bit : permits p k a b c i ≡ true → someIn (factKind p k) bitTest ≡ true
     stated-bit e =
@@ -162,7 +157,7 @@ module _ (p : Policy) (C : CountsInRange (p .counts)) (E : FieldsInRange p) (k a
         let n = stated-number (s .0) w (s .1) (s .2) in
         let x : ℕ = n .0 in
         let r = factRecord p k x in
-        let l : i < 32 = ⊎-elim (λ h. absurd (clash (s .3) (bit-above {m = p .rec (s .0) .mask} {k = 32} i (fact-fields p C E k (s .0) w (s .1) .mask) h))) (λ h. h) (split-le 32 i) in
+        let l : i < 32 = bit-below (p .rec (s .0) .mask) 32 (fact-fields p C E k (s .0) w (s .1) .mask) i (s .3) in
         let h : permits p k (keyA x) (keyB x) (keyC x) i ≡ true = at-key (λ a b c. permits p k a b c i) a b c x (n .2) ∙ e in
         let t : Written p k x = mask-written p k (keyA x) (keyB x) (keyC x) m i l h in
         fact-yes p k bitTest keyNumbers x (n .1) t

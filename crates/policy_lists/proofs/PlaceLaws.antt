@@ -32,7 +32,7 @@ module _ (lists : ℕ → List Record) where
   abbrev pub ending : ℕ → ℕ
   ending k = length (kindsUpto lists k)
 
-  ending-next : (k : ℕ) → ending (suc k) ≡ ending k + length (lists (suc k))
+  pub ending-next : (k : ℕ) → ending (suc k) ≡ ending k + length (lists (suc k))
   ending-next k = length-append (kindsUpto lists k) (lists (suc k))
 
   pub endings-rise : (a b : ℕ) → a ≤ b → ending a ≤ ending b

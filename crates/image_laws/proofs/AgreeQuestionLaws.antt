@@ -20,8 +20,8 @@ use Rattle.policy_sources.specs.Sources.{domain, AllowsFromDomains}
 use Rattle.context.specs.declared.Context.{Context}
 use Rattle.context.specs.declared.Event.{Event}
 use Rattle.constraints.specs.Constraints.{constrains, constraintsHold}
-use Rattle.join_laws.proofs.AgreeLaws.{Agrees, agrees-back, agrees-record, agrees-kind, some-agrees, every-agrees}
-use Rattle.join_laws.proofs.CarryLaws.{Carried, carried-root, says}
+use Rattle.image_laws.proofs.AgreeLaws.{Agrees, agrees-back, agrees-record, agrees-kind, some-agrees, every-agrees}
+use Rattle.image_laws.proofs.CarryLaws.{Carried, carried-root, says}
 
 module _ (p q : Policy) (A : Agrees p q) where
   -- a record of q is the same record of p

@@ -1,0 +1,2 @@
+pub mod CanonicalEvalLaws
+pub mod CanonicalWrittenLaws
