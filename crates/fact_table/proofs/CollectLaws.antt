@@ -16,7 +16,7 @@ use Rattle.policy_image.specs.Policy.{Policy}
 use Rattle.policy_facts.specs.Facts.{saysB}
 use Rattle.policy_facts.specs.inner.FactTable.{factKey}
 use Rattle.sorting.specs.inner.Entries.{codeIn}
-use Rattle.fact_table.specs.inner.Collect.{isFact, saysBoth, Says, StandsAmong, Entered, Collected}
+use Rattle.fact_table.specs.inner.Collect.{isFact, saysBoth, SaysFact, StandsAmong, FactsEntered, Collected}
 
 -- ---- what a record says
 module _ (r : Record) (fact : isFact r ≡ true) where
@@ -35,11 +35,11 @@ module _ (r : Record) (fact : isFact r ≡ true) where
   both-says : saysBoth r ≡ true → (b : ℕ) → (eqb b 1 || eqb b 2) ≡ true → saysB r b ≡ true
   both-says y b e = ap (λ (t : Bool). cond t (eqb b 1 || eqb b 2) (eqb (r .b) b)) y ∙ e
 
-  says-with : (b code mask : ℕ) → saysB r b ≡ true → code ≡ factKey (r .kind) (r .a) b (r .c) → mask ≡ r .mask → Says r code mask
+  says-with : (b code mask : ℕ) → saysB r b ≡ true → code ≡ factKey (r .kind) (r .a) b (r .c) → mask ≡ r .mask → SaysFact r code mask
   says-with b code mask s c m = record { fact = fact; b = b; says = s; code-is = c; mask-is = m }
 
 -- ---- what it says is written
-pub entered-none : (r : Record) (n : ℕ) (codes given : List ℕ) → isFact r ≡ false → Entered r n codes given codes given n
+pub entered-none : (r : Record) (n : ℕ) (codes given : List ℕ) → isFact r ≡ false → FactsEntered r n codes given codes given n
 entered-none r n codes given f =
     record {
       low = omega arith;
@@ -52,7 +52,7 @@ entered-none r n codes given f =
 
 module _ (r : Record) (n : ℕ) (codes given : List ℕ) (fact : isFact r ≡ true) where
   pub entered-one : saysBoth r ≡ false → n < length codes → n < length given → (v : ℕ) → v ≡ factKey (r .kind) (r .a) (r .b) (r .c)
-      → Entered r n codes given (set codes n v) (set given n (r .mask)) (n + 1)
+      → FactsEntered r n codes given (set codes n v) (set given n (r .mask)) (n + 1)
   entered-one f rc rg v e =
       record {
         low = omega arith;
@@ -60,7 +60,7 @@ module _ (r : Record) (n : ℕ) (codes given : List ℕ) (fact : isFact r ≡ tr
         code-stays = λ x l. getD-set-other codes n x v 0 (λ q. omega arith);
         mask-stays = λ x l. getD-set-other given n x (r .mask) 0 (λ q. omega arith);
         sound = λ x a b.
-            subst (λ (x : ℕ). Says r (codeIn (set codes n v) x) (codeIn (set given n (r .mask)) x)) (let q : n ≡ x = omega arith in q)
+            subst (λ (x : ℕ). SaysFact r (codeIn (set codes n v) x) (codeIn (set given n (r .mask)) x)) (let q : n ≡ x = omega arith in q)
             (says-with r fact (r .b) _ _ (one-says r fact f) (getD-set-same codes n v 0 rc ∙ e) (getD-set-same given n (r .mask) 0 rg));
         every = λ c g s.
             record {
@@ -91,7 +91,7 @@ module _ (r : Record) (n : ℕ) (codes given : List ℕ) (fact : isFact r ≡ tr
     second-mask : codeIn given′ (n + 1) ≡ r .mask
     second-mask = getD-set-same (set given n (r .mask)) (n + 1) (r .mask) 0 (omega (arith, length-set given n (r .mask)))
 
-    pub entered-two : Entered r n codes given codes′ given′ (n + 2)
+    pub entered-two : FactsEntered r n codes given codes′ given′ (n + 2)
     entered-two =
         record {
           low = omega arith;
@@ -102,10 +102,10 @@ module _ (r : Record) (n : ℕ) (codes given : List ℕ) (fact : isFact r ≡ tr
           sound = λ x a b.
               ⊎-elim
               (λ (q : x ≡ n).
-              subst (λ (x : ℕ). Says r (codeIn codes′ x) (codeIn given′ x)) (sym q)
+              subst (λ (x : ℕ). SaysFact r (codeIn codes′ x) (codeIn given′ x)) (sym q)
               (says-with r fact 1 _ _ (both-says r fact t 1 refl) (first-code ∙ e) first-mask))
               (λ (d : x ≡ n → ⊥).
-              subst (λ (x : ℕ). Says r (codeIn codes′ x) (codeIn given′ x)) (let q : n + 1 ≡ x = omega (arith, d, a, b) in q)
+              subst (λ (x : ℕ). SaysFact r (codeIn codes′ x) (codeIn given′ x)) (let q : n + 1 ≡ x = omega (arith, d, a, b) in q)
               (says-with r fact 2 _ _ (both-says r fact t 2 refl) (second-code ∙ f) second-mask))
               (split-eq x n);
           every = λ c g s.
@@ -135,7 +135,7 @@ collected-start p codes given =
     }
 
 module _ (p : Policy) (n : ℕ) {codes given codes′ given′ : List ℕ} {m m′ : ℕ} (C : Collected p n codes given m)
-    {r : Record} (same : r ≡ p .rec (n + 1)) (E : Entered r m codes given codes′ given′ m′) where
+    {r : Record} (same : r ≡ p .rec (n + 1)) (E : FactsEntered r m codes given codes′ given′ m′) where
   stays : (c g : ℕ) → StandsAmong codes given m c g → StandsAmong codes′ given′ m′ c g
   stays c g s =
       record {
@@ -151,20 +151,20 @@ module _ (p : Policy) (n : ℕ) {codes given codes′ given′ : List ℕ} {m m�
         few = omega (arith, C .few, E .high);
         sound = λ x l.
             ⊎-elim
-            (λ (a : m ≤ x). record { of = n + 1; low = omega arith; high = omega arith; says = subst (λ (r : Record). Says r (codeIn codes′ x) (codeIn given′ x)) same (E .sound x a l) })
+            (λ (a : m ≤ x). record { of = n + 1; low = omega arith; high = omega arith; says = subst (λ (r : Record). SaysFact r (codeIn codes′ x) (codeIn given′ x)) same (E .sound x a l) })
             (λ (b : x < m).
             let s = C .sound x b in
             record {
               of = s .of;
               low = s .low;
               high = omega (arith, s .high);
-              says = subst (Says (p .rec (s .of)) (codeIn codes′ x)) (sym (E .mask-stays x b))
-                  (subst (λ (c : ℕ). Says (p .rec (s .of)) c (codeIn given x)) (sym (E .code-stays x b)) (s .says));
+              says = subst (SaysFact (p .rec (s .of)) (codeIn codes′ x)) (sym (E .mask-stays x b))
+                  (subst (λ (c : ℕ). SaysFact (p .rec (s .of)) c (codeIn given x)) (sym (E .code-stays x b)) (s .says));
             })
             (split-le m x);
         every = λ c g s.
             ⊎-elim
-            (λ (e : s .of ≡ n + 1). E .every c g (subst (λ (r : Record). Says r c g) (ap (p .rec) e ∙ sym same) (s .says)))
+            (λ (e : s .of ≡ n + 1). E .every c g (subst (λ (r : Record). SaysFact r c g) (ap (p .rec) e ∙ sym same) (s .says)))
             (λ (d : s .of ≡ n + 1 → ⊥). stays c g (C .every c g (record { of = s .of; low = s .low; high = omega (arith, d, s .high); says = s .says })))
             (split-eq (s .of) (n + 1));
       }

@@ -17,7 +17,7 @@ ghost use Rattle.policy_image.specs.inner.Reading.{Bytes};
 ghost use Rattle.sorting.specs.inner.Order.{items};
 ghost use Rattle.policy_check.specs.inner.Sound.{Sound};
 ghost use Rattle.policy_facts.specs.inner.FactTable.{factKey};
-ghost use Rattle.fact_table.specs.inner.Collect.{isFact, saysBoth, Entered, Collected};
+ghost use Rattle.fact_table.specs.inner.Collect.{isFact, saysBoth, FactsEntered, Collected};
 
 // Whether a record says something: it is of kinds 1 to 7, and where it carries a mask, that is not empty.
 fn is_fact(r: Record) -> bool
@@ -44,7 +44,7 @@ fn code_of(r: Record, b: u32) -> u32
 // Writes what a record says behind the first n facts. How many there are then.
 fn enter(r: Record, n: usize, codes: &mut [u32], given: &mut [u32]) -> usize
     requires { ⌜ Bytes r × (n + 2 ≤ length (now codes)) × (n + 2 ≤ length (now given)) ⌝ }
-    ensures { λ m. ⌜ Entered r n (now (codes .entry)) (now (given .entry)) (now (codes .exit)) (now (given .exit)) m ⌝ }
+    ensures { λ m. ⌜ FactsEntered r n (now (codes .entry)) (now (given .entry)) (now (codes .exit)) (now (given .exit)) m ⌝ }
 {
     if !is_fact(r) {
         return n;

@@ -26,7 +26,7 @@ use Rattle.policy_facts.specs.inner.FactTable.{Written}
 use Rattle.policy_facts.proofs.MaskLaws.{mask-small, mask-empty}
 use Rattle.policy_facts.proofs.KeyLaws.{says-cases}
 use Rattle.policy_facts.proofs.WrittenKeyLaws.{HasKey, written-key}
-use Rattle.policy_facts.proofs.CanonicalStemLaws.{IsFact, canonicalBegin, canonical-stems, canonical-is}
+use Rattle.policy_facts.proofs.CanonicalStemLaws.{FactRecord, canonicalBegin, canonical-stems, canonical-is}
 
 -- ---- the ranges of kinds 1 to 7: d and e may be 0, and the mask is any, or 0 where the kind carries none
 abbrev mostMask : Bool → ℕ
@@ -113,7 +113,7 @@ module _ (p : Policy) where
       let c = p .counts in
       record { types = le-refl (c .types); roles = le-refl (c .roles); users = le-refl (c .users); classes = le-refl (c .classes) }
 
-  fact-within : FieldsInRange p → (i : ℕ) → IsFact p i → Fits (canonicalOf p .counts) (recordIn (canonicalList p) i)
+  fact-within : FieldsInRange p → (i : ℕ) → FactRecord p i → Fits (canonicalOf p .counts) (recordIn (canonicalList p) i)
   fact-within F i I =
       let f : Fits (canonicalOf p .counts) (factRecord p (I .kind) (I .key)) = fact-fits p F (I .kind) (I .key) (I .range) (I .written) in
       subst (Fits (canonicalOf p .counts)) (sym (I .same)) f

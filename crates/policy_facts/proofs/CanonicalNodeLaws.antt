@@ -11,7 +11,7 @@ use Rattle.policy_expressions.proofs.UseLaws.{use-none, use-none-right}
 use Rattle.policy_lists.specs.Lists.{recordIn, linkIn}
 use Rattle.policy_lists.proofs.StemNodeLaws.{use-any-next, stem-well, stem-once}
 use Rattle.policy_facts.specs.Canonical.{factRecord, canonicalNode, canonicalList, canonicalOf}
-use Rattle.policy_facts.proofs.CanonicalStemLaws.{IsFact, canonicalBegin, canonical-stems, canonical-is, canonical-nine}
+use Rattle.policy_facts.proofs.CanonicalStemLaws.{FactRecord, canonicalBegin, canonical-stems, canonical-is, canonical-nine}
 
 apart : {m : ℕ} → Nothing ≡ Node m → ⊥
 apart e = let o : _≡_ {A = ℕ} 0 1 = cc in omega arith
@@ -24,7 +24,7 @@ no-use r h (suc zero) m e = apart (sym (use-none-right r (λ k a b. let z : ⊥ 
 no-use r h (suc (suc s)) m e = apart e
 
 module _ (p : Policy) where
-  fact-uses : (i s m : ℕ) → IsFact p i → useOf (canonicalOf p .rec i) s ≡ Node m → ⊥
+  fact-uses : (i s m : ℕ) → FactRecord p i → useOf (canonicalOf p .rec i) s ≡ Node m → ⊥
   fact-uses i s m F e =
       no-use (factRecord p (F .kind) (F .key)) (F .range .high) s m
       (ap (λ (r : Record). useOf r s) (sym (F .same)) ∙ sym (use-any-next (linkIn (canonicalList p) i) (recordIn (canonicalList p) i) s) ∙ e)

@@ -54,18 +54,18 @@ module _ (p : Policy) where
       ∙ no-nodes n (omega arith)
 
   -- node m of them is record before + m
-  pub canonical-nodes : (m : ℕ) → m ≤ length (kindList p 9) → nodesUpto (canonicalOf p) (length (kindsUpto (canonicalKind p) 8) + m) ≡ m
-  canonical-nodes zero h = ap (nodesUpto (canonicalOf p)) (let e : before + 0 ≡ before = omega arith in e) ∙ no-nodes before (omega arith)
-  canonical-nodes (suc m) h =
+  pub nodes-counted : (m : ℕ) → m ≤ length (kindList p 9) → nodesUpto (canonicalOf p) (length (kindsUpto (canonicalKind p) 8) + m) ≡ m
+  nodes-counted zero h = ap (nodesUpto (canonicalOf p)) (let e : before + 0 ≡ before = omega arith in e) ∙ no-nodes before (omega arith)
+  nodes-counted (suc m) h =
       let c = canonical-size in
       ap (nodesUpto (canonicalOf p)) (let e : before + suc m ≡ suc (before + m) = omega arith in e)
       ∙ place-length (canonicalOf p .rec) 9 (before + m) (kind-at (canonicalKind p) (canonical-own p) 8 (suc (before + m)) (omega arith) (omega arith) (omega arith))
-      ∙ ap suc (canonical-nodes m (omega arith))
+      ∙ ap suc (nodes-counted m (omega arith))
 
   -- a node of the policy keeps its place among the nodes
   node-place : (n : ℕ) → IsNode p n → nodesUpto (canonicalOf p) (canonicalNode p n) ≡ nodesUpto p n
   node-place n I =
-      ap (nodesUpto (canonicalOf p)) (before-nodes n) ∙ canonical-nodes (nodesUpto p n) (upto-more-length (p .rec) 9 n (p .size) (I .high))
+      ap (nodesUpto (canonicalOf p)) (before-nodes n) ∙ nodes-counted (nodesUpto p n) (upto-more-length (p .rec) 9 n (p .size) (I .high))
 
   pub node-small : (n : ℕ) → IsNode p n → canonicalNode p n ≤ canonicalOf p .size
   node-small n I =

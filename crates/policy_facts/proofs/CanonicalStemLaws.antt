@@ -26,7 +26,7 @@ use Rattle.policy_facts.proofs.CanonicalTurnLaws.{canonical-kept, const
 
 module _ (p : Policy) where
   -- record i of the list is the record of a key that is written
-  pub record IsFact (i : ℕ) : Type 0 where
+  pub record FactRecord (i : ℕ) : Type 0 where
     pub kind : ℕ
     pub key : ℕ
     pub range : Within 1 7 kind
@@ -44,7 +44,7 @@ module _ (p : Policy) where
   KeptRecord i = Stems p (canonicalNode p) canonicalBegin (canonicalList p) i
 
   -- a place of kinds 1 to 7, and one of kinds 8 and 9
-  fact-there : (i : ℕ) (f : InKind (canonicalKind p) 9 i) → suc (f .below) ≤ 7 → IsFact (suc i)
+  fact-there : (i : ℕ) (f : InKind (canonicalKind p) 9 i) → suc (f .below) ≤ 7 → FactRecord (suc i)
   fact-there i f h =
       let k : ℕ = suc (f .below) in
       let e = canonical-fact p k h in
@@ -68,7 +68,7 @@ module _ (p : Policy) where
       stems-at (canonicalList p) p (canonicalNode p) canonicalBegin k i (f .at) (subst (λ (l : List Record). f .at < length l) e (f .room))
       (omega (arith, f .place)) (f .same ∙ ap (λ (l : List Record). getD l (f .at) noRecord) e)
 
-  pub canonical-stems : (i : ℕ) → 1 ≤ i → i ≤ length (canonicalList p) → IsFact i ⊎ KeptRecord i
+  pub canonical-stems : (i : ℕ) → 1 ≤ i → i ≤ length (canonicalList p) → FactRecord i ⊎ KeptRecord i
   canonical-stems zero a b = let z : ⊥ = omega arith in absurd z
   canonical-stems (suc i) a b =
       let f = find-kind (canonicalKind p) 9 i (omega arith) in

@@ -11,7 +11,7 @@ use Rattle.policy_lists.proofs.StemWritableLaws.{from-writable, stem-writable}
 use Rattle.policy_facts.specs.Facts.{permits}
 use Rattle.policy_facts.specs.Canonical.{keyA, keyB, keyC, keyNumbers, factRecord, canonicalNode, canonicalList, canonicalOf}
 use Rattle.policy_facts.proofs.MaskLaws.{mask-small}
-use Rattle.policy_facts.proofs.CanonicalStemLaws.{IsFact, canonicalBegin, canonical-stems, canonical-is}
+use Rattle.policy_facts.proofs.CanonicalStemLaws.{FactRecord, canonicalBegin, canonical-stems, canonical-is}
 
 -- the a, b and c of a key are bytes
 fact-writable : (p : Policy) (k x : ℕ) → k ≤ 7 → x < keyNumbers → WritableRecord (factRecord p k x)
@@ -23,7 +23,7 @@ fact-writable p k x h l =
     }
 
 module _ (p : Policy) where
-  fact-written : (i : ℕ) → IsFact p i → WritableRecord (recordIn (canonicalList p) i)
+  fact-written : (i : ℕ) → FactRecord p i → WritableRecord (recordIn (canonicalList p) i)
   fact-written i I = subst WritableRecord (sym (I .same)) (fact-writable p (I .kind) (I .key) (I .range .high) (I .low))
 
   pub canonical-writable : canonicalOf p .size ≤ 4095 → NodesInOrder p → Writable p → Writable (canonicalOf p)

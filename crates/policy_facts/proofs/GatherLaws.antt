@@ -14,8 +14,7 @@ use Rattle.policy_image.specs.declared.records.Record.{Record}
 use Rattle.policy_lists.specs.Lists.{noRecord}
 use Rattle.policy_lists.specs.inner.Tests.{someIn}
 use Rattle.policy_lists.proofs.ListLaws.{some-append}
-use Rattle.policy_lists.proofs.JoinTurnLaws.{Each}
-use Rattle.policy_facts.proofs.KindsLaws.{each-append}
+use Rattle.policy_lists.proofs.JoinTurnLaws.{Each, each-append}
 
 unfoldable pub gather : (ℕ → List Record) → ℕ → List Record
 gather f zero = []

@@ -11,7 +11,7 @@ use Rattle.base.proofs.BoolLaws.{and-true, and-first, and-second, or-cases, or-
 use Rattle.policy_image.specs.declared.records.Record.{Record}
 use Rattle.policy_image.specs.Policy.{Policy}
 use Rattle.policy_links.proofs.KindLaws.{OfKind, some-yes, some-record}
-use Rattle.policy_facts.specs.Facts.{saysB, hasKey, states, permits}
+use Rattle.policy_facts.specs.Facts.{saysB, hasKey, isStated, permits}
 use Rattle.policy_facts.specs.Canonical.{keyA, keyB, keyC, keyNumbers}
 
 -- ---- what a record says for b
@@ -79,12 +79,12 @@ module _ (a b c : ℕ) (r : Record) where
 
 -- ---- the facts of a policy, by its records
 module _ (p : Policy) (k a b c : ℕ) where
-  pub states-yes : (i : ℕ) → OfKind p k i → hasKey a b c (p .rec i) ≡ true → states p k a b c ≡ true
-  unfolding states
+  pub states-yes : (i : ℕ) → OfKind p k i → hasKey a b c (p .rec i) ≡ true → isStated p k a b c ≡ true
+  unfolding isStated
   states-yes i o e = some-yes p k (hasKey a b c) i o e
 
-  pub states-record : states p k a b c ≡ true → (i : ℕ) × OfKind p k i × (hasKey a b c (p .rec i) ≡ true)
-  unfolding states
+  pub states-record : isStated p k a b c ≡ true → (i : ℕ) × OfKind p k i × (hasKey a b c (p .rec i) ≡ true)
+  unfolding isStated
   states-record e = some-record p k (hasKey a b c) e
 
   module _ (n : ℕ) where

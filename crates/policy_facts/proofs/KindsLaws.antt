@@ -15,12 +15,8 @@ use Rattle.policy_image.specs.declared.records.Record.{Record}
 use Rattle.policy_lists.specs.Lists.{recordsUpto, ofKindIn, noRecord}
 use Rattle.policy_lists.specs.Joined.{kindsUpto}
 use Rattle.policy_lists.proofs.ListLaws.{upto-length}
-use Rattle.policy_lists.proofs.JoinTurnLaws.{Each}
+use Rattle.policy_lists.proofs.JoinTurnLaws.{Each, each-append}
 use Rattle.policy_lists.proofs.NodeLaws.{kind-append}
-
-pub each-append : (P : Record → Type 0) (l m : List Record) → Each P l → Each P m → Each P (l ++ m)
-each-append P [] m h k = k
-each-append P (r ∷ l) m h k = (h .0, each-append P l m (h .1) k)
 
 -- ---- records 1 to m as a list
 pub upto-at : (rec : ℕ → Record) (m i : ℕ) → i < m → getD (recordsUpto rec m) i noRecord ≡ rec (suc i)
@@ -57,15 +53,6 @@ each-kind P rec k (suc n) h =
     go : (t : Bool) → eqb (rec (suc n) .kind) k ≡ t → Each P (cond t (rec (suc n) ∷ []) [])
     go true e = (h (suc n) (omega arith) (omega arith) (eqb-true (rec (suc n) .kind) k e), tt)
     go false e = tt
-
--- changed records, that keep their kind, are of the kind
-pub kind-own : (g : Record → Record) → ((r : Record) → g r .kind ≡ r .kind) → (k : ℕ) (l : List Record) → Each (λ r. r .kind ≡ k) (map g (ofKindIn k l))
-kind-own g keeps k [] = tt
-kind-own g keeps k (r ∷ l) = go (eqb (r .kind) k) refl (kind-own g keeps k l)
-  where
-    go : (t : Bool) → eqb (r .kind) k ≡ t → Each (λ r. r .kind ≡ k) (map g (ofKindIn k l)) → Each (λ r. r .kind ≡ k) (map g (cond t (r ∷ ofKindIn k l) (ofKindIn k l)))
-    go true e h = (keeps r ∙ eqb-true (r .kind) k e, h)
-    go false e h = h
 
 -- all of them, where each is of the kind
 pub kind-all : (k : ℕ) (l : List Record) → Each (λ r. r .kind ≡ k) l → ofKindIn k l ≡ l

@@ -17,7 +17,7 @@ use Rattle.policy_image.specs.OfKind.{some}
 use Rattle.policy_links.proofs.KindLaws.{some-yes, some-record}
 use Rattle.policy_fields.specs.Fields.{FieldsInRange}
 use Rattle.policy_sources.specs.Sources.{domain}
-use Rattle.policy_facts.specs.Facts.{saysB, hasKey, states, permits, carriesMask}
+use Rattle.policy_facts.specs.Facts.{saysB, hasKey, isStated, permits, carriesMask}
 use Rattle.policy_facts.specs.Canonical.{canonicalOf}
 use Rattle.policy_facts.specs.cases.Same.{Same}
 use Rattle.policy_facts.proofs.KeyLaws.{says-cases, says-one, says-both, has-key, key-has, states-yes, states-record, permits-yes, permits-record}
@@ -25,7 +25,7 @@ use Rattle.policy_facts.proofs.StatedLaws.{states-canonical, permits-ca
 
 -- the facts of p are those of q
 pub record SameFacts (p q : Policy) : Type 0 where
-  pub keys : (k a b c : ℕ) → Within 1 7 k → carriesMask k ≡ false → states p k a b c ≡ states q k a b c
+  pub keys : (k a b c : ℕ) → Within 1 7 k → carriesMask k ≡ false → isStated p k a b c ≡ isStated q k a b c
   pub permissions : (k a b c i : ℕ) → carriesMask k ≡ true → permits p k a b c i ≡ permits q k a b c i
 
 pub same-facts : {p q : Policy} → Same p q → SameFacts p q
@@ -42,7 +42,7 @@ ByKey k f =
 
 module _ (k : ℕ) (f : Record → Bool) (B : ByKey k f) where
   -- what p states, q states
-  key-passes : (p q : Policy) → ((a b c : ℕ) → states p k a b c ≡ states q k a b c) → some p k f ≡ true → some q k f ≡ true
+  key-passes : (p q : Policy) → ((a b c : ℕ) → isStated p k a b c ≡ isStated q k a b c) → some p k f ≡ true → some q k f ≡ true
   key-passes p q same e =
       let s = some-record p k f e in
       let r = p .rec (s .0) in
@@ -51,7 +51,7 @@ module _ (k : ℕ) (f : Record → Bool) (B : ByKey k f) where
       let u = states-record q k (r .a) (h .0) (r .c) (sym (same (r .a) (h .0) (r .c)) ∙ t) in
       some-yes q k f (u .0) (u .1) (h .2 (q .rec (u .0)) (u .1 .kind) (u .2))
 
-  key-same : (p q : Policy) → ((a b c : ℕ) → states p k a b c ≡ states q k a b c) → some p k f ≡ some q k f
+  key-same : (p q : Policy) → ((a b c : ℕ) → isStated p k a b c ≡ isStated q k a b c) → some p k f ≡ some q k f
   key-same p q same = same-truth (some p k f) (some q k f) (key-passes p q same) (key-passes q p (λ a b c. sym (same a b c)))
 
   -- .. and with permission i

@@ -21,7 +21,7 @@ use Rattle.policy_fields.specs.Fields.{FieldsInRange}
 use Rattle.policy_lists.specs.Lists.{kindList, withNext, policyFrom}
 use Rattle.policy_lists.specs.Joined.{nodesUpto, kindsUpto, renumbered}
 use Rattle.policy_lists.proofs.NodeLaws.{most-length}
-use Rattle.policy_facts.specs.Facts.{states, permits, unitedMask, carriesMask, isWritten}
+use Rattle.policy_facts.specs.Facts.{isStated, permits, unitedMask, carriesMask, isWritten}
 use Rattle.policy_facts.specs.Canonical.{keyA, keyB, keyC, keyNumbers, factAt, factKind, canonicalNode, canonicalKind, canonicalList, canonicalOf}
 use Rattle.policy_facts.specs.cases.Same.{byPlace, Same}
 use Rattle.policy_facts.proofs.KindsLaws.{kinds-map, kinds-same}
@@ -120,7 +120,7 @@ module _ (p q : Policy) (C : CountsInRange (p .counts)) (D : CountsInRange (q .c
     written-same a b c = go (carriesMask k) refl
       where
         go : (t : Bool) → carriesMask k ≡ t
-            → cond t (not (eqb (unitedMask p k a b c) 0)) (states p k a b c) ≡ cond t (not (eqb (unitedMask q k a b c) 0)) (states q k a b c)
+            → cond t (not (eqb (unitedMask p k a b c) 0)) (isStated p k a b c) ≡ cond t (not (eqb (unitedMask q k a b c) 0)) (isStated q k a b c)
         go true m = ap (λ (n : ℕ). not (eqb n 0)) (united-same a b c)
         go false m = S .keys k a b c w m
 

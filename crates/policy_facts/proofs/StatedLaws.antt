@@ -21,11 +21,11 @@ use Rattle.policy_lists.specs.Joined.{renumbered}
 use Rattle.policy_lists.specs.inner.Tests.{someIn, IgnoresNext}
 use Rattle.policy_lists.proofs.ListLaws.{some-kind, some-from}
 use Rattle.policy_lists.proofs.RenumberLaws.{renumbered-kind}
-use Rattle.policy_lists.proofs.JoinTurnLaws.{Each}
-use Rattle.policy_facts.specs.Facts.{hasKey, states, permits, unitedMask, carriesMask, isWritten}
+use Rattle.policy_lists.proofs.JoinTurnLaws.{Each, kind-own}
+use Rattle.policy_facts.specs.Facts.{hasKey, isStated, permits, unitedMask, carriesMask, isWritten}
 use Rattle.policy_facts.specs.Canonical.{keyA, keyB, keyC, keyNumbers, factRecord, factKind, canonicalNode, canonicalKind, canonicalList, canonicalOf}
 use Rattle.policy_facts.specs.inner.FactTable.{Written}
-use Rattle.policy_facts.proofs.KindsLaws.{kind-own, kinds-of}
+use Rattle.policy_facts.proofs.KindsLaws.{kinds-of}
 use Rattle.policy_facts.proofs.FactListLaws.{fact-own, fact-yes, fact-some}
 use Rattle.policy_facts.proofs.MaskLaws.{bit-below, mask-small, mask-bit, mask-holds, mask-found}
 use Rattle.policy_facts.proofs.FactFieldLaws.{mask-within, fact-fields}
@@ -57,8 +57,8 @@ module _ (p : Policy) where
 -- ---- which keys are written
 module _ (p : Policy) (k : ℕ) where
   module _ (a b c : ℕ) where
-    pub written-by : (t : Bool) → carriesMask k ≡ t → isWritten p k a b c ≡ cond t (not (eqb (unitedMask p k a b c) 0)) (states p k a b c)
-    written-by t m = ap (λ (t : Bool). cond t (not (eqb (unitedMask p k a b c) 0)) (states p k a b c)) m
+    pub written-by : (t : Bool) → carriesMask k ≡ t → isWritten p k a b c ≡ cond t (not (eqb (unitedMask p k a b c) 0)) (isStated p k a b c)
+    written-by t m = ap (λ (t : Bool). cond t (not (eqb (unitedMask p k a b c) 0)) (isStated p k a b c)) m
 
     -- of a kind that carries a mask, those with some permission
     pub mask-written : carriesMask k ≡ true → (i : ℕ) → i < 32 → permits p k a b c i ≡ true → isWritten p k a b c ≡ true
@@ -93,8 +93,8 @@ module _ (p : Policy) (k : ℕ) where
         }
 
 -- ---- the facts of the canonical policy
-states-some : (p : Policy) (k a b c : ℕ) → states p k a b c ≡ some p k (hasKey a b c)
-unfolding states
+states-some : (p : Policy) (k a b c : ℕ) → isStated p k a b c ≡ some p k (hasKey a b c)
+unfolding isStated
 states-some p k a b c = refl
 
 permits-some : (p : Policy) (k a b c i : ℕ) → permits p k a b c i ≡ some p k (λ r. hasKey a b c r && bit (r .mask) i)
@@ -115,24 +115,24 @@ module _ (p : Policy) (C : CountsInRange (p .counts)) (E : FieldsInRange p) (k a
 
   -- ---- kinds 1, 5, 6 and 7: the same keys
   module _ (w : Within 1 7 k) (m : carriesMask k ≡ false) where
-    key-stated : someIn (factKind p k) (hasKey a b c) ≡ true → states p k a b c ≡ true
+    key-stated : someIn (factKind p k) (hasKey a b c) ≡ true → isStated p k a b c ≡ true
     key-stated e =
         let s = fact-some p k (hasKey a b c) keyNumbers e in
         let x : ℕ = s .0 in
-        sym (at-key (states p k) a b c x (key-own p k x a b c (s .2) (s .3))) ∙ sym (written-by p k (keyA x) (keyB x) (keyC x) false m) ∙ s .2
+        sym (at-key (isStated p k) a b c x (key-own p k x a b c (s .2) (s .3))) ∙ sym (written-by p k (keyA x) (keyB x) (keyC x) false m) ∙ s .2
 
-    stated-key : states p k a b c ≡ true → someIn (factKind p k) (hasKey a b c) ≡ true
+    stated-key : isStated p k a b c ≡ true → someIn (factKind p k) (hasKey a b c) ≡ true
     stated-key e =
         let s = states-record p k a b c e in
         let n = stated-number (s .0) w (s .1) (s .2) in
         let x : ℕ = n .0 in
-        let t : Written p k x = written-by p k (keyA x) (keyB x) (keyC x) false m ∙ at-key (states p k) a b c x (n .2) ∙ e in
+        let t : Written p k x = written-by p k (keyA x) (keyB x) (keyC x) false m ∙ at-key (isStated p k) a b c x (n .2) ∙ e in
         fact-yes p k (hasKey a b c) keyNumbers x (n .1) t (own-key p k x a b c t (n .2))
 
-    pub states-canonical : states (canonicalOf p) k a b c ≡ states p k a b c
+    pub states-canonical : isStated (canonicalOf p) k a b c ≡ isStated p k a b c
     states-canonical =
         states-some (canonicalOf p) k a b c ∙ some-fact p k (hasKey a b c) (λ n r. refl) w
-        ∙ same-truth (someIn (factKind p k) (hasKey a b c)) (states p k a b c) key-stated stated-key
+        ∙ same-truth (someIn (factKind p k) (hasKey a b c)) (isStated p k a b c) key-stated stated-key
 
   -- ---- kinds 2, 3 and 4: the same permissions
   module _ (i : ℕ) (m : carriesMask k ≡ true) where

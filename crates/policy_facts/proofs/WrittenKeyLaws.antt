@@ -7,7 +7,7 @@ use lib.Dec.{eqb}
 use Rattle.base.proofs.BoolLaws.{clash}
 use Rattle.policy_image.specs.Policy.{Policy}
 use Rattle.policy_links.proofs.KindLaws.{OfKind}
-use Rattle.policy_facts.specs.Facts.{saysB, hasKey, states, permits, unitedMask, carriesMask}
+use Rattle.policy_facts.specs.Facts.{saysB, hasKey, isStated, permits, unitedMask, carriesMask}
 use Rattle.policy_facts.specs.Canonical.{keyA, keyB, keyC}
 use Rattle.policy_facts.specs.inner.FactTable.{Written}
 use Rattle.policy_facts.proofs.MaskLaws.{mask-found}
@@ -30,7 +30,7 @@ module _ (p : Policy) (k x : ℕ) where
   pub written-key : Written p k x → (i : ℕ) × HasKey p k x i
   written-key W = go (carriesMask k) W
     where
-      go : (t : Bool) → cond t (not (eqb united 0)) (states p k (keyA x) (keyB x) (keyC x)) ≡ true → (i : ℕ) × HasKey p k x i
+      go : (t : Bool) → cond t (not (eqb united 0)) (isStated p k (keyA x) (keyB x) (keyC x)) ≡ true → (i : ℕ) × HasKey p k x i
       go true e =
           let m = mask-found (permits p k (keyA x) (keyB x) (keyC x)) 32 (λ z. clash e (ap not (eq-eqb united 0 z))) in
           let s = permits-record p k (keyA x) (keyB x) (keyC x) (m .0) (m .2) in

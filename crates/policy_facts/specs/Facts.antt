@@ -16,8 +16,8 @@ abbrev pub hasKey : ℕ → ℕ → ℕ → Record → Bool
 hasKey a b c r = eqb (r .a) a && (saysB r b && eqb (r .c) c)
 
 -- whether some record of kind k has the key
-unfoldable pub states : Policy → ℕ → ℕ → ℕ → ℕ → Bool
-states p k a b c = some p k (hasKey a b c)
+unfoldable pub isStated : Policy → ℕ → ℕ → ℕ → ℕ → Bool
+isStated p k a b c = some p k (hasKey a b c)
 
 -- "masks bit by bit": whether one has it with permission i
 unfoldable pub permits : Policy → ℕ → ℕ → ℕ → ℕ → ℕ → Bool
@@ -38,4 +38,4 @@ abbrev pub carriesMask : ℕ → Bool
 carriesMask k = leb 2 k && leb k 4
 
 abbrev pub isWritten : Policy → ℕ → ℕ → ℕ → ℕ → Bool
-isWritten p k a b c = cond (carriesMask k) (not (eqb (unitedMask p k a b c) 0)) (states p k a b c)
+isWritten p k a b c = cond (carriesMask k) (not (eqb (unitedMask p k a b c) 0)) (isStated p k a b c)

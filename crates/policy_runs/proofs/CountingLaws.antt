@@ -8,41 +8,46 @@ use lib.ListN.{length, getD, set, replicate, length-set, length-replicate}
 use lib.Seq.{getD-set-same, getD-set-other}
 use Rattle.base.specs.Ranges.{Within}
 use Rattle.base.proofs.Numbers.{split-eq, split-le, zeros}
+use Rattle.policy_image.specs.declared.records.Record.{Record}
 use Rattle.policy_image.specs.Policy.{Policy}
+use Rattle.policy_lists.specs.Lists.{recordsUpto, ofKindIn}
 use Rattle.policy_lists.specs.Joined.{nodesUpto}
 use Rattle.policy_lists.proofs.NodeLaws.{place-length, other-length, most-length}
-use Rattle.policy_runs.specs.inner.Runs.{manyUpto}
 
-module _ (o : Policy) where
+module _ (rec : ℕ → Record) where
   -- ---- how many there are of each kind
+  abbrev many : ℕ → ℕ → ℕ
+  many k n = length (ofKindIn k (recordsUpto rec n))
+
   pub record CountedTo (n : ℕ) (t : List ℕ) : Type 0 where
     pub size : length t ≡ 10
-    pub many : (k : ℕ) → 1 ≤ k → k ≤ 9 → getD t k 0 ≡ manyUpto o k n
+    pub counts : (k : ℕ) → 1 ≤ k → k ≤ 9 → getD t k 0 ≡ many k n
 
   pub counted-start : CountedTo 0 (replicate 10 0)
-  counted-start = record { size = refl; many = λ k a b. zeros 10 k }
+  counted-start = record { size = refl; counts = λ k a b. zeros 10 k }
 
   pub counted-fits : {n : ℕ} {t : List ℕ} → CountedTo n t → (k : ℕ) → 1 ≤ k → k ≤ 9 → getD t k 0 ≤ n
-  counted-fits {n} C k a b = let m = most-length (o .rec) k n in let e = C .many k a b in omega arith
+  counted-fits {n} C k a b = let m = most-length rec k n in let e = C .counts k a b in omega arith
 
   -- record n + 1 is counted for its kind
-  counted-one : {n : ℕ} {t : List ℕ} → CountedTo n t → (k v : ℕ) → k ≡ o .rec (suc n) .kind → Within 1 9 k → v ≡ getD t k 0 + 1 → CountedTo (suc n) (set t k v)
+  counted-one : {n : ℕ} {t : List ℕ} → CountedTo n t → (k v : ℕ) → k ≡ rec (suc n) .kind → Within 1 9 k → v ≡ getD t k 0 + 1 → CountedTo (suc n) (set t k v)
   counted-one {n} {t} C k v e w s =
       record {
         size = length-set t k v ∙ C .size;
-        many = λ j a b. ⊎-elim
+        counts = λ j a b. ⊎-elim
             (λ (q : j ≡ k). ap (λ (i : ℕ). getD (set t k v) i 0) q ∙ getD-set-same t k v 0 (omega (arith, C .size, w .high)) ∙ s
-            ∙ (let h = C .many k (w .low) (w .high) in
-            let l = place-length (o .rec) k n (sym e) in
-            subst (λ (i : ℕ). getD t k 0 + 1 ≡ manyUpto o i (suc n)) (sym q) (omega arith)))
-            (λ (d : j ≡ k → ⊥). getD-set-other t k j v 0 d ∙ C .many j a b ∙ sym (other-length (o .rec) j n (λ f. d (sym f ∙ sym e))))
+            ∙ (let h = C .counts k (w .low) (w .high) in
+            let l = place-length rec k n (sym e) in
+            subst (λ (i : ℕ). getD t k 0 + 1 ≡ many i (suc n)) (sym q) (omega arith)))
+            (λ (d : j ≡ k → ⊥). getD-set-other t k j v 0 d ∙ C .counts j a b ∙ sym (other-length rec j n (λ f. d (sym f ∙ sym e))))
             (split-eq j k);
       }
 
-  pub counted-more : {n : ℕ} {t : List ℕ} → CountedTo n t → (k v : ℕ) → k ≡ o .rec (n + 1) .kind → Within 1 9 k → v ≡ getD t k 0 + 1 → CountedTo (n + 1) (set t k v)
+  pub counted-more : {n : ℕ} {t : List ℕ} → CountedTo n t → (k v : ℕ) → k ≡ rec (n + 1) .kind → Within 1 9 k → v ≡ getD t k 0 + 1 → CountedTo (n + 1) (set t k v)
   counted-more {n} {t} C k v =
-      subst (λ (i : ℕ). k ≡ o .rec i .kind → Within 1 9 k → v ≡ getD t k 0 + 1 → CountedTo i (set t k v)) (let e : suc n ≡ n + 1 = omega arith in e) (counted-one C k v)
+      subst (λ (i : ℕ). k ≡ rec i .kind → Within 1 9 k → v ≡ getD t k 0 + 1 → CountedTo i (set t k v)) (let e : suc n ≡ n + 1 = omega arith in e) (counted-one C k v)
 
+module _ (o : Policy) where
   -- ---- how many nodes there are up to each number
   pub record NumberedTo (n nodes : ℕ) (t : List ℕ) : Type 0 where
     pub size : length t ≡ 4096

@@ -19,7 +19,7 @@ abbrev pub saysBoth : Record → Bool
 saysBoth r = eqb (r .kind) 3 && eqb (r .b) 3
 
 -- the record says the code, with the mask
-pub record Says (r : Record) (code mask : ℕ) : Type 0 where
+pub record SaysFact (r : Record) (code mask : ℕ) : Type 0 where
   pub fact : isFact r ≡ true
   pub b : ℕ
   pub says : saysB r b ≡ true
@@ -31,7 +31,7 @@ pub record Stated (p : Policy) (n code mask : ℕ) : Type 0 where
   pub of : ℕ
   pub low : 1 ≤ of
   pub high : of ≤ n
-  pub says : Says (p .rec of) code mask
+  pub says : SaysFact (p .rec of) code mask
 
 -- it stands among the first m
 pub record StandsAmong (codes given : List ℕ) (m code mask : ℕ) : Type 0 where
@@ -41,13 +41,13 @@ pub record StandsAmong (codes given : List ℕ) (m code mask : ℕ) : Type 0 whe
   pub mask-is : codeIn given at ≡ mask
 
 -- what the record r says is written behind the first n, which stay, and makes m of them
-pub record Entered (r : Record) (n : ℕ) (codes given codes′ given′ : List ℕ) (m : ℕ) : Type 0 where
+pub record FactsEntered (r : Record) (n : ℕ) (codes given codes′ given′ : List ℕ) (m : ℕ) : Type 0 where
   pub low : n ≤ m
   pub high : m ≤ n + 2
   pub code-stays : (x : ℕ) → x < n → codeIn codes′ x ≡ codeIn codes x
   pub mask-stays : (x : ℕ) → x < n → codeIn given′ x ≡ codeIn given x
-  pub sound : (x : ℕ) → n ≤ x → x < m → Says r (codeIn codes′ x) (codeIn given′ x)
-  pub every : (code mask : ℕ) → Says r code mask → StandsAmong codes′ given′ m code mask
+  pub sound : (x : ℕ) → n ≤ x → x < m → SaysFact r (codeIn codes′ x) (codeIn given′ x)
+  pub every : (code mask : ℕ) → SaysFact r code mask → StandsAmong codes′ given′ m code mask
 
 -- the first m codes and masks are just what records 1 to n say
 pub record Collected (p : Policy) (n : ℕ) (codes given : List ℕ) (m : ℕ) : Type 0 where

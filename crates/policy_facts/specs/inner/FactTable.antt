@@ -45,7 +45,7 @@ pub record Entry (p : Policy) (key mask : ℕ) : Type 0 where
   pub united : mask ≡ unitedMask p (kindIn key) (keyA (numberIn key)) (keyB (numberIn key)) (keyC (numberIn key))
 
 -- key number x of kind k stands among the first m keys
-pub record Stands (keys : List ℕ) (m k x : ℕ) : Type 0 where
+pub record KeyStands (keys : List ℕ) (m k x : ℕ) : Type 0 where
   pub at : ℕ
   pub low : at < m
   pub same : getD keys at 0 ≡ 16777216 * k + x
@@ -54,4 +54,4 @@ pub record Stands (keys : List ℕ) (m k x : ℕ) : Type 0 where
 pub record FactTable (p : Policy) (keys masks : List ℕ) (m : ℕ) : Type 0 where
   pub rising : (i j : ℕ) → i < j → j < m → getD keys i 0 < getD keys j 0
   pub entry : (i : ℕ) → i < m → Entry p (getD keys i 0) (getD masks i 0)
-  pub every : (k x : ℕ) → Within 1 7 k → x < keyNumbers → Written p k x → Stands keys m k x
+  pub every : (k x : ℕ) → Within 1 7 k → x < keyNumbers → Written p k x → KeyStands keys m k x

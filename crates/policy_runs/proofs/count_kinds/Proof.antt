@@ -13,7 +13,7 @@ use Rattle.policy_runs.proofs.count_kinds.Statement.{statement}
 use Rattle.policy_runs.proofs.count_kinds.Tie as tie
 
 abbrev Inv-loop : tie.InvT-loop
-Inv-loop policy records table₀ done₀ table done = (done ≤ records) × (records ≡ recordCount policy) × CountedTo (policyOf policy) done table
+Inv-loop policy records table₀ done₀ table done = (done ≤ records) × (records ≡ recordCount policy) × CountedTo (policyOf policy .rec) done table
 
 abbrev μ-loop : tie.MeasureT-loop
 μ-loop policy records table₀ done₀ table done = records - done
@@ -29,7 +29,7 @@ module _ (K : tie.After-record-at Inv-loop μ-loop) where
   abbrev done : ℕ
   done = K .before .before .loop .done
 
-  abbrev counted : CountedTo p done (K .before .before .loop .table)
+  abbrev counted : CountedTo (p .rec) done (K .before .before .loop .table)
   counted = K .before .before .loop .inv .2
 
   same : SameFields (K .record-at .result) (p .rec (done + 1))
@@ -41,7 +41,7 @@ module _ (K : tie.After-record-at Inv-loop μ-loop) where
       subst (Within 1 9) (sym (same .kind)) w
 
 loop-holds : tie.Need-loop-holds Inv-loop μ-loop
-loop-holds c = let s = c .before in (omega arith, s .pre .2, counted-start (policyOf (s .args .policy .now)))
+loop-holds c = let s = c .before in (omega arith, s .pre .2, counted-start (policyOf (s .args .policy .now) .rec))
 
 record-at-requires : tie.Need-record-at-requires Inv-loop μ-loop
 record-at-requires c κs = let s = c .before .before .before in (s .pre .0, omega arith, omega (arith, s .pre .2))
@@ -52,18 +52,18 @@ array-table c = let w = kinds (c .before) in omega (arith, w .high)
 loop-again : tie.Need-loop-again Inv-loop μ-loop
 loop-again c =
     let K = c .before in
-    (omega arith, K .before .before .loop .inv .1, counted-more (p K) (counted K) (K .record-at .result .kind) _ (same K .kind) (kinds K) refl)
+    (omega arith, K .before .before .loop .inv .1, counted-more (p K .rec) (counted K) (K .record-at .result .kind) _ (same K .kind) (kinds K) refl)
 
 returns : tie.Need-returns Inv-loop μ-loop
 returns c k a b =
     let l = c .before .loop in
     let o = policyOf (c .before .before .before .args .policy .now) in
-    l .inv .2 .many k a b ∙ ap (manyUpto o k) (let e : l .done ≡ o .size = omega (arith, l .inv .0, l .inv .1) in e)
+    l .inv .2 .counts k a b ∙ ap (manyUpto o k) (let e : l .done ≡ o .size = omega (arith, l .inv .0, l .inv .1) in e)
 
 pub count-kinds-spec : {M : Type 1} → statement M
 count-kinds-spec =
     tie.close
     (tie.spec Inv-loop μ-loop loop-holds (λ c. search needs) record-at-requires (λ c. search needs)
     (λ c. let w = kinds (c .before) in omega (arith, w .high)) array-table
-    (λ c. let w = kinds (c .before) in let f = counted-fits (p (c .before)) (counted (c .before)) _ (w .low) (w .high) in omega (arith, f))
+    (λ c. let w = kinds (c .before) in let f = counted-fits (p (c .before) .rec) (counted (c .before)) _ (w .low) (w .high) in omega (arith, f))
     array-table (λ c. search needs) loop-again returns)
