@@ -60,7 +60,14 @@ fn with_records(c: Counts, records: usize) -> Counts
 }
 
 // Writes the canonical image: the header, the facts, then constraints and nodes as they stand, renumbered.
-fn write(output: &mut [u8], policy: &[u8], counts: Counts, keys: &[u32], masks: &[u32], facts: usize)
+fn write(
+    output: &mut [u8],
+    policy: &[u8],
+    counts: Counts,
+    keys: &[u32],
+    masks: &[u32],
+    facts: usize,
+)
     requires { ⌜ Canonizable (now policy) counts (now keys) (now masks) facts (length (now output)) ⌝ }
     ensures { λ _. ⌜ now (output .exit) ≡ canonicalImage (now (policy .entry)) ++ drop (24 + 12 * canonicalOf (policyOf (now (policy .entry))) .size) (now (output .entry)) ⌝ }
 {

@@ -12,7 +12,7 @@ use Rattle.base.proofs.FillLaws.{fill-then, fill-end}
 use Rattle.base.proofs.WritingLaws.{list-same}
 use Rattle.policy_image.specs.declared.counts.Counts.{Counts}
 use Rattle.policy_image.specs.declared.records.Record.{Record}
-use Rattle.policy_image.specs.Layout.{PolicyExact}
+use Rattle.policy_image.specs.Layout.{PolicyExact, recordCount, countsOf}
 use Rattle.policy_image.specs.Policy.{Policy, policyOf}
 use Rattle.policy_image.specs.Encoding.{countBytes, headerBytes, imageOf}
 use Rattle.policy_image.specs.inner.Writable.{WritableRecord, WritableCounts, WritableHeads, Writable}
@@ -29,6 +29,11 @@ use Rattle.policy_runs.specs.declared.Run.{Run}
 use Rattle.policy_runs.specs.inner.Runs.{NodeTable, runPlace, RunFits}
 use Rattle.policy_runs.specs.inner.Tables.{FewUpto, HeadTable}
 use Rattle.policy_runs.proofs.RunImageLaws.{RunIn, RecordsTo}
+
+-- the number of records, as the header has it
+pub records-of : (s : List ℕ) {c : Counts} → c ≡ countsOf s → c .records ≡ recordCount s
+unfolding countsOf
+records-of s e = ap (λ (c : Counts). c .records) e
 
 -- ---- the header of a policy whose records are lists of kinds 1 to 9, one behind the other
 -- each list has its own kind, and the policy can be written
