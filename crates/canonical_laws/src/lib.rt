@@ -1,1 +1,1 @@
-// What the canonical policy says, and its written image: theorems alone.
+// What the canonical policy says, and its written image: definitions and theorems alone.

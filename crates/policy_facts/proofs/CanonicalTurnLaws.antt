@@ -1,6 +1,6 @@
 -- The canonical list has the kinds in turn, so the canonical policy passes questions 3 and 4; and where its kinds end.
 use Prim.Native.Nat.{ℕ, _+_, _<_}
-use mathlib.Core.Path.{_≡_, refl, ap, _∙_}
+use mathlib.Core.Path.{_≡_, ap, _∙_}
 use mathlib.Core.Bool.{Bool, cond}
 use mathlib.Core.List.{map}
 use native.Mathlib.Omega.{arith}
@@ -33,10 +33,7 @@ module _ (p : Policy) where
   pub canonical-chains : ChainsByKind (canonicalOf p)
   canonical-chains = from-chains (p .counts) (canonicalList p) canonical-turn
 
-  -- ---- where kinds 7, 8 and 9 end
-  pub facts-end : kindsUpto (canonicalKind p) 7 ≡ kindsUpto (factKind p) 7
-  facts-end = refl
-
+  -- ---- where kinds 8 and 9 end
   pub constraints-end : length (kindsUpto (canonicalKind p) 8) ≡ length (kindsUpto (factKind p) 7) + length (kindList p 8)
   constraints-end =
       let e = length-map (kindList p 8) (renumbered (canonicalNode p)) in

@@ -1,12 +1,14 @@
 -- Question 5 of a policy, for records of kinds 1 to 7: a, b and c are bytes, masks have 32 bits, and a kind that carries none has the mask 0.
-use Prim.Native.Nat.{ℕ, zero, suc, _^_, _≤_, _<_}
-use mathlib.Core.Path.{_≡_, refl, subst}
-use mathlib.Core.Bool.{true, false}
+use Prim.Native.Nat.{ℕ, _^_, _≤_, _<_}
+use mathlib.Core.Path.{_≡_, refl, ap, subst}
+use mathlib.Core.Bool.{Bool, true, false, cond}
+use mathlib.Core.Logic.{⊎-elim}
 use native.Mathlib.Omega.{arith}
 use borrow.Author.Tests.{leb-true}
 use lib.Dec.{leb}
 use Rattle.base.specs.Ranges.{Within}
-use Rattle.base.proofs.BoolLaws.{clash, and-first, and-second}
+use Rattle.base.proofs.Numbers.{split-le, three-of}
+use Rattle.base.proofs.BoolLaws.{and-first, and-second}
 use Rattle.policy_image.specs.declared.counts.Counts.{Counts}
 use Rattle.policy_image.specs.declared.records.Record.{Record}
 use Rattle.policy_image.specs.Counts.{CountsInRange}
@@ -23,31 +25,55 @@ mask-within k m =
     let h = leb-true k 4 (and-second (leb 2 k) (leb k 4) m) in
     record { low = omega arith; high = omega arith }
 
+-- the mask of a kind is any, or 0 where it carries none
+abbrev pub mostMask : Bool → ℕ
+mostMask carries = cond carries 4294967295 0
+
+most-mask : (t : Bool) → mostMask t ≤ 4294967295
+most-mask true = omega arith
+most-mask false = omega arith
+
 -- ---- the ranges of kind k
-record Bounded (k : ℕ) (l : Limits) : Type 0 where
-  a : l .a .high ≤ 255
-  b : l .b .high ≤ 255
-  c : l .c .high ≤ 255
-  mask : l .mask .high ≤ 4294967295
-  bare : carriesMask k ≡ false → l .mask .high ≡ 0
+pub record FactLimits (k : ℕ) (l : Limits) : Type 0 where
+  pub a : l .a .high ≤ 255
+  pub b : l .b .high ≤ 255
+  pub c : l .c .high ≤ 255
+  pub d : l .d .low ≡ 0
+  pub e : l .e .low ≡ 0
+  pub least : l .mask .low ≡ 0
+  pub most : l .mask .high ≡ mostMask (carriesMask k)
 
-module _ (k : ℕ) (l : Limits) (a : l .a .high ≤ 255) (b : l .b .high ≤ 255) (c : l .c .high ≤ 255) where
-  carried : carriesMask k ≡ true → l .mask .high ≡ 4294967295 → Bounded k l
-  carried t e = record { a = a; b = b; c = c; mask = omega arith; bare = λ n. absurd (clash t n) }
+module _ (n : Counts) (C : CountsInRange n) (op : ℕ) where
+  abbrev Limited : ℕ → Type 0
+  Limited k = FactLimits k (limitsOf n k op)
 
-  uncarried : l .mask .high ≡ 0 → Bounded k l
-  uncarried e = record { a = a; b = b; c = c; mask = omega arith; bare = λ n. e }
+  pub fact-limits : (k : ℕ) → Within 1 7 k → FactLimits k (limitsOf n k op)
+  fact-limits k w =
+      ⊎-elim
+      (λ h. three-of Limited 1 k (w .low) h one two three)
+      (λ h. ⊎-elim (λ g. three-of Limited 4 k h g four five six) (λ g. let b = w .high in subst Limited (let e : 7 ≡ k = omega arith in e) seven) (split-le k 6))
+      (split-le k 3)
+    where
+      one : Limited 1
+      one = record { a = omega arith; b = omega arith; c = omega arith; d = refl; e = refl; least = refl; most = refl }
 
-limits-bounded : (n : Counts) → CountsInRange n → (k op : ℕ) → 1 ≤ k → k ≤ 7 → Bounded k (limitsOf n k op)
-limits-bounded n C zero op a b = let z : ⊥ = omega arith in absurd z
-limits-bounded n C (suc zero) op a b = uncarried 1 (limitsOf n 1 op) (omega arith) (omega arith) (omega arith) refl
-limits-bounded n C (suc (suc zero)) op a b = carried 2 (limitsOf n 2 op) (omega arith) (omega arith) (omega arith) refl refl
-limits-bounded n C (suc (suc (suc zero))) op a b = carried 3 (limitsOf n 3 op) (omega arith) (omega arith) (omega arith) refl refl
-limits-bounded n C (suc (suc (suc (suc zero)))) op a b = carried 4 (limitsOf n 4 op) (omega arith) (omega arith) (omega arith) refl refl
-limits-bounded n C (suc (suc (suc (suc (suc zero))))) op a b = uncarried 5 (limitsOf n 5 op) (omega arith) (omega arith) (omega arith) refl
-limits-bounded n C (suc (suc (suc (suc (suc (suc zero)))))) op a b = uncarried 6 (limitsOf n 6 op) (omega arith) (omega arith) (omega arith) refl
-limits-bounded n C (suc (suc (suc (suc (suc (suc (suc zero))))))) op a b = uncarried 7 (limitsOf n 7 op) (omega arith) (omega arith) (omega arith) refl
-limits-bounded n C (suc (suc (suc (suc (suc (suc (suc (suc k)))))))) op a b = let z : ⊥ = omega arith in absurd z
+      two : Limited 2
+      two = record { a = omega arith; b = omega arith; c = omega arith; d = refl; e = refl; least = refl; most = refl }
+
+      three : Limited 3
+      three = record { a = omega arith; b = omega arith; c = omega arith; d = refl; e = refl; least = refl; most = refl }
+
+      four : Limited 4
+      four = record { a = omega arith; b = omega arith; c = omega arith; d = refl; e = refl; least = refl; most = refl }
+
+      five : Limited 5
+      five = record { a = omega arith; b = omega arith; c = omega arith; d = refl; e = refl; least = refl; most = refl }
+
+      six : Limited 6
+      six = record { a = omega arith; b = omega arith; c = omega arith; d = refl; e = refl; least = refl; most = refl }
+
+      seven : Limited 7
+      seven = record { a = omega arith; b = omega arith; c = omega arith; d = refl; e = refl; least = refl; most = refl }
 
 -- ---- the records of kind k
 pub record FactFields (k : ℕ) (r : Record) : Type 0 where
@@ -62,11 +88,11 @@ fact-fields p C E k i w o =
     let r = p .rec i in
     let F : WithinLimits (limitsOf (p .counts) k (r .a)) r =
     subst (λ (κ : ℕ). WithinLimits (limitsOf (p .counts) κ (r .a)) r) (o .kind) (E .each i (o .low) (o .high)) in
-    let B = limits-bounded (p .counts) C k (r .a) (w .low) (w .high) in
+    let L = fact-limits (p .counts) C (r .a) k w in
     record {
-      a = omega (arith, F .a .high, B .a);
-      b = omega (arith, F .b .high, B .b);
-      c = omega (arith, F .c .high, B .c);
-      mask = omega (arith, F .mask .high, B .mask);
-      bare = λ e. let h = B .bare e in omega (arith, F .mask .high, h);
+      a = omega (arith, F .a .high, L .a);
+      b = omega (arith, F .b .high, L .b);
+      c = omega (arith, F .c .high, L .c);
+      mask = omega (arith, F .mask .high, L .most, most-mask (carriesMask k));
+      bare = λ e. let h = ap mostMask e in omega (arith, F .mask .high, L .most, h);
     }

@@ -91,10 +91,7 @@ module _ (f : ℕ → Bool) where
   pub mask-above : (n i : ℕ) → n ≤ i → bit (maskOf f n) i ≡ false
   mask-above n i h = bit-above {m = maskOf f n} {k = n} i (mask-small n) h
 
-  -- 0 exactly where f says no bit
-  pub mask-empty : (n : ℕ) → ((i : ℕ) → i < n → f i ≡ false) → maskOf f n ≡ 0
-  mask-empty n e = mask-none (maskOf f n) n (mask-small n) (λ i l. mask-bit n i l ∙ e i l)
-
+  -- not 0 exactly where f says some bit
   pub mask-holds : (n i : ℕ) → i < n → f i ≡ true → maskOf f n ≡ 0 → ⊥
   mask-holds n i h e z = clash (mask-bit n i h ∙ e) (ap (λ (m : ℕ). bit m i) z ∙ bit-zero i)
 

@@ -5,14 +5,11 @@ use mathlib.Core.Bool.{Bool, true, false, not, cond}
 use mathlib.Core.List.{List, [], _∷_, map, map-map}
 use mathlib.Core.Logic.{⊎-elim}
 use native.Mathlib.Omega.{arith}
-use borrow.Author.Tests.{lt-leb}
 use lib.Dec.{eqb}
 use lib.ListN.{length, length-map}
 use Rattle.base.specs.Ranges.{Within}
 use Rattle.base.proofs.Numbers.{split-le, two-of}
-use Rattle.base.proofs.BoolLaws.{clash, true-or-false}
-use Rattle.base.proofs.BitLaws.{bit-zero}
-use Rattle.base.specs.Bits.{bit}
+use Rattle.base.proofs.BoolLaws.{true-or-false}
 use Rattle.policy_image.specs.declared.records.Record.{Record}
 use Rattle.policy_image.specs.Counts.{CountsInRange}
 use Rattle.policy_image.specs.Layout.{leftOf}
@@ -26,10 +23,9 @@ use Rattle.policy_facts.specs.Canonical.{keyA, keyB, keyC, keyNumbers, f
 use Rattle.policy_facts.specs.cases.Same.{byPlace, Same}
 use Rattle.policy_facts.proofs.KindsLaws.{kinds-map, kinds-same}
 use Rattle.policy_facts.proofs.FactListLaws.{facts-same}
-use Rattle.policy_facts.proofs.MaskLaws.{mask-same, mask-empty}
-use Rattle.policy_facts.proofs.FactFieldLaws.{fact-fields}
-use Rattle.policy_facts.proofs.KeyLaws.{permits-record}
-use Rattle.policy_facts.proofs.StatedLaws.{canonical-fact}
+use Rattle.policy_facts.proofs.MaskLaws.{mask-same}
+use Rattle.policy_facts.proofs.StatedLaws.{canonical-fact, no-mask}
+use Rattle.policy_facts.proofs.CanonicalTurnLaws.{canonical-kept}
 use Rattle.policy_facts.proofs.RenumberTwiceLaws.{renumbered-next, renumber-twice}
 use Rattle.policy_facts.proofs.PolicyFromLaws.{from-bare}
 
@@ -82,7 +78,7 @@ place-fits p r = let h = most-length (p .rec) 9 (leftOf r) in let l : leftOf r <
 
 by-place : (p : Policy) (k : ℕ) → 7 < k → map (withNext 0) (canonicalKind p k) ≡ map (renumbered (λ n. frontOf p + n)) (byPlace p k)
 by-place p k h =
-    ap (λ (t : Bool). map (withNext 0) (cond t (factKind p k) (map (renumbered (canonicalNode p)) (kindList p k)))) (lt-leb k 7 h)
+    ap (map (withNext 0)) (canonical-kept p k h)
     ∙ map-map (withNext 0) (renumbered (canonicalNode p)) (kindList p k)
     ∙ (λ j. map (λ r. each r j) (kindList p k))
     ∙ sym (map-map (renumbered (λ n. frontOf p + n)) (λ r. withNext 0 (renumbered (nodesUpto p) r)) (kindList p k))
@@ -93,20 +89,6 @@ by-place p k h =
         ∙ sym (renumbered-next (λ n. frontOf p + n) 0 (renumbered (nodesUpto p) r))
 
 -- ---- kinds 1 to 7: what is written for a key
--- a kind that carries no mask has none
-pub no-mask : (p : Policy) → CountsInRange (p .counts) → FieldsInRange p → (k a b c : ℕ) → Within 1 7 k → carriesMask k ≡ false → unitedMask p k a b c ≡ 0
-no-mask p C E k a b c w m = mask-empty (permits p k a b c) 32 (λ i l. none i)
-  where
-    none : (i : ℕ) → permits p k a b c i ≡ false
-    none i =
-        ⊎-elim
-        (λ e.
-        let s = permits-record p k a b c i e in
-        let z = fact-fields p C E k (s .0) w (s .1) .bare m in
-        absurd (clash (s .3) (ap (λ (n : ℕ). bit n i) z ∙ bit-zero i)))
-        (λ e. e)
-        (true-or-false (permits p k a b c i))
-
 module _ (p q : Policy) (C : CountsInRange (p .counts)) (D : CountsInRange (q .counts)) (E : FieldsInRange p) (F : FieldsInRange q) (S : Same p q) where
   module _ (k : ℕ) (w : Within 1 7 k) where
     united-same : (a b c : ℕ) → unitedMask p k a b c ≡ unitedMask q k a b c

@@ -9,7 +9,9 @@ use borrow.Author.Tests.{le-leb, ne-eqb, eqb-false, not-true}
 use lib.Dec.{eqb, leb}
 use Rattle.base.specs.Bits.{bit}
 use Rattle.base.specs.Ranges.{Within}
-use Rattle.base.proofs.BoolLaws.{same-truth, and-true, and-first, and-second}
+use Rattle.base.proofs.Numbers.{split-eq}
+use Rattle.base.proofs.BoolLaws.{clash, same-truth, and-true, and-first, and-second}
+use Rattle.base.proofs.BitLaws.{bit-zero}
 use Rattle.policy_image.specs.declared.records.Record.{Record}
 use Rattle.policy_image.specs.Counts.{CountsInRange}
 use Rattle.policy_image.specs.Policy.{Policy}
@@ -69,12 +71,20 @@ module _ (p : Policy) (k : ℕ) where
         mask-found (permits p k a b c) 32
         (eqb-false (unitedMask p k a b c) 0 (not-true (eqb (unitedMask p k a b c) 0) (sym (written-by true m) ∙ w)))
 
+    -- .. and of any kind, those that some record has
+    pub written-key : isWritten p k a b c ≡ true → (i : ℕ) × OfKind p k i × (hasKey a b c (p .rec i) ≡ true)
+    written-key w = go (carriesMask k) refl
+      where
+        go : (t : Bool) → carriesMask k ≡ t → (i : ℕ) × OfKind p k i × (hasKey a b c (p .rec i) ≡ true)
+        go true m = let s = mask-permits m w in let r = permits-record p k a b c (s .0) (s .2) in (r .0, r .1, r .2)
+        go false m = states-record p k a b c (sym (written-by false m) ∙ w)
+
     -- a flow record's 3 is none of them
     pub no-three : isWritten p k a b c ≡ true → k ≡ 3 → b ≡ 3 → ⊥
     no-three w e h =
-        let s = mask-permits (ap carriesMask e) w in
-        let r = permits-record p k a b c (s .0) (s .2) in
-        says-no-three (p .rec (r .0)) b (key-has a b c (p .rec (r .0)) (r .2) .1) (r .1 .kind ∙ e) h
+        let s = written-key w in
+        let r = p .rec (s .0) in
+        says-no-three r b (key-has a b c r (s .2) .1) (s .1 .kind ∙ e) h
 
   -- ---- the record of a key that is written has that key alone
   module _ (x a b c : ℕ) (w : Written p k x) where
@@ -91,6 +101,17 @@ module _ (p : Policy) (k : ℕ) where
           isB = ⊎-elim (λ s. absurd (no-three (keyA x) (keyB x) (keyC x) w (s .0 .0) (s .0 .1))) (λ s. s .1) (says-cases (factRecord p k x) b (h .1));
           isC = h .2;
         }
+
+-- of a kind that carries no mask, the mask is 0
+pub no-mask : (p : Policy) → CountsInRange (p .counts) → FieldsInRange p → (k a b c : ℕ) → Within 1 7 k → carriesMask k ≡ false → unitedMask p k a b c ≡ 0
+no-mask p C E k a b c w m =
+    ⊎-elim (λ z. z)
+    (λ d.
+    let s = mask-found (permits p k a b c) 32 d in
+    let r = permits-record p k a b c (s .0) (s .2) in
+    let z = fact-fields p C E k (r .0) w (r .1) .bare m in
+    absurd (clash (r .3) (ap (λ (n : ℕ). bit n (s .0)) z ∙ bit-zero (s .0))))
+    (split-eq (unitedMask p k a b c) 0)
 
 -- ---- the facts of the canonical policy
 states-some : (p : Policy) (k a b c : ℕ) → isStated p k a b c ≡ some p k (hasKey a b c)
