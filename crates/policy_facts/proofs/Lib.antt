@@ -18,3 +18,4 @@ pub mod CanonicalWritableLaws
 pub mod CanonicalSourceLaws
 pub mod SameLaws
 pub mod CanonicalSameLaws
+pub mod ComputedLaws
