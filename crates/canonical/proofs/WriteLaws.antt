@@ -34,7 +34,7 @@ use Rattle.policy_runs.proofs.TableLaws.{addedUp}
 use Rattle.policy_runs.proofs.RunImageLaws.{RecordsTo, records-more}
 use Rattle.policy_runs.proofs.ImageWriteLaws.{WritableLists, EndTable, ends-most, run-fits}
 use Rattle.canonical.specs.inner.Rows.{keysOfKind, KeyCounts, FactKinds, factRow, rowByte, RowsFit}
-use Rattle.canonical.specs.inner.Parts.{Kept, Canonizable}
+use Rattle.canonical.specs.inner.Parts.{KeptKinds, Canonizable}
 use Rattle.canonical.proofs.PlacedLaws.{kinds-count, row-is, kept-end, kept-run}
 
 -- no key of a fact has kind 8 or 9
@@ -74,7 +74,7 @@ module _ {s : List ℕ} {c : Counts} {keys masks : List ℕ} {m room : ℕ} (G :
   fact-kinds i h = G .table .entry i h .kind
 
   -- ---- the tables
-  module _ (of facts kept : List ℕ) (O : KindTable p of) (F : KeyCounts keys m facts) (K : Kept of kept) where
+  module _ (of facts kept : List ℕ) (O : KindTable p of) (F : KeyCounts keys m facts) (K : KeptKinds of kept) where
     kept-low : (k : ℕ) → k ≤ 7 → getD kept k 0 ≡ 0
     kept-low k h = K k (omega arith) ∙ ap (λ (t : Bool). cond t 0 (getD of k 0)) (le-leb k 7 h)
 

@@ -34,11 +34,11 @@ ghost use Rattle.policy_image.specs.Policy.{policyOf};
 ghost use Rattle.policy_lists.specs.Lists.{withRecords};
 ghost use Rattle.policy_facts.specs.Canonical.{canonicalOf};
 ghost use Rattle.canonical.specs.Canonical.{canonicalImage, CanonicalPromise};
-ghost use Rattle.canonical.specs.inner.Parts.{Kept, Canonizable};
+ghost use Rattle.canonical.specs.inner.Parts.{KeptKinds, Canonizable};
 
 // The number of records of each kind that stays as it is, and 0 for the kinds of facts.
 fn kept_kinds(of: &[usize; KINDS]) -> [usize; KINDS]
-    ensures { λ r. ⌜ Kept (now (of .entry)) r ⌝ }
+    ensures { λ r. ⌜ KeptKinds (now (of .entry)) r ⌝ }
 {
     let mut kept = [0usize; KINDS];
     kept[CONSTRAINTS] = of[CONSTRAINTS];

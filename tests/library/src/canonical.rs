@@ -129,7 +129,8 @@ impl Asking<'_> {
         if same && !agree {
             return Err(format!("{}: the test itself made it say something else", asked()));
         }
-        if same == agree {
+        // one that is the policy itself tells nothing
+        if same == agree && bytes != self.loose.image {
             tally.told(way.words, same);
         }
         // each of its records makes two at the most

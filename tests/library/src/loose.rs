@@ -35,7 +35,7 @@ fn mask(rng: &mut Rng) -> u32 {
     rng.pick(&[0, 0, 1, 3, 6, one, one, some, u32::MAX])
 }
 
-/// A record of kinds 1 to 7 with one of a few keys, and what else must be there for it to pass.
+/// A record of kinds 1 to 7 with one of a few keys.
 fn fact(rng: &mut Rng, keys: u32) -> Record {
     let (x, y, z) = (rng.range(1, keys), rng.range(1, keys), rng.range(1, keys));
     match rng.range(1, 10) {
@@ -56,7 +56,7 @@ fn leaf(rng: &mut Rng, keys: u32) -> Record {
     Record::node(op, if op < 7 { 0 } else { rng.range(1, keys) }, 0, 0)
 }
 
-/// A node over the last ones that nothing uses, or a leaf; or a constraint on one, with any mask.
+/// A node over some that nothing uses, or a leaf; or a constraint on one, with any mask.
 fn expression(rng: &mut Rng, keys: u32, unused: &mut Vec<usize>) -> Record {
     let there = unused.len();
     let mut used = |rng: &mut Rng| unused.swap_remove(rng.range(0, unused.len() as u32 - 1) as usize);

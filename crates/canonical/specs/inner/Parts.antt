@@ -14,8 +14,8 @@ use Rattle.policy_facts.specs.Canonical.{canonicalOf}
 use Rattle.policy_facts.specs.inner.FactTable.{FactTable}
 
 -- the table r has the entries of t for kinds 8 and 9, whose records stay, and 0 for the others
-abbrev pub Kept : List ℕ → List ℕ → Type 0
-Kept t r = (k : ℕ) → k ≤ 9 → getD r k 0 ≡ cond (leb k 7) 0 (getD t k 0)
+abbrev pub KeptKinds : List ℕ → List ℕ → Type 0
+KeptKinds t r = (k : ℕ) → k ≤ 9 → getD r k 0 ≡ cond (leb k 7) 0 (getD t k 0)
 
 -- the canonical image of s can be written into so many bytes: the first m keys and masks are its table of facts, and c are its counts
 pub record Canonizable (s : List ℕ) (c : Counts) (keys masks : List ℕ) (m output : ℕ) : Type 0 where
