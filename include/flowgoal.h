@@ -25,9 +25,9 @@
  *
  * What is lent. An image is lent as a pointer to its first byte and its length in bytes. It is only read, and only while the
  * call runs; nothing is kept. A work slice or a path slice is lent as a pointer to its first entry, of 32 bits, and the number
- * of its entries, the output of a join as a pointer to its first byte and the number of its bytes. No memory is allocated, no
- * file is touched, and no state is held between calls, so calls may run at the same time in several threads, also on the same
- * images, each with slices of its own.
+ * of its entries, the output of a call that writes an image as a pointer to its first byte and the number of its bytes. No memory
+ * is allocated, no file is touched, and no state is held between calls, so calls may run at the same time in several threads, also
+ * on the same images, each with slices of its own.
  *
  * What comes back. Every call ends, whatever the bytes and the numbers are, and its result is what the specification gives
  * for them: that is proved, for all bytes and all values.
@@ -71,7 +71,7 @@ extern "C" {
 
 /* A result is 256 * steps + 4 * number + answer. The number is that of the refusal, and 0 for every other answer. Steps are
  * those of a shortest path that breaks a goal, or leads from one context to another, and 0 where there is none to tell of. A
- * join has in place of steps the length of the image that it wrote, in bytes, and 0 where it is refused. */
+ * call that writes an image has in place of steps the length of that image, in bytes, and 0 where it is refused. */
 #define FLOWGOAL_ANSWER(result) ((unsigned)((result) % 4))
 #define FLOWGOAL_NUMBER(result) ((unsigned)((result) / 4 % 64))
 #define FLOWGOAL_STEPS(result) ((uint64_t)((result) / 256))
@@ -90,7 +90,7 @@ extern "C" {
 #define FLOWGOAL_NONE 0
 #define FLOWGOAL_SHOWN 1
 
-/* The answer to a join. */
+/* The answer of a call that writes an image. */
 #define FLOWGOAL_WRITTEN 0
 
 /* An answer to all of them: refused, with its number. */
@@ -181,6 +181,25 @@ uint64_t flowgoal_least_steps(const uint8_t *policy, size_t policy_length, uint3
  */
 uint64_t flowgoal_join(const uint8_t *maker, size_t maker_length, const uint8_t *board, size_t board_length,
                        uint8_t *output, size_t output_length);
+
+/* Writes the canonical image of a policy: two policies that say the same have one, and two that do not have two.
+ *
+ * FLOWGOAL_WRITTEN  the first FLOWGOAL_LENGTH bytes of the output are the image; FLOWGOAL_LARGEST_POLICY bytes are room for all.
+ *                   Later bytes are left as they are.
+ *
+ * The counts stay as they are. The records are linked kind by kind, kinds 1 to 9 in turn. Those of kinds 1 to 7 are sorted by a,
+ * then b, then c, each key once with the masks of all its records united; a record of kinds 2, 3 or 4 with an empty mask is left
+ * out, and flow with b = 3 is written as b = 1 and b = 2. Kinds 8 and 9 keep their order, and constraints and nodes name the same
+ * nodes as before by their new numbers. So two policies have equal bytes exactly where their four counts, what their records of
+ * kinds 1 to 7 say, permission by permission, and their lists of constraints and of nodes agree, a node being named by its place
+ * in the list. Every question is answered of the image as of the policy, and the canonical image of the image is itself.
+ *
+ * The call refuses with 1 to 6 and 14 as flowgoal_authorized does, or with
+ *   15  the image would have more than 4,095 records
+ *   16  the output is shorter than the image
+ * and these are asked in this order: the first that applies is the number. The output is left as it is where the call refuses.
+ */
+uint64_t flowgoal_canonical(const uint8_t *policy, size_t policy_length, uint8_t *output, size_t output_length);
 
 #ifdef __cplusplus
 }

@@ -3,8 +3,8 @@
 #include "flowgoal.h"
 #include "images.h"
 
-/* The specification: holds 0, order 1, events 2, refused 3; no 0, yes 1. Of least steps: none 0, a path is shown 1. Of a join:
- * written 0. */
+/* The specification: holds 0, order 1, events 2, refused 3; no 0, yes 1. Of least steps: none 0, a path is shown 1. Of a join, and of
+ * a canonical image: written 0. */
 static void answers(void)
 {
     expect("FLOWGOAL_HOLDS", FLOWGOAL_HOLDS, 0);
@@ -23,7 +23,7 @@ struct fields {
     unsigned number, answer;
 };
 
-/* The specification: 256m + 4k + answer, where a join has the length of its image for m. */
+/* The specification: 256m + 4k + answer, where a call that writes an image has its length for m. */
 static void fields(void)
 {
     static const struct fields cases[] = {

@@ -16,6 +16,11 @@ void put16(uint8_t *at, unsigned value)
     at[1] = (uint8_t)(value / 256);
 }
 
+unsigned get16(const uint8_t *at)
+{
+    return at[0] + 256u * at[1];
+}
+
 void policy_start(struct policy *policy, unsigned types, unsigned roles, unsigned users, unsigned classes)
 {
     memset(policy, 0, sizeof *policy);
@@ -57,6 +62,33 @@ void policy_weir(struct policy *policy)
     policy_add(policy, 5, 2, 2, 0, 0, 0);
     policy_add(policy, 5, 2, 4, 0, 0, 0);
     policy_add(policy, 6, 1, 2, 0, 0, 0);
+}
+
+void policy_refused(struct policy *policy, unsigned number)
+{
+    policy_weir(policy);
+    switch (number) {
+    case 1:
+        policy->length--;
+        break;
+    case 2:
+        policy->bytes[2] = 16;
+        break;
+    case 3:
+        put16(policy->bytes + POLICY_HEADER, 1);
+        break;
+    case 4:
+        put16(policy->bytes + 6, 0);
+        break;
+    case 5:
+        policy->bytes[POLICY_HEADER + 3] = 5;
+        break;
+    case 6:
+        policy_add(policy, 8, 2, 0, 0, 0, 1);
+        break;
+    default:
+        policy_add(policy, 4, 3, 1, 2, 0, 1);
+    }
 }
 
 void policy_deep(struct policy *policy, int allowed, unsigned last)

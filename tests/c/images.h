@@ -25,12 +25,15 @@ struct goal {
 };
 
 void put16(uint8_t *at, unsigned value);
+unsigned get16(const uint8_t *at);
 
 void policy_start(struct policy *policy, unsigned types, unsigned roles, unsigned users, unsigned classes);
 /* One more record, linked to the one before it of its kind. */
 void policy_add(struct policy *policy, unsigned kind, unsigned a, unsigned b, unsigned c, unsigned root, uint32_t mask);
 /* The weir policy of the specification. */
 void policy_weir(struct policy *policy);
+/* The weir policy, damaged so that it is refused with the number: 1 to 6, or 14. */
+void policy_refused(struct policy *policy, unsigned number);
 /* The deepest constraints that a search can come to: a class, its way of flow, a constraint, and nodes up to the record named,
  * each `not` of the one before, above "same type". The records that let type 1 write to type 2, where it is allowed, make it
  * come to flow, where an odd number of negations makes the constraint true for them. */

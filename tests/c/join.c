@@ -157,11 +157,6 @@ static void board_constrains(void)
                   FLOWGOAL_YES);
 }
 
-static unsigned get16(const uint8_t *at)
-{
-    return at[0] + 256u * at[1];
-}
-
 static const uint8_t *record_of(const struct policy *policy, unsigned k)
 {
     return policy->bytes + POLICY_HEADER + POLICY_RECORD * (k - 1);
@@ -224,36 +219,9 @@ static void empty_and_itself(void)
     expect("the bytes after it", untouched_from(wanted.length), 1);
 }
 
-/* The refusals of a policy in their order, each as a damage to the weir policy. */
+/* The refusals of a policy in their order. */
 static const unsigned refusals[] = {1, 2, 3, 4, 5, 6, 14};
 enum { REFUSALS = sizeof refusals / sizeof *refusals };
-
-static void policy_refused(struct policy *policy, unsigned number)
-{
-    policy_weir(policy);
-    switch (number) {
-    case 1:
-        policy->length--;
-        break;
-    case 2:
-        policy->bytes[2] = 16;
-        break;
-    case 3:
-        put16(policy->bytes + POLICY_HEADER, 1);
-        break;
-    case 4:
-        put16(policy->bytes + 6, 0);
-        break;
-    case 5:
-        policy->bytes[POLICY_HEADER + 3] = 5;
-        break;
-    case 6:
-        policy_add(policy, 8, 2, 0, 0, 0, 1);
-        break;
-    default:
-        policy_add(policy, 4, 3, 1, 2, 0, 1);
-    }
-}
 
 /* So many records that each say that type 1 is a domain. */
 static void policy_domains(struct policy *policy, unsigned records)

@@ -6,7 +6,8 @@ use places::PLACES;
 use std::{env, fs, path::Path};
 
 const SOURCE: &str = "../second-search/src";
-const FILES: [&str; 8] = ["landed.rs", "policy.rs", "goal.rs", "paths.rs", "layers.rs", "answer.rs", "steps.rs", "join.rs"];
+const FILES: [&str; 9] =
+    ["landed.rs", "policy.rs", "goal.rs", "paths.rs", "layers.rs", "answer.rs", "steps.rs", "join.rs", "canonical.rs"];
 
 /// Inner doc comments may not stand in an included file.
 fn without_inner_docs(text: &str) -> String {

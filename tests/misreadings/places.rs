@@ -8,7 +8,7 @@ pub struct Place {
     pub switched: &'static str,
 }
 
-pub const PLACES: [Place; 48] = [
+pub const PLACES: [Place; 59] = [
     Place {
         file: "layers.rs",
         reads: "(1..goal.n).any(|i| goal.sigma(i + 1, x) && !self.seen.contains(&i))",
@@ -96,7 +96,8 @@ pub const PLACES: [Place; 48] = [
     Place {
         file: "policy.rs",
         reads: "    if !policy.nodes_ok() {",
-        switched: "    if on!(SourcesBeforeNodes) && policy.records.iter().any(|k| k.kind == 4 && !policy.domain(u32::from(k.a))) {
+        switched:
+            "    if on!(SourcesBeforeNodes) && policy.records.iter().any(|k| k.kind == 4 && !policy.domain(u32::from(k.a))) {
         return Err(14);
     }
     if !policy.nodes_ok() {",
@@ -286,5 +287,69 @@ pub const PLACES: [Place; 48] = [
         *behind = 0;
     }
     Ok(img.len())",
+    },
+    Place {
+        file: "canonical.rs",
+        reads: "let likes = if (r.kind, r.b) == (3, 3) { vec![1, 2] } else { vec![r.b as u32] };",
+        switched: "let b = if on!(SelfIsTheType) && r.kind == 4 && r.b == 0 { r.a } else { r.b } as u32;
+        let likes = if (r.kind, r.b) == (3, 3) && !on!(BothNotSplit) { vec![1, 2] } else { vec![b] };",
+    },
+    Place { file: "canonical.rs", reads: "2..=4 => facts", switched: "2..=4 if r.mask != 0 || !on!(EmptyMasksKept) => facts" },
+    Place {
+        file: "canonical.rs",
+        reads: "    facts\n}",
+        switched: "    facts.retain(|&((kind, _, _, c, ..), p)| {
+        !(on!(UselessDropped) && kind == 4 && !policy.gamma(crate::policy::Event { c, p: p.unwrap_or(0) }))
+    });
+    facts\n}",
+    },
+    Place {
+        file: "canonical.rs",
+        reads: "    // a node is named by its place",
+        switched: "    records = crate::canonicals::facts_as_read(policy, records);
+    // a node is named by its place",
+    },
+    Place {
+        file: "canonical.rs",
+        reads: "policy.records.iter().filter(move |r| r.kind == kind);",
+        switched: "policy.records.iter().enumerate().filter(move |(i, r)| {
+        r.kind == kind
+            && !(on!(EmptyConstraintsDropped) && kind == 8 && r.mask == 0)
+            && !(on!(UnusedLeftOut) && kind == 9 && !crate::joins::uses(policy, i + 1))
+    }).map(|(_, r)| r);",
+    },
+    Place {
+        file: "canonical.rs",
+        reads: "filter(|r| r.kind == 9).count();",
+        switched: "filter(|r| r.kind == 9).count();
+    let child = |old: usize| if on!(ChildrenNotRenumbered) { old } else { new(old) };",
+    },
+    Place {
+        file: "canonical.rs",
+        reads: "list(8).map(|r| r.with_root(new(r.root())))",
+        switched: "list(8).map(|r| if on!(RootsNotRenumbered) { *r } else { r.with_root(new(r.root())) })",
+    },
+    Place {
+        file: "canonical.rs",
+        reads: "1 => r.with_children(new(r.left()), 0),",
+        switched: "1 => r.with_children(child(r.left()), 0),",
+    },
+    Place {
+        file: "canonical.rs",
+        reads: "2 | 3 => r.with_children(new(r.left()), new(r.right())),",
+        switched:
+            "2 | 3 => r.with_children(child(r.left()), if on!(RightNotRenumbered) { r.right() } else { child(r.right()) }),",
+    },
+    Place {
+        file: "canonical.rs",
+        reads: "    Policy { records, ..policy.clone() }",
+        switched: "    crate::canonicals::policy_as_read(policy, records)",
+    },
+    Place {
+        file: "canonical.rs",
+        reads: "    write_out(&canonical_policy(&check_policy_landed(landed, policy)?), out)",
+        switched: "    let policy = check_policy_landed(crate::canonicals::asked_as_read(landed), policy)?;
+    crate::canonicals::counted_as_read(&policy)?;
+    write_out(&canonical_policy(&policy), out)",
     },
 ];

@@ -1,8 +1,9 @@
-// The calls for C: those of `bare_questions`, `goal_question`, `least_steps` and `join`, with contexts and events by their numbers and the
-// answer as one number. None asks anything of its caller; each promise fixes the whole result.
+// The calls for C: those of `bare_questions`, `goal_question`, `least_steps`, `join` and `canonical`, with contexts and events by their
+// numbers and the answer as one number. None asks anything of its caller; each promise fixes the whole result.
 use bare_questions::authorization;
 use bare_questions::flow;
 use bare_questions::number as answer_number;
+use canonical::canonical;
 use context::Context;
 use context::Event;
 use goal_question::goal::goal_question;
@@ -19,6 +20,7 @@ ghost use Rattle.goal_question.specs.GoalQuestion.{GoalPromise, outcomeNumber};
 ghost use Rattle.least_steps.specs.LeastSteps.{StepsPromise, stepsNumber};
 ghost use Rattle.policy_writing.specs.Writing.{writingNumber};
 ghost use Rattle.join.specs.Join.{JoinPromise};
+ghost use Rattle.canonical.specs.Canonical.{CanonicalPromise};
 
 // The authorization question for C: t1 r1 u1 is the context that acts, t2 r2 u2 the one acted on.
 #[no_mangle]
@@ -101,4 +103,12 @@ pub extern "C" fn flowgoal_join(maker: &[u8], board: &[u8], output: &mut [u8]) -
     ensures { λ r. ⌜ Numbered writingNumber (JoinPromise (now (maker .entry)) (now (board .entry)) (now (output .entry)) (now (output .exit))) r ⌝ }
 {
     writing_number(join(maker, board, output))
+}
+
+// The canonical image for C: that of the policy, written to the output.
+#[no_mangle]
+pub extern "C" fn flowgoal_canonical(policy: &[u8], output: &mut [u8]) -> u64
+    ensures { λ r. ⌜ Numbered writingNumber (CanonicalPromise (now (policy .entry)) (now (output .entry)) (now (output .exit))) r ⌝ }
+{
+    writing_number(canonical(policy, output))
 }

@@ -2,7 +2,7 @@
 use Prim.Native.Nat.{ℕ, _+_, _*_, _≤_, _<_}
 use mathlib.Core.List.{List, [], _∷_, _++_}
 use mathlib.Core.Logic.{inl, inr}
-use mathlib.Core.Path.{_≡_, refl, sym, ap, ap₂, _∙_}
+use mathlib.Core.Path.{_≡_, refl, sym, ap₂, _∙_}
 use native.Mathlib.Omega.{arith}
 use lib.ListN.{length, drop}
 use Rattle.base.specs.Questions.{Question, ask, AllYes, RefusedWith}
@@ -11,7 +11,7 @@ use Rattle.base.proofs.QuestionLaws.{refused-first, refused-then, passed-both}
 use Rattle.policy_image.specs.declared.counts.Counts.{Counts}
 use Rattle.policy_image.specs.declared.counts.Checked.{Checked}
 use Rattle.policy_image.specs.declared.counts.Checked.the-variants as policy
-use Rattle.policy_image.specs.Layout.{recordCount, countsOf}
+use Rattle.policy_image.specs.Layout.{recordCount}
 use Rattle.policy_image.specs.Policy.{policyOf}
 use Rattle.policy_image.proofs.EncodingLaws.{image-length}
 use Rattle.policy_check.specs.Questions.{policyQuestions}
@@ -19,13 +19,9 @@ use Rattle.policy_check.specs.inner.Answer.{PolicyAnswer, refusalOf}
 use Rattle.policy_check.proofs.AnswerLaws.{refused, sound}
 use Rattle.policy_lists.specs.Joined.{joined}
 use Rattle.policy_lists.proofs.JoinTurnLaws.{joined-size}
+use Rattle.policy_runs.proofs.ImageWriteLaws.{records-of}
 use Rattle.join.specs.Join.{joinedImage, joinQuestions}
 use Rattle.join.specs.inner.Parts.{Joinable}
-
--- the number of records, as the header has it
-records-of : (s : List ℕ) {c : Counts} → c ≡ countsOf s → c .records ≡ recordCount s
-unfolding countsOf
-records-of s e = ap (λ (c : Counts). c .records) e
 
 pub few-records : (s : List ℕ) {c : Counts} → PolicyAnswer s (policy.Accepted c) → c .records ≤ 4095
 few-records s a = let x = records-of s (a .0) in let f = sound s (a .1) .exact .few in omega arith

@@ -1,13 +1,5 @@
 // One policy from maker and board: the join writes one image from two. It asks nothing of its caller, and its promise fixes the answer and
 // every byte of the output.
-mod runs;
-
-use crate::runs::KINDS;
-use crate::runs::Run;
-use crate::runs::count_kinds;
-use crate::runs::count_nodes;
-use crate::runs::next_upto;
-use crate::runs::put_run;
 use policy_check::check;
 use policy_check::refusal;
 use policy_image::counts::Checked;
@@ -16,20 +8,23 @@ use policy_image::counts::HEADER;
 use policy_image::counts::MOST_RECORDS;
 use policy_image::counts::RECORD;
 use policy_image::kinds::CONSTRAINTS;
+use policy_runs::Run;
+use policy_runs::count_kinds;
+use policy_runs::count_nodes;
+use policy_runs::put_run;
+use policy_runs::tables::NODES;
+use policy_runs::tables::ends_of;
+use policy_runs::tables::heads_of;
 use policy_writing::answer::Writing;
 use policy_writing::put_header;
-ghost use Prim.Native.Nat.{ℕ, _+_, _*_, _-_, _≤_, _<_};
+ghost use Prim.Native.Nat.{_+_, _*_, _≤_};
 ghost use mathlib.Core.Path.{_≡_};
 ghost use mathlib.Core.List.{_++_};
-ghost use lib.ListN.{length, getD, drop};
+ghost use lib.ListN.{length, drop};
 ghost use Rattle.policy_image.specs.Layout.{recordCount};
 ghost use Rattle.policy_lists.specs.Joined.{larger, largerCounts};
-ghost use Rattle.policy_lists.specs.inner.Places.{nextUpto};
 ghost use Rattle.join.specs.Join.{joinedImage, JoinPromise};
-ghost use Rattle.join.specs.inner.Parts.{Summed, FewOfEach, FewUpto, HeadTable, Joinable};
-
-// The last kind, as heads are numbered.
-const NODES: usize = 9;
+ghost use Rattle.join.specs.inner.Parts.{Joinable};
 
 // The larger of two counts.
 fn larger_of(a: u32, b: u32) -> u32
@@ -50,34 +45,6 @@ fn larger_counts(c: Counts, d: Counts) -> Counts
         classes: larger_of(c.classes, d.classes),
         records: c.records + d.records,
     }
-}
-
-// For each kind, how many records of kinds up to it there are in all.
-fn ends_of(maker: &[usize; KINDS], board: &[usize; KINDS]) -> [usize; KINDS]
-    requires { ⌜ FewOfEach (now maker) (now board) ⌝ }
-    ensures { λ r. ⌜ Summed (λ k. getD (now (maker .entry)) k 0 + getD (now (board .entry)) k 0) r 9 ⌝ }
-{
-    let mut ends = [0usize; KINDS];
-    let mut k: usize = 1;
-    while k <= NODES {
-        ends[k] = ends[k - 1] + (maker[k] + board[k]);
-        k += 1;
-    }
-    ends
-}
-
-// The heads of the result: the number of the first record of each kind, or 0.
-fn heads_of(ends: &[usize; KINDS]) -> [usize; KINDS]
-    requires { ⌜ FewUpto (now ends) ⌝ }
-    ensures { λ r. ⌜ HeadTable (now (ends .entry)) r ⌝ }
-{
-    let mut heads = [0usize; KINDS];
-    let mut k: usize = 1;
-    while k <= NODES {
-        heads[k] = next_upto(ends[k], ends[k - 1]);
-        k += 1;
-    }
-    heads
 }
 
 // Writes the joined image: the header, then for each kind the maker's records and the board's.

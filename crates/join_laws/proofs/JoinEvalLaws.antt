@@ -1,110 +1,41 @@
 -- The value of a node is the same in the joined policy as in its own, so every constraint of both applies there as it stands: "constraints all
 -- apply".
-use Prim.Native.Nat.{ℕ, _+_, _*_, _/_, _%_, _≤_, _<_}
-use mathlib.Core.Path.{_≡_, refl, sym, ap, ap₂, _∙_}
-use mathlib.Core.Bool.{Bool, false, not, _&&_, _||_}
+use Prim.Native.Nat.{ℕ, _<_}
+use mathlib.Core.Path.{_≡_, refl, ap₂, _∙_}
+use mathlib.Core.Bool.{_&&_}
 use native.Mathlib.Omega.{arith}
-use borrow.Author.Tests.{eq-eqb}
-use Rattle.base.proofs.BoolLaws.{clash}
-use Rattle.policy_image.specs.declared.records.Record.{Record}
-use Rattle.policy_image.specs.Layout.{rootOf, leftOf, rightOf}
+use Rattle.policy_image.specs.declared.counts.Counts.{Counts}
 use Rattle.policy_image.specs.Policy.{Policy}
-use Rattle.policy_image.specs.OfKind.{every}
-use Rattle.policy_expressions.specs.declared.Use.the-variants.{Node}
-use Rattle.policy_expressions.specs.Nodes.{hasRoot, useOf, IsNode, NodesInOrder}
-use Rattle.policy_expressions.proofs.UseLaws.{use-left, use-right}
-use Rattle.policy_lists.specs.Lists.{recordIn}
-use Rattle.policy_lists.specs.Joined.{withRoot, renumbered, makersNode, boardsNode, joinedList, joined}
-use Rattle.policy_lists.proofs.RenumberLaws.{renumbered-kind}
-use Rattle.policy_lists.proofs.RenumberUseLaws.{movedUse, moved-cases, use-moved}
+use Rattle.policy_expressions.specs.Nodes.{IsNode, NodesInOrder}
+use Rattle.policy_lists.specs.Joined.{largerCounts, makersNode, boardsNode, joinedList, joined}
 use Rattle.policy_lists.proofs.JoinLaws.{every-joined}
 use Rattle.policy_lists.proofs.NodeLaws.{makers-node, boards-node}
 use Rattle.policy_lists.proofs.JoinNodeLaws.{makers-is, boards-is, joined-nodes}
 use Rattle.context.specs.declared.Context.{Context}
 use Rattle.context.specs.declared.Event.{Event}
 use Rattle.constraints.specs.Eval.{evalNode}
-use Rattle.constraints.specs.Constraints.{constrains, constraintsHold}
-use Rattle.join_laws.proofs.CarryLaws.{Carried, carried-value, carried-root, says}
-use Rattle.join_laws.proofs.AgreeLaws.{agrees-itself, every-agrees}
-
--- ---- what renumbering leaves of a record, and what it makes of the nodes that it uses
-module _ (to : ℕ → ℕ) (r : Record) where
-  renumbered-a : renumbered to r .a ≡ r .a
-  renumbered-a = moved-cases to r (λ w. w .a ≡ r .a) (λ x y z. refl) (λ x y z. refl) (λ x y z. refl) (λ x y z. refl)
-
-  renumbered-b : renumbered to r .b ≡ r .b
-  renumbered-b = moved-cases to r (λ w. w .b ≡ r .b) (λ x y z. refl) (λ x y z. refl) (λ x y z. refl) (λ x y z. refl)
-
-  -- of a constraint the root alone
-  renumbered-constraint : r .kind ≡ 8 → renumbered to r ≡ withRoot (to (rootOf r)) r
-  renumbered-constraint k =
-      moved-cases to r (λ w. w ≡ withRoot (to (rootOf r)) r) (λ x y z. refl) (λ x y z. no x) (λ x y z. no x) (λ x y z. no x)
-    where
-      no : {w : Record} → hasRoot r ≡ false → w ≡ withRoot (to (rootOf r)) r
-      no x = absurd (clash (eq-eqb (r .kind) 8 k) x)
-
-  module _ (fits : (n : ℕ) → useOf r 0 ≡ Node n → to n < 65536) (k : r .kind ≡ 9) where
-    renumbered-left : 1 ≤ r .a → r .a ≤ 3 → leftOf (renumbered to r) ≡ to (leftOf r)
-    renumbered-left a b =
-        let n = renumbered-a in
-        let w = use-left (renumbered to r) (renumbered-kind to r ∙ k) (omega arith) (omega arith) in
-        let e : Node (leftOf (renumbered to r)) ≡ Node (to (leftOf r)) = sym w ∙ use-moved to r fits 0 ∙ ap (movedUse to) (use-left r k a b) in
-        cc
-
-    renumbered-right : 2 ≤ r .a → r .a ≤ 3 → rightOf (renumbered to r) ≡ to (rightOf r)
-    renumbered-right a b =
-        let n = renumbered-a in
-        let w = use-right (renumbered to r) (renumbered-kind to r ∙ k) (omega arith) (omega arith) in
-        let e : Node (rightOf (renumbered to r)) ≡ Node (to (rightOf r)) = sym w ∙ use-moved to r fits 1 ∙ ap (movedUse to) (use-right r k a b) in
-        cc
+use Rattle.constraints.specs.Constraints.{constraintsHold}
+use Rattle.image_laws.proofs.CarryLaws.{says}
+use Rattle.image_laws.proofs.StemEvalLaws.{its-value, its-constraints}
 
 module _ (p q : Policy) (small : joined p q .size < 65536) (N : NodesInOrder p) (M : NodesInOrder q) where
-  -- ---- one of the two: where its nodes stand in the result
-  module _ (o : Policy) (to : ℕ → ℕ) (O : NodesInOrder o) (is : (n : ℕ) → IsNode o n → IsNode (joined p q) (to n))
-      (at : (n : ℕ) → IsNode o n → recordIn (joinedList p q) (to n) ≡ renumbered to (o .rec n)) where
-    -- numbers of nodes of the result fit two bytes
-    used-fits : (i : ℕ) → 1 ≤ i → i ≤ o .size → (n : ℕ) → useOf (o .rec i) 0 ≡ Node n → to n < 65536
-    used-fits i a b n h =
-        let w = O .well i 0 n (record { low = a; high = b; at = h }) in
-        let m = is n (w .node) .high in
-        omega (arith, m, small)
+  abbrev counts : Counts
+  counts = largerCounts (p .counts) (q .counts)
 
-    its-carried : Carried o (joined p q) to
-    its-carried =
-        record {
-          node = is;
-          operator = λ n I. ap (λ (r : Record). r .a) (at n I) ∙ renumbered-a to (o .rec n);
-          compared = λ n I. ap (λ (r : Record). r .b) (at n I) ∙ renumbered-b to (o .rec n);
-          left = λ n I a b. ap leftOf (at n I) ∙ renumbered-left to (o .rec n) (used-fits n (I .low) (I .high)) (I .nine) a b;
-          right = λ n I a b. ap rightOf (at n I) ∙ renumbered-right to (o .rec n) (used-fits n (I .low) (I .high)) (I .nine) a b;
-        }
-
-    its-value : (x y : Context) (n : ℕ) → IsNode o n → evalNode (joined p q) x y (to n) ≡ evalNode o x y n
-    its-value = carried-value o (joined p q) to its-carried O (joined-nodes p q small N M)
-
-    -- a constraint of it, renumbered, says of an event in the result what it says in its own policy
-    its-constraints : (e : Event) (x y : Context) → every o 8 (λ r. says e x y (joined p q) (renumbered to r)) ≡ constraintsHold o e x y
-    unfolding constraintsHold
-    its-constraints e x y =
-        every-agrees o o (agrees-itself o) 8 (λ r. says e x y (joined p q) (renumbered to r)) (says e x y o)
-        (λ i K.
-        let r = o .rec i in
-        let n = to (rootOf r) in
-        ap (says e x y (joined p q)) (renumbered-constraint to r (K .kind))
-        ∙ ap (λ (m : ℕ). not (constrains r e) || evalNode (joined p q) x y m) (let h : n % 256 + 256 * (n / 256) ≡ n = omega arith in h)
-        ∙ ap (λ (b : Bool). not (constrains r e) || b) (carried-root o (joined p q) to its-carried O (joined-nodes p q small N M) x y i K))
+  nodes : NodesInOrder (joined p q)
+  nodes = joined-nodes p q small N M
 
   -- ---- the maker's nodes, and the board's
   pub makers-value : (x y : Context) (n : ℕ) → IsNode p n → evalNode (joined p q) x y (makersNode p q n) ≡ evalNode p x y n
-  makers-value = its-value p (makersNode p q) N (makers-is p q) (makers-node p q)
+  makers-value = its-value counts (joinedList p q) small nodes p (makersNode p q) N (makers-is p q) (makers-node p q)
 
   pub boards-value : (x y : Context) (n : ℕ) → IsNode q n → evalNode (joined p q) x y (boardsNode p q n) ≡ evalNode q x y n
-  boards-value = its-value q (boardsNode p q) M (boards-is p q) (boards-node p q)
+  boards-value = its-value counts (joinedList p q) small nodes q (boardsNode p q) M (boards-is p q) (boards-node p q)
 
   -- "constraints all apply"
   pub joined-constraints : (e : Event) (x y : Context) → constraintsHold (joined p q) e x y ≡ (constraintsHold p e x y && constraintsHold q e x y)
   unfolding constraintsHold
   joined-constraints e x y =
       every-joined p q 8 (says e x y (joined p q)) (λ n r. refl) (record { low = omega arith; high = omega arith })
-      ∙ ap₂ _&&_ (its-constraints p (makersNode p q) N (makers-is p q) (makers-node p q) e x y)
-      (its-constraints q (boardsNode p q) M (boards-is p q) (boards-node p q) e x y)
+      ∙ ap₂ _&&_ (its-constraints counts (joinedList p q) small nodes p (makersNode p q) N (makers-is p q) (makers-node p q) e x y)
+      (its-constraints counts (joinedList p q) small nodes q (boardsNode p q) M (boards-is p q) (boards-node p q) e x y)

@@ -16,8 +16,8 @@ use Rattle.context.specs.declared.Context.{Context}
 use Rattle.context.specs.declared.Event.{Event}
 use Rattle.constraints.specs.Constraints.{constraintsHold}
 use Rattle.access.specs.Authorization.{authorized, flow}
+use Rattle.image_laws.proofs.CarryLaws.{says}
 use Rattle.join_laws.specs.cases.Both.{TakenTogether, authorizedBoth, flowBoth}
-use Rattle.join_laws.proofs.CarryLaws.{says}
 use Rattle.join_laws.proofs.JoinEvalLaws.{joined-constraints}
 use Rattle.join_laws.proofs.BothLaws.{Adds, together, together-authorized, together-flow}
 

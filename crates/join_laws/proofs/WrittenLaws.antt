@@ -1,21 +1,16 @@
 -- The written image of the joined policy, of two images that pass the policy questions and have few enough records together: it passes them
 -- too, and authorizes what both lists taken together do.
 use Prim.Native.Nat.{ℕ, _+_, _≤_, _<_}
-use mathlib.Core.Path.{_≡_, sym, ap, subst, _∙_}
+use mathlib.Core.Path.{_≡_, sym, ap, _∙_}
 use mathlib.Core.List.{List}
 use native.Mathlib.Omega.{arith}
 use Rattle.base.specs.Questions.{AllYes}
 use Rattle.base.specs.inner.AllBytes.{AllBytes}
 use Rattle.policy_image.specs.Layout.{recordCount}
-use Rattle.policy_image.specs.Counts.{CountsInRange}
 use Rattle.policy_image.specs.Policy.{Policy, policyOf}
-use Rattle.policy_image.specs.Encoding.{imageOf}
 use Rattle.policy_image.specs.inner.Writable.{Writable}
-use Rattle.policy_image.proofs.EncodingLaws.{count-written, counts-written, written-exact, head-written, record-written, image-writable}
-use Rattle.policy_links.specs.Chains.{LinksRise, ChainsByKind}
-use Rattle.policy_fields.specs.Fields.{FieldsInRange}
+use Rattle.policy_image.proofs.EncodingLaws.{image-writable}
 use Rattle.policy_expressions.specs.Nodes.{NodesInOrder}
-use Rattle.policy_sources.specs.Sources.{AllowsFromDomains}
 use Rattle.policy_check.specs.Questions.{policyQuestions}
 use Rattle.policy_check.specs.inner.Sound.{Sound}
 use Rattle.policy_check.proofs.AnswerLaws.{sound}
@@ -30,35 +25,13 @@ use Rattle.join.specs.Join.{joinedImage}
 use Rattle.context.specs.declared.Context.{Context}
 use Rattle.context.specs.declared.Event.{Event}
 use Rattle.access.specs.Authorization.{authorized, flow}
+use Rattle.image_laws.proofs.AgreeLaws.{Agrees, agrees-record, some-agrees}
+use Rattle.image_laws.proofs.AgreeQuestionLaws.{agrees-constraints}
+use Rattle.image_laws.proofs.WrittenLaws.{written-agrees, written-passes}
 use Rattle.join_laws.specs.cases.Both.{TakenTogether, authorizedBoth, flowBoth}
-use Rattle.join_laws.proofs.AgreeLaws.{Agrees, agrees-record, some-agrees}
-use Rattle.join_laws.proofs.AgreeQuestionLaws.{agrees-rises, agrees-chains, agrees-fields, agrees-nodes, agrees-sources, agrees-constraints}
 use Rattle.join_laws.proofs.JoinEvalLaws.{joined-constraints}
 use Rattle.join_laws.proofs.BothLaws.{together, together-authorized, together-flow}
 use Rattle.join_laws.proofs.JoinedLaws.{joined-adds, empty-board, empty-maker}
-
--- a policy that can be written, and what is read of its image
-pub written-agrees : (p : Policy) → Writable p → Agrees p (policyOf (imageOf p))
-written-agrees p W =
-    record {
-      counts = sym (counts-written p W);
-      size = sym (count-written p W);
-      heads = λ k w. sym (head-written p W k w);
-      records = λ i w. sym (record-written p W i w);
-    }
-
--- .. which passes every policy question where the policy passes 2 to 6 and 14
-pub written-passes : (p : Policy) → Writable p → CountsInRange (p .counts) → LinksRise p → ChainsByKind p → FieldsInRange p → NodesInOrder p → AllowsFromDomains p
-    → AllYes (policyQuestions (imageOf p))
-written-passes p W R L C F N A =
-    let q : Policy = policyOf (imageOf p) in
-    let S = written-agrees p W in (
-      written-exact p W,
-      (
-        subst CountsInRange (sym (counts-written p W)) R,
-        (agrees-rises p q S L, (agrees-chains p q S L C, (agrees-fields p q S F, (agrees-nodes p q S N, (agrees-sources p q S A, tt))))),
-      ),
-    )
 
 module _ (s t : List ℕ) (B : AllBytes s) (D : AllBytes t) (a : AllYes (policyQuestions s)) (b : AllYes (policyQuestions t))
     (few : recordCount s + recordCount t ≤ 4095) where

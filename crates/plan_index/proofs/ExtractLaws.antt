@@ -28,7 +28,7 @@ use Rattle.plan_tables.proofs.SoundLaws.{meets}
 use Rattle.plan_index.specs.inner.Codes.{typeCodes}
 use Rattle.plan_index.specs.inner.Counting.{αBy}
 use Rattle.plan_index.specs.inner.Items.{ItemOf, ItemsPut, codeIn, sideMask, Says, Owned, Extracted}
-use Rattle.plan_index.proofs.MaskLaws.{bit-where, bit-there}
+use Rattle.sorting.proofs.MaskLaws.{bit-where, bit-there}
 use Rattle.plan_index.proofs.RecordLaws.{own-part, class-part, other-part, target-cases, ownBy, otherBy, within-by, seen, seen-of, seen-back, own-back, other-back, alpha-of, of-alpha, Allowing}
 
 -- item x is that of a record that counts, on the side that its number says

@@ -1,4 +1,3 @@
-pub mod MaskLaws
 pub mod UniteLaws
 pub mod SplitLaws
 pub mod MeaningLaws

@@ -19,14 +19,15 @@ use Rattle.plan_index.specs.inner.Codes.{typeCodes, keyCodes, items, key
 use Rattle.plan_index.specs.inner.Counting.{αBy}
 use Rattle.plan_index.specs.inner.Index.{Has, Ranged, RisingKeys, MasksShow}
 use Rattle.plan_index.specs.inner.Items.{codeIn, sideMask, Gives, Says, Owned, Extracted}
-use Rattle.plan_index.specs.inner.Unite.{Unites, UnitedItems}
+use Rattle.sorting.specs.inner.Entries.{Unites}
+use Rattle.plan_index.specs.inner.Unite.{UnitedItems}
 use Rattle.plan_index.specs.inner.Split.{ownOf, Splittable, Starts, Split}
 use Rattle.plan_index.specs.inner.Meaning.{BlockOf, AllowIndexBy}
 
 module _ {keep : ℕ → Bool} {p : Policy} {codes masks : List ℕ} {n : ℕ} (E : Extracted keep p codes masks n)
     {entries writes reads : List ℕ} {m : ℕ} (U : UnitedItems (codeIn codes) (sideMask masks 0) (sideMask masks 1) n entries writes reads m) where
   owned-at : (j : ℕ) → j < m → Owned (p .counts .types) (getD entries j 0)
-  owned-at j l = let c = U .coded j l in subst (Owned (p .counts .types)) (c .same) (E .owned (c .at) (c .below))
+  owned-at j l = let c = U .entries .coded j l in subst (Owned (p .counts .types)) (c .same) (E .owned (c .at) (c .below))
 
   pub splittable : {types : ℕ} {first : List ℕ} → types ≡ p .counts .types → types < typeEntries → types + 1 < length first → items ≤ length entries
       → Splittable types m first entries
@@ -34,9 +35,9 @@ module _ {keep : ℕ → Bool} {p : Policy} {codes masks : List ℕ} {n : ℕ} (
       record {
         starts = room;
         few-types = few;
-        few = omega (arith, U .few, E .few);
-        small = omega (arith, U .few, E .few);
-        sorted = U .sorted;
+        few = omega (arith, U .entries .few, E .few);
+        small = omega (arith, U .entries .few, E .few);
+        sorted = U .entries .sorted;
         own = λ j l. let w = owned-at j l .own in record { low = w .low; high = omega (arith, w .high) };
       }
 
@@ -99,7 +100,7 @@ module _ {keep : ℕ → Bool} {p : Policy} {codes masks : List ℕ} {n : ℕ} (
           record {
             order = order;
             sorted = record {
-              rising = λ i j l k h. omega (arith, code-at i l (omega arith), code-at j (omega arith) h, U .sorted .rising i j (omega arith) k (omega (arith, stop .few)));
+              rising = λ i j l k h. omega (arith, code-at i l (omega arith), code-at j (omega arith) h, U .entries .sorted .rising i j (omega arith) k (omega (arith, stop .few)));
             };
             ranged = λ k h.
                 let few : h .place < m = omega (arith, h .high, stop .few) in
@@ -109,7 +110,7 @@ module _ {keep : ℕ → Bool} {p : Policy} {codes masks : List ℕ} {n : ℕ} (
           }
 
     pub allow-index : items ≤ length keys → AllowIndexBy keep p first keys writes reads
-    allow-index size = record { blocks = block; tops = λ t w. omega (arith, stop t w .few, U .few, E .few) }
+    allow-index size = record { blocks = block; tops = λ t w. omega (arith, stop t w .few, U .entries .few, E .few) }
 
 -- ---- for those who read the index: an entry's masks, bit for bit
 -- keys rise, so one place has the key

@@ -27,7 +27,7 @@ use Rattle.plan_index.specs.inner.Codes.{typeCodes, keyCodes, keyCode, i
 use Rattle.plan_index.specs.inner.Counting.{says, allowedBy, αBy}
 use Rattle.plan_index.specs.inner.Items.{ItemsPut}
 use Rattle.plan_index.proofs.CountingLaws.{some-by-yes, some-by-record}
-use Rattle.plan_index.proofs.MaskLaws.{bit-and-first, bit-and-second, bit-and-join}
+use Rattle.sorting.proofs.MaskLaws.{bit-and-first, bit-and-second, bit-and-join}
 
 -- ---- the parts of a code
 module _ (k own c o : ℕ) (e : k ≡ itemCode own (keyCode c o)) (lc : c < 32) (lo : o < typeCodes) where

@@ -6,10 +6,9 @@ use Prim.Native.Nat.{ℕ, _+_, _%_, _≤_, _<_}
 use native.Mathlib.Omega.{arith}
 use lib.ListN.{length, getD, set}
 use lib.Seq.{getD-set-same, getD-set-other}
-use Rattle.base.proofs.Numbers.{split-eq, split-le}
+use Rattle.base.proofs.Numbers.{split-eq, split-le, below-or}
 use Rattle.plan_index.specs.inner.Codes.{keyCodes}
 use Rattle.plan_index.specs.inner.Split.{ownOf, Splittable, Starts, Split}
-use Rattle.plan_index.proofs.MaskLaws.{below-or}
 
 -- the blocks of the types up to t start where they should; the entries before j are of those types, the others of t and those behind it
 pub record Splitting (types m : ℕ) (codes first keys : List ℕ) (t j : ℕ) : Type 0 where

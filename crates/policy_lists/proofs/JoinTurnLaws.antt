@@ -25,7 +25,7 @@ abbrev pub Each : (Record → Type 0) → List Record → Type 0
 Each P [] = Unit
 Each P (r ∷ l) = P r × Each P l
 
-each-append : (P : Record → Type 0) (l m : List Record) → Each P l → Each P m → Each P (l ++ m)
+pub each-append : (P : Record → Type 0) (l m : List Record) → Each P l → Each P m → Each P (l ++ m)
 each-append P [] m h k = k
 each-append P (r ∷ l) m h k = (h .0, each-append P l m (h .1) k)
 
@@ -71,8 +71,8 @@ module _ (lists : ℕ → List Record) (own : (k : ℕ) → Each (λ r. r .kind 
       (each-then (λ r. r .kind ≤ n) (λ r. r .kind ≤ suc n) (λ r l. omega arith) (kindsUpto lists n) (kinds-most n))
       (turn-one (suc n) (suc n) (lists (suc n)) (omega arith) h (own (suc n)))
 
--- ---- the joined list
-kind-own : (g : Record → Record) → ((r : Record) → g r .kind ≡ r .kind) → (k : ℕ) (l : List Record) → Each (λ r. r .kind ≡ k) (map g (ofKindIn k l))
+-- records of kind k, changed, that keep their kind
+pub kind-own : (g : Record → Record) → ((r : Record) → g r .kind ≡ r .kind) → (k : ℕ) (l : List Record) → Each (λ r. r .kind ≡ k) (map g (ofKindIn k l))
 kind-own g keeps k [] = tt
 kind-own g keeps k (r ∷ l) = go (eqb (r .kind) k) refl (kind-own g keeps k l)
   where
@@ -80,6 +80,7 @@ kind-own g keeps k (r ∷ l) = go (eqb (r .kind) k) refl (kind-own g keeps k l)
     go true e h = (keeps r ∙ eqb-true (r .kind) k e, h)
     go false e h = h
 
+-- ---- the joined list
 module _ (p q : Policy) where
   pub joined-own : (k : ℕ) → Each (λ r. r .kind ≡ k) (joinedKind p q k)
   joined-own k =

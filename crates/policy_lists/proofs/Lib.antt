@@ -8,10 +8,13 @@ pub mod JoinTurnLaws
 pub mod NodeLaws
 pub mod StemLaws
 pub mod PlaceLaws
+pub mod StemNodeLaws
 pub mod JoinNodeLaws
 pub mod JoinSourceLaws
 pub mod CountLaws
 pub mod LimitLaws
+pub mod StemFieldLaws
+pub mod StemWritableLaws
 pub mod JoinFieldLaws
 pub mod JoinWritableLaws
 pub mod Cases

@@ -1,9 +1,9 @@
 -- Where the records of each kind stand in a list of kinds in turn, and so what heads and nexts are; and where those of the maker and of the
 -- board stand in the joined list.
 use Prim.Native.Nat.{ℕ, zero, suc, _+_, _-_, _≤_, _<_}
-use mathlib.Core.Path.{_≡_, refl, sym, ap, subst, _∙_}
+use mathlib.Core.Path.{_≡_, sym, ap, subst, _∙_}
 use mathlib.Core.Bool.{Bool, cond}
-use mathlib.Core.List.{List, _++_, map}
+use mathlib.Core.List.{List, map}
 use mathlib.Core.Logic.{⊎-elim}
 use native.Mathlib.Nat.{eq-or-lt-of-le}
 use native.Mathlib.Omega.{arith}
@@ -32,7 +32,7 @@ module _ (lists : ℕ → List Record) where
   abbrev pub ending : ℕ → ℕ
   ending k = length (kindsUpto lists k)
 
-  ending-next : (k : ℕ) → ending (suc k) ≡ ending k + length (lists (suc k))
+  pub ending-next : (k : ℕ) → ending (suc k) ≡ ending k + length (lists (suc k))
   ending-next k = length-append (kindsUpto lists k) (lists (suc k))
 
   pub endings-rise : (a b : ℕ) → a ≤ b → ending a ≤ ending b

@@ -2,11 +2,9 @@
 -- place says.
 use Prim.Native.Nat.{ℕ, zero, suc, _+_, _-_, _≤_, _<_}
 use mathlib.Core.Path.{_≡_, sym, ap, subst, _∙_}
-use mathlib.Core.Bool.{Bool, cond}
-use mathlib.Core.List.{List, [], _∷_, _++_, map}
+use mathlib.Core.List.{List, _++_, map}
 use mathlib.Core.Logic.{_⊎_, inl, inr, ⊎-elim}
 use native.Mathlib.Omega.{arith}
-use borrow.Author.Tests.{ne-eqb}
 use lib.ListN.{length, getD, length-append, length-map, List·getD-append, List·getD-map}
 use lib.Seq.{getD-append-add}
 use Rattle.base.proofs.Numbers.{split-eq, split-le}
@@ -73,7 +71,7 @@ find-kind lists (suc n) i h =
     (λ b. record { below = n; high = omega arith; at = b .0; room = b .2; place = b .1; same = b .3 })
     (two-lists (kindsUpto lists n) (lists (suc n)) i h)
 
--- ---- the joined list
+-- ---- renumbered records of a policy in a list
 -- record `of` of the policy o is record i of the list l, and its place is counted from where the records of its kind begin
 pub record Stems (o : Policy) (to : ℕ → ℕ) (begin : ℕ → ℕ) (l : List Record) (i : ℕ) : Type 0 where
   pub of : ℕ
@@ -82,6 +80,25 @@ pub record Stems (o : Policy) (to : ℕ → ℕ) (begin : ℕ → ℕ) (l : List
   pub same : recordIn l i ≡ renumbered to (o .rec of)
   pub place : i ≡ begin (o .rec of .kind) + length (ofKindIn (o .rec of .kind) (recordsUpto (o .rec) of))
 
+-- place j of the renumbered records of a kind
+pub stems-at : (l : List Record) (o : Policy) (to begin : ℕ → ℕ) (k i j : ℕ) → j < length (map (renumbered to) (kindList o k)) → suc i ≡ begin k + suc j
+    → recordIn l (suc i) ≡ getD (map (renumbered to) (kindList o k)) j noRecord → Stems o to begin l (suc i)
+stems-at l o to begin k i j h place same =
+    let x = length-map (kindList o k) (renumbered to) in
+    let f = find-place (o .rec) k (o .size) j (omega arith) in
+    let n : ℕ = f .0 in
+    let next = place-length (o .rec) k n (f .1 .kind) in
+    record {
+      of = suc n;
+      low = omega arith;
+      high = f .1 .high;
+      same = same ∙ List·getD-map (renumbered to) (kindList o k) j noRecord
+          ∙ ap (λ (y : ℕ). renumbered to (getD (kindList o k) y noRecord)) (f .1 .place)
+          ∙ ap (renumbered to) (place-at (o .rec) k n (o .size) (f .1 .high) (f .1 .kind));
+      place = subst (λ (y : ℕ). suc i ≡ begin y + length (ofKindIn y (recordsUpto (o .rec) (suc n)))) (sym (f .1 .kind)) (omega (arith, place, next, f .1 .place));
+    }
+
+-- ---- the joined list
 module _ (p q : Policy) where
   -- where the maker's records of a kind begin, and where the board's
   abbrev pub makersBegin : ℕ → ℕ
@@ -97,24 +114,6 @@ module _ (p q : Policy) where
   abbrev pub BoardsRecord : ℕ → Type 0
   BoardsRecord i = Stems q (boardsNode p q) boardsBegin (joinedList p q) i
 
-  -- place j of the changed records of a kind
-  stems-at : (o : Policy) (to begin : ℕ → ℕ) (k i j : ℕ) → j < length (map (renumbered to) (kindList o k)) → suc i ≡ begin k + suc j
-      → recordIn (joinedList p q) (suc i) ≡ getD (map (renumbered to) (kindList o k)) j noRecord → Stems o to begin (joinedList p q) (suc i)
-  stems-at o to begin k i j h place same =
-      let x = length-map (kindList o k) (renumbered to) in
-      let f = find-place (o .rec) k (o .size) j (omega arith) in
-      let n : ℕ = f .0 in
-      let l = place-length (o .rec) k n (f .1 .kind) in
-      record {
-        of = suc n;
-        low = omega arith;
-        high = f .1 .high;
-        same = same ∙ List·getD-map (renumbered to) (kindList o k) j noRecord
-            ∙ ap (λ (y : ℕ). renumbered to (getD (kindList o k) y noRecord)) (f .1 .place)
-            ∙ ap (renumbered to) (place-at (o .rec) k n (o .size) (f .1 .high) (f .1 .kind));
-        place = subst (λ (y : ℕ). suc i ≡ begin y + length (ofKindIn y (recordsUpto (o .rec) (suc n)))) (sym (f .1 .kind)) (omega (arith, place, l, f .1 .place));
-      }
-
   pub joined-stems : (i : ℕ) → 1 ≤ i → i ≤ length (joinedList p q) → MakersRecord i ⊎ BoardsRecord i
   joined-stems zero a b = let z : ⊥ = omega arith in absurd z
   joined-stems (suc i) a b =
@@ -122,6 +121,6 @@ module _ (p q : Policy) where
       let k : ℕ = suc (f .below) in
       let x = length-map (kindList p k) (renumbered (makersNode p q)) in
       ⊎-elim
-      (λ m. inl (stems-at p (makersNode p q) makersBegin k i (f .at) (m .0) (omega (arith, f .place)) (f .same ∙ m .1)))
-      (λ m. inr (stems-at q (boardsNode p q) boardsBegin k i (m .0) (m .2) (omega (arith, f .place, m .1, x)) (f .same ∙ m .3)))
+      (λ m. inl (stems-at (joinedList p q) p (makersNode p q) makersBegin k i (f .at) (m .0) (omega (arith, f .place)) (f .same ∙ m .1)))
+      (λ m. inr (stems-at (joinedList p q) q (boardsNode p q) boardsBegin k i (m .0) (m .2) (omega (arith, f .place, m .1, x)) (f .same ∙ m .3)))
       (two-lists (map (renumbered (makersNode p q)) (kindList p k)) (map (renumbered (boardsNode p q)) (kindList q k)) (f .at) (f .room))

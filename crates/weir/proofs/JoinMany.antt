@@ -23,7 +23,7 @@ use Rattle.policy_lists.proofs.TurnLaws.{from-rises, from-chains}
 use Rattle.policy_lists.proofs.JoinTurnLaws.{joined-size}
 use Rattle.join.specs.Join.{joinedImage}
 use Rattle.weir.specs.cases.JoinPolicies.{domainOne, times, manyPolicy, manyDomains}
-use Rattle.join_laws.proofs.WrittenLaws.{written-passes}
+use Rattle.image_laws.proofs.WrittenLaws.{written-passes}
 
 -- ---- the list of records
 times-length : (n : ℕ) → length (times n) ≡ n

@@ -7,7 +7,7 @@ use std::fs;
 use std::path::Path;
 
 /// The crates whose `pub` functions are the outward calls, but for those of modules that a crate keeps to itself and has no C call in.
-pub const OUTWARD: [&str; 5] = ["bare_questions", "goal_question", "least_steps", "join", "flowgoal"];
+pub const OUTWARD: [&str; 6] = ["bare_questions", "goal_question", "least_steps", "join", "canonical", "flowgoal"];
 
 pub struct Tree {
     pub specs: BTreeMap<Module, SpecFile>,

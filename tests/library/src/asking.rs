@@ -1,10 +1,12 @@
 //! All questions of a case, and all cases of a sort.
 use crate::calls::Library;
 use crate::cases::{Case, Numbered, LIMIT};
+use crate::loose::{self, Loose};
+use crate::outputs::{self, Question};
 use crate::pairs::Pair;
 use crate::policies::{self, Policies};
 use crate::tally::Tally;
-use crate::{bare_questions, goal_question, joins, least_steps};
+use crate::{bare_questions, canonical, goal_question, least_steps, survival};
 use flowgoal_calls::{Outcome, Steps};
 use second_search::gen::Rng;
 
@@ -35,12 +37,15 @@ pub struct Said {
 
 /// All questions of one case: what the library answered, or what was wrong.
 pub fn ask(asker: Asker, mut case: Case, limit: usize, tally: &mut Tally) -> Result<Said, Vec<String>> {
-    let pairs = policies::pairs(&case);
+    let (pairs, policies) = (policies::pairs(&case), loose::policies(&case));
     let said = ask_policy(asker, &mut case, limit, tally);
-    let joins: Vec<String> = pairs.iter().filter_map(|pair| ask_joined(asker, &case, pair, tally).err()).flatten().collect();
+    let joins = pairs.iter().filter_map(|pair| ask_joined(asker, &case, pair, tally).err()).flatten();
+    let mut wrong: Vec<String> = joins.collect();
+    let mut rng = Rng(case.rng.0);
+    wrong.extend(policies.iter().flat_map(|loose| ask_canonical(asker, &case, loose, &mut rng, tally)));
     match said {
-        Ok(said) if joins.is_empty() => Ok(said),
-        said => Err(said.err().into_iter().flatten().chain(joins).collect()),
+        Ok(said) if wrong.is_empty() => Ok(said),
+        said => Err(said.err().into_iter().flatten().chain(wrong).collect()),
     }
 }
 
@@ -57,12 +62,25 @@ fn ask_policy(asker: Asker, case: &mut Case, limit: usize, tally: &mut Tally) ->
 
 /// The join of a pair of policies of the case, and all questions of the joined policy where that is asked for.
 fn ask_joined(asker: Asker, case: &Case, pair: &Policies, tally: &mut Tally) -> Result<(), Vec<String>> {
-    let image = joins::ask(asker, pair, tally).map_err(|why| vec![why])?;
+    let image = outputs::ask(asker, pair, &pair.lengths(), tally).map_err(|why| vec![why])?;
     let Some(policy) = image.filter(|_| pair.asked_of) else { return Ok(()) };
     tally.joined();
     let mut joined = Case { name: case.name.clone(), policy, goal: case.goal.clone(), rng: Rng(case.rng.0) };
     let said = ask_policy(asker, &mut joined, LIMIT, tally);
     said.map(|_| ()).map_err(|wrong| wrong.into_iter().map(|why| format!("of the joined policy: {why}")).collect())
+}
+
+/// The canonical image of a policy of the case, and whether the answers of all other questions survive, where that is asked for; what was
+/// wrong.
+fn ask_canonical(asker: Asker, case: &Case, loose: &Loose, rng: &mut Rng, tally: &mut Tally) -> Vec<String> {
+    let image = match canonical::ask(asker, loose, rng, tally) {
+        Ok(Some(image)) if loose.asked_of => image,
+        Ok(_) => return Vec::new(),
+        Err(wrong) => return wrong,
+    };
+    let mut policy = Case { policy: loose.image.clone(), goal: case.goal.clone(), name: case.name.clone(), rng: Rng(case.rng.0) };
+    let wrong = survival::ask(asker, &mut policy, &image, tally);
+    wrong.into_iter().map(|why| format!("{}: {why}", loose.asked())).collect()
 }
 
 /// A numbered case that failed, and what was wrong.

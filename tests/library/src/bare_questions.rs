@@ -38,7 +38,8 @@ fn allowed(rng: &mut Rng, policy: &[u8]) -> Option<[u32; 4]> {
     Some([r[3] as u32, target as u32, r[5] as u32, mask.trailing_zeros()])
 }
 
-fn arguments(rng: &mut Rng, policy: &[u8]) -> (Context, Context, Event) {
+/// Both contexts and the event that a bare question is asked of.
+pub fn arguments(rng: &mut Rng, policy: &[u8]) -> (Context, Context, Event) {
     let [types, roles, users, classes] = counts(policy);
     let context = |rng: &mut Rng| Context { t: near(rng, types), r: near(rng, roles), u: near(rng, users) };
     let (mut x, mut y) = (context(rng), context(rng));

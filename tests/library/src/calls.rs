@@ -62,6 +62,9 @@ pub type LeastSteps = fn(&[u8], [u32; 3], [u32; 3], &mut [u32], &mut [u32], &mut
 /// A join: the maker's policy, the board's and the output.
 pub type Join = fn(&[u8], &[u8], &mut [u8]) -> Result<Writing, Stray>;
 
+/// The canonical image: the policy and the output.
+pub type Canonical = fn(&[u8], &mut [u8]) -> Result<Writing, Stray>;
+
 /// The calls of a library: of the one that is linked, or, in the trials, of one that is wrong.
 #[derive(Clone, Copy)]
 pub struct Library {
@@ -69,6 +72,7 @@ pub struct Library {
     pub bare_question: BareQuestion,
     pub least_steps: LeastSteps,
     pub join: Join,
+    pub canonical: Canonical,
 }
 
 pub const LINKED: Library = Library {
@@ -76,6 +80,7 @@ pub const LINKED: Library = Library {
     bare_question: flowgoal_calls::bare,
     least_steps: flowgoal_calls::least_steps,
     join: flowgoal_calls::join,
+    canonical: flowgoal_calls::canonical,
 };
 
 fn numbers(x: Context) -> [u32; 3] {
@@ -103,5 +108,10 @@ impl Library {
     /// The maker's policy and the board's as one; the output keeps what the call left in it.
     pub fn join(&self, maker: &[u8], board: &[u8], output: &mut Lent<u8>) -> Result<Writing, Stray> {
         (self.join)(maker, board, output.lend())
+    }
+
+    /// The canonical image of the policy; the output keeps what the call left in it.
+    pub fn canonical(&self, policy: &[u8], output: &mut Lent<u8>) -> Result<Writing, Stray> {
+        (self.canonical)(policy, output.lend())
     }
 }

@@ -1,6 +1,7 @@
 //! What is told of the cases that failed, and their images, which are kept so that they can be looked at.
 use crate::asking::{Asked, Failure};
 use crate::cases::{Case, Numbered};
+use crate::loose::policies;
 use crate::policies::pairs;
 use std::path::{Path, PathBuf};
 use std::{fs, io};
@@ -8,13 +9,16 @@ use std::{fs, io};
 /// Cases that failed and are told of.
 const TOLD: usize = 10;
 
-/// The images of a case, with the names of their files: those of the pairs that are joined are numbered in their order.
+/// The images of a case, with the names of their files: those of the pairs that are joined are numbered in their order, and so are the
+/// policies that are written canonically.
 pub fn images(case: &Case) -> Vec<(String, Vec<u8>)> {
     let mut all = vec![("policy.img".to_string(), case.policy.clone()), ("goal.img".to_string(), case.goal.clone())];
     for (i, pair) in pairs(case).into_iter().enumerate() {
         all.push((format!("maker-{}.img", i + 1), pair.maker));
         all.push((format!("board-{}.img", i + 1), pair.board));
     }
+    let loose = policies(case).into_iter().enumerate();
+    all.extend(loose.map(|(i, policy)| (format!("loose-{}.img", i + 1), policy.image)));
     all
 }
 

@@ -3,18 +3,25 @@
 mod asking;
 mod bare_questions;
 mod calls;
+mod canonical;
 mod cases;
 mod goal_question;
 mod joins;
 mod kept;
 mod least_steps;
 mod lending;
+mod loose;
+mod meaning;
 mod misread;
 mod numbers;
+mod outputs;
 mod pairs;
 mod policies;
+mod retold;
+mod survival;
 mod tally;
 mod trials;
+mod wrong_canonicals;
 mod wrong_joins;
 mod wrong_libraries;
 
@@ -56,8 +63,10 @@ fn ask_numbered(kept: &Path) -> Vec<(u64, u64)> {
     results.push(result(tally.most_nodes() == LIMIT));
     println!("the longest least path had {} steps", tally.longest());
     println!("{} joined policies went through the other questions", tally.all_joined());
-    println!("the largest join wrote {} bytes", tally.most_bytes());
-    results.push(result(tally.most_bytes() == policy_length(MOST_RECORDS)));
+    println!("{} canonical images were written again", tally.all_again());
+    let largest = tally.most_bytes();
+    println!("the largest join wrote {} bytes, the largest canonical image has {}", largest[0], largest[1]);
+    results.extend(largest.map(|bytes| result(bytes == policy_length(MOST_RECORDS))));
     results.extend(misread::tables(&whole, &hurt, threads));
     results.push(trials::check_all(kept, threads));
     results

@@ -2,9 +2,11 @@
 use crate::asking::{Asked, Said};
 use crate::calls::{Lent, LINKED};
 use crate::cases::{contexts, landed, nodes, Case, LIMIT};
-use crate::joins::lengths;
+use crate::loose::{policies, Loose};
+use crate::outputs::Question;
 use crate::policies::{pairs, Policies};
-use misreadings::{join_number, number, steps_number, Misreading, OF_FLOW, OF_GOALS, OF_IMAGES, OF_JOINS, OF_STEPS};
+use misreadings::{canonical_number, join_number, number, steps_number, Misreading};
+use misreadings::{OF_CANONICAL, OF_FLOW, OF_GOALS, OF_IMAGES, OF_JOINS, OF_STEPS, OF_WRITING};
 use second_search::answer::check_both_landed;
 use second_search::policy::check_policy_landed;
 
@@ -12,8 +14,8 @@ use second_search::policy::check_policy_landed;
 const WANTED: usize = 20;
 /// Cases with more nodes are left out: they take long, and small ones tell as much.
 const NODES: usize = 2048;
-/// So many cases are gone through at the most for least steps and for joins, each of which asks of several pairs.
-const FOR_PAIRS: usize = 5000;
+/// So many cases are gone through at the most for least steps, joins and canonical images, each of which asks several times.
+const FOR_SEVERAL: usize = 5000;
 
 /// How the specification is read: with a misreading or with none, and that in words.
 struct Read {
@@ -36,15 +38,25 @@ fn by_steps(misreading: Option<Misreading>, case: &Case, said: &Said) -> bool {
     })
 }
 
-/// The library is asked again: what it wrote is not kept.
-fn by_join(misreading: Option<Misreading>, case: &Case, _: &Said) -> bool {
-    let apart = |pair: &Policies, length: usize| {
+/// Does one who answers so, and writes into the output, differ from the library? That is asked again: what it wrote is not kept.
+fn by_writing<Q: Question>(question: &Q, number: impl Fn(&mut [u8]) -> u64) -> bool {
+    let images: Vec<Vec<u8>> = question.images().into_iter().map(<[u8]>::to_vec).collect();
+    question.lengths().into_iter().any(|length| {
         let (mut theirs, mut output) = (Lent::new(length), Lent::new(length));
-        let number = join_number(misreading, &pair.maker, &pair.board, theirs.lend());
-        let answer = LINKED.join(&pair.maker, &pair.board, &mut output);
+        let number = number(theirs.lend());
+        let answer = question.call(LINKED, &images, &mut output);
         answer.map(|answer| answer.raw()) != Ok(number) || theirs.entries() != output.entries()
-    };
-    pairs(case).iter().any(|pair| lengths(pair).into_iter().any(|length| apart(pair, length)))
+    })
+}
+
+fn by_join(misreading: Option<Misreading>, case: &Case, _: &Said) -> bool {
+    let apart = |pair: &Policies| by_writing(pair, |output| join_number(misreading, &pair.maker, &pair.board, output));
+    pairs(case).iter().any(apart)
+}
+
+fn by_canonical(misreading: Option<Misreading>, case: &Case, _: &Said) -> bool {
+    let apart = |loose: &Loose| by_writing(loose, |output| canonical_number(misreading, &loose.image, output));
+    policies(case).iter().any(apart)
 }
 
 /// The cases that are gone through: small ones, by their numbers.
@@ -120,20 +132,22 @@ impl Gone<'_> {
     }
 }
 
-/// Misreadings of what breaks a goal, of least steps and of joins are for the generated cases to tell apart, those of the images for
-/// the damaged ones. Those of flow are for both questions that go by it.
-pub fn tables(generated: &Asked, damaged: &Asked, threads: usize) -> [(u64, u64); 4] {
+/// Misreadings of what breaks a goal, of least steps, of joins and of canonical images are for the generated cases to tell apart, those of
+/// the images for the damaged ones. Those of flow are for both questions that go by it, and so are those of what is written.
+pub fn tables(generated: &Asked, damaged: &Asked, threads: usize) -> [(u64, u64); 5] {
     println!("misreadings that the cases tell apart (at least {WANTED} of the cases must):");
     let small = generated.small();
-    let few: Vec<_> = small.iter().copied().take(FOR_PAIRS).collect();
+    let few: Vec<_> = small.iter().copied().take(FOR_SEVERAL).collect();
     let goals = Gone { question: "", asked: generated, small, apart: by_goal };
     let steps = Gone { question: "least steps: ", asked: generated, small: few.clone(), apart: by_steps };
     let images = Gone { question: "", asked: damaged, small: damaged.small(), apart: by_goal };
-    let joins = Gone { question: "join: ", asked: generated, small: few, apart: by_join };
+    let joins = Gone { question: "join: ", asked: generated, small: few.clone(), apart: by_join };
+    let canonical = Gone { question: "canonical image: ", asked: generated, small: few, apart: by_canonical };
     [
         goals.table(&[OF_GOALS, OF_FLOW], threads),
         steps.table(&[OF_STEPS, OF_FLOW], threads),
         images.table(&[OF_IMAGES], threads),
-        joins.table(&[OF_JOINS], threads),
+        joins.table(&[OF_JOINS, OF_WRITING], threads),
+        canonical.table(&[OF_CANONICAL, OF_WRITING], threads),
     ]
 }

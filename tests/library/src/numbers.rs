@@ -88,7 +88,7 @@ const NO_ANSWER: [u64; 13] = [2, 3, 4, 5, 31, 51, 63, 256, 257, 311, 315, 1 << 6
 /// The same of least steps, which has no events and no refusal from 7 to 10, and tells of no steps with none, 11, 13 or 14.
 const NO_STEPS: [u64; 15] = [2, 3, 4, 5, 31, 43, 63, 256, 258, 303, 311, 315, 1 << 40 | 1, 1 << 63, u64::MAX];
 
-/// The same of a join: besides, one with no length, with one that no policy has, and with one of 4,096 records.
+/// The same of a call that writes: besides, one with no length, with one that no policy has, and with one of 4,096 records.
 const NO_WRITING: [u64; 17] = [0, 1, 2, 3, 4, 31, 47, 51, 55, 71, 256, 6145, 6400, 6151, 12_589_056, 1 << 40 | 6144, u64::MAX];
 
 /// A number below this is looked at, whatever it is.
@@ -136,7 +136,7 @@ pub fn check_all() -> (u64, u64) {
     wrong.extend(LEAST.wrong(&STEPS, &NO_STEPS));
     wrong.extend(WRITING.wrong(&WRITINGS, &NO_WRITING));
     // a goal, with no step: holds, order, events and thirteen refusals; with 1 to 255 steps: order, events and 12. Least steps, with
-    // no step: none, shown and ten refusals; with 1 to 255: shown and 12. A join: images of 0 to 19 records, and nine refusals.
+    // no step: none, shown and ten refusals; with 1 to 255: shown and 12. What is written: images of 0 to 19 records, and nine refusals.
     let wanted = [16 + 255 * 3, ANSWERS.len(), 12 + 255 * 2, 20 + 9];
     let accepted = [OUTCOME.accepted(), ANSWER.accepted(), LEAST.accepted(), WRITING.accepted()];
     if accepted != wanted {

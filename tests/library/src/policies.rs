@@ -123,7 +123,7 @@ fn leaf(rng: &mut Rng, policy: &Policy) -> Record {
 }
 
 /// A policy of so many records, more than half of them nodes and constraints, the kinds mixed.
-fn with_nodes(rng: &mut Rng, records: usize) -> Policy {
+pub fn with_nodes(rng: &mut Rng, records: usize) -> Policy {
     let [types, roles, users, classes] = [255, 15, 15, 31].map(|most| rng.range(1, most));
     let mut policy = Policy::new(types, roles, users, classes);
     // nodes that nothing uses yet

@@ -1,4 +1,5 @@
 //! How often each answer and each refusal was met.
+use crate::retold::{NEAR, SAME};
 use flowgoal_calls::{Answer, Bare, Outcome, Steps, Writing};
 use std::collections::BTreeMap;
 
@@ -12,9 +13,11 @@ type Met = (&'static str, String);
 pub struct Tally {
     met: BTreeMap<Met, u64>,
     joined: u64,
+    again: u64,
     nodes: usize,
     longest: u32,
-    most_bytes: u32,
+    most_joined: u32,
+    most_canonical: u32,
 }
 
 fn of_goal(outcome: Outcome) -> Met {
@@ -37,6 +40,20 @@ fn of_join(answer: Writing) -> Met {
     ("join", answer.name())
 }
 
+fn of_canonical(answer: Writing) -> Met {
+    ("canonical image", answer.name())
+}
+
+/// A policy told in other words.
+fn of_told(words: &str, same: bool) -> Met {
+    (if same { "the same image, told" } else { "another image, told" }, words.to_string())
+}
+
+/// An answer that was the same of a policy and of its canonical image.
+fn of_survived((question, answer): Met) -> Met {
+    ("as of the policy", format!("{question}: {answer}"))
+}
+
 /// Every answer that there is, in the order of the questions.
 fn answers() -> Vec<Met> {
     let policy = || (1..=6).chain([14]);
@@ -50,8 +67,18 @@ fn answers() -> Vec<Met> {
     all.extend([Steps::None, Steps::Shown(0)].map(of_steps));
     all.extend(policy().chain([13, 11]).map(|k| of_steps(Steps::Refused(k))));
     all.push(of_steps(Steps::NoRoom(0)));
-    all.push(of_join(Writing::Written(0)));
-    all.extend(policy().chain([15, 16]).map(|k| of_join(Writing::Refused(k))));
+    for of in [of_join, of_canonical] {
+        all.push(of(Writing::Written(0)));
+        all.extend(policy().chain([15, 16]).map(|k| of(Writing::Refused(k))));
+    }
+    all.extend(SAME.iter().map(|way| of_told(way.words, true)));
+    all.extend(NEAR.iter().map(|way| of_told(way.words, false)));
+    let mut survived = [Outcome::Holds, Outcome::Order(0), Outcome::Events(0)].map(of_goal).to_vec();
+    survived.extend([Steps::None, Steps::Shown(0)].map(of_steps));
+    for question in [Bare::Authorized, Bare::Flows] {
+        survived.extend([Answer::No, Answer::Yes].map(|answer| of_bare(question, answer)));
+    }
+    all.extend(survived.into_iter().map(of_survived));
     all
 }
 
@@ -72,8 +99,34 @@ impl Tally {
     pub fn join(&mut self, answer: Writing) {
         self.count(of_join(answer));
         if let Writing::Written(bytes) = answer {
-            self.most_bytes = self.most_bytes.max(bytes);
+            self.most_joined = self.most_joined.max(bytes);
         }
+    }
+    pub fn canonical(&mut self, answer: Writing) {
+        self.count(of_canonical(answer));
+        if let Writing::Written(bytes) = answer {
+            self.most_canonical = self.most_canonical.max(bytes);
+        }
+    }
+    /// A canonical image was written again.
+    pub fn again(&mut self) {
+        self.again += 1;
+    }
+    pub fn all_again(&self) -> u64 {
+        self.again
+    }
+    /// A policy was told in other words, which say the same or something else.
+    pub fn told(&mut self, words: &str, same: bool) {
+        self.count(of_told(words, same));
+    }
+    pub fn survived_goal(&mut self, outcome: Outcome) {
+        self.count(of_survived(of_goal(outcome)));
+    }
+    pub fn survived_bare(&mut self, question: Bare, answer: Answer) {
+        self.count(of_survived(of_bare(question, answer)));
+    }
+    pub fn survived_steps(&mut self, answer: Steps) {
+        self.count(of_survived(of_steps(answer)));
     }
     /// All other questions are asked of a joined policy.
     pub fn joined(&mut self) {
@@ -83,9 +136,9 @@ impl Tally {
     pub fn all_joined(&self) -> u64 {
         self.joined
     }
-    /// The bytes of the largest image that a join wrote.
-    pub fn most_bytes(&self) -> usize {
-        self.most_bytes as usize
+    /// The bytes of the largest image that a join wrote, and of the largest canonical image.
+    pub fn most_bytes(&self) -> [usize; 2] {
+        [self.most_joined as usize, self.most_canonical as usize]
     }
     /// A search went over so many nodes.
     pub fn nodes(&mut self, count: usize) {
@@ -103,9 +156,11 @@ impl Tally {
             *self.met.entry(met.clone()).or_default() += times;
         }
         self.joined += other.joined;
+        self.again += other.again;
         self.nodes = self.nodes.max(other.nodes);
         self.longest = self.longest.max(other.longest);
-        self.most_bytes = self.most_bytes.max(other.most_bytes);
+        self.most_joined = self.most_joined.max(other.most_joined);
+        self.most_canonical = self.most_canonical.max(other.most_canonical);
     }
 
     /// One line for each answer that there is; gives how many were met often enough and how many were not.

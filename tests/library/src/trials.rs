@@ -4,6 +4,7 @@ use crate::asking::{ask, ask_all, Asker, Failure};
 use crate::cases::{landed, Case, Numbered, DAMAGED, GENERATED, LIMIT};
 use crate::kept::{again, images, told};
 use crate::tally::Tally;
+use crate::wrong_canonicals::CANONICAL_TRIALS;
 use crate::wrong_joins::JOIN_TRIALS;
 use crate::wrong_libraries::{Trial, TRIALS};
 use second_search::answer::goal_question_landed;
@@ -78,10 +79,15 @@ fn unheard(cases: &Numbered, number: u64, kept: &Path) -> Option<String> {
     ];
     let heard = |start: &str, end: &str| lines.iter().any(|line| line.starts_with(start) && line.contains(end));
     let library = heard("the library says, with work slices ", &format!(": {}", ours.first_line()));
-    let others = ["Authorized of ", "Flows of ", "least steps from ", "join of a policy and itself, output "];
-    let others = others.iter().all(|start| heard(start, ": the second search says"));
+    let written = ["join of a policy and itself, output ", "canonical image of a policy, output "];
+    let others = ["Authorized of ", "Flows of ", "least steps from "].into_iter().chain(written);
+    let others = others.into_iter().all(|start| heard(start, ": the second search says"));
+    let told =
+        [", written again: the library gives the same image", ", told in all of these ways: it says the same, and the library"];
+    let told = told.iter().all(|end| heard("canonical image of ", end)) && heard("the canonical image: 3 of 3 questions", "");
     let last = lines.last().map(String::as_str);
-    if status != Some(0) || !lines.starts_with(&wanted) || !library || !others || last != Some("1 passed, 0 failed") {
+    let all = lines.starts_with(&wanted) && library && others && told;
+    if status != Some(0) || !all || last != Some("1 passed, 0 failed") {
         return Some(format!("{words} ended with {status:?} and printed {lines:#?}"));
     }
     lost(&case, &folder).map(|image| format!("{} has not {image} of {words}", folder.display()))
@@ -98,13 +104,13 @@ pub fn check_all(kept: &Path, threads: usize) -> (u64, u64) {
     let kept = &kept.join("trials");
     // what an earlier run has left there would be taken for this one's
     let _ = fs::remove_dir_all(kept);
-    let trials = TRIALS.iter().chain(&JOIN_TRIALS);
+    let trials = TRIALS.iter().chain(&JOIN_TRIALS).chain(&CANONICAL_TRIALS);
     let mut tried: Vec<(String, Option<String>)> =
         trials.map(|trial| (format!("noticed: {}", trial.what), unnoticed(trial))).collect();
     let mut add = |what: &str, wrong| tried.push((what.to_string(), wrong));
     add("the images of a case that fails are kept, with how to ask it again", unkept(kept, threads));
-    add("a generated case that is asked again by its number", unheard(&GENERATED, 1234, kept));
-    add("a damaged case that is asked again by its number", unheard(&DAMAGED, 19_999, kept));
+    add("a generated case that is asked again by its number", unheard(&GENERATED, 1235, kept));
+    add("a damaged case that is asked again by its number", unheard(&DAMAGED, 19_992, kept));
     add("a number that is none", unrefused(&["kept", "generated", "one"]));
     add("no number", unrefused(&["kept", "damaged"]));
     add("no folder for what is kept", unrefused(&[]));

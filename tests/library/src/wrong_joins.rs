@@ -54,10 +54,10 @@ pub const JOIN_TRIALS: [Trial; 20] = [
     join("nothing is joined", "byte 0 of the image is ", GENERATED, |maker, board, output| {
         flowgoal_calls::join(maker, board, &mut output.to_vec())
     }),
-    join("a join has a bit too many", "is no answer to a join", GENERATED, |maker, board, output| {
+    join("a join has a bit too many", "is no answer to a call that writes", GENERATED, |maker, board, output| {
         Writing::from_raw(flowgoal_calls::join(maker, board, output)?.raw() | 128)
     }),
-    join("a join tells of a byte too many", "is no answer to a join", GENERATED, |maker, board, output| {
+    join("a join tells of a byte too many", "is no answer to a call that writes", GENERATED, |maker, board, output| {
         Writing::from_raw(flowgoal_calls::join(maker, board, output)?.raw() + 256)
     }),
     join(

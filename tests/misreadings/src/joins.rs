@@ -41,7 +41,7 @@ pub fn records_as_read(both: [&Policy; 2], mut from: Vec<From>) -> Vec<From> {
 }
 
 /// Does a constraint or a node of the policy use the node?
-fn uses(policy: &Policy, node: usize) -> bool {
+pub fn uses(policy: &Policy, node: usize) -> bool {
     policy.records.iter().any(|r| match (r.kind, r.a) {
         (8, _) => r.root() == node,
         (9, 1..=3) => r.left() == node || r.right() == node,

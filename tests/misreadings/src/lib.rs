@@ -5,7 +5,7 @@ use std::cell::{Cell, RefCell};
 use std::collections::BTreeMap;
 
 mod names;
-pub use names::{Misreading, OF_FLOW, OF_GOALS, OF_IMAGES, OF_JOINS, OF_STEPS};
+pub use names::{Misreading, OF_CANONICAL, OF_FLOW, OF_GOALS, OF_IMAGES, OF_JOINS, OF_STEPS, OF_WRITING};
 
 /// Is the misreading switched on? This is what the places in the copy ask (`../places.rs`).
 macro_rules! on {
@@ -32,9 +32,11 @@ copied! {
     answer "answer.rs";
     steps "steps.rs";
     join "join.rs";
+    canonical "canonical.rs";
 }
 
-// behind `on!`, which it asks by
+// behind `on!`, which they ask by
+mod canonicals;
 mod joins;
 
 use goal::Goal;
@@ -89,7 +91,17 @@ pub fn steps_number(misreading: Option<Misreading>, policy: &[u8], goal: &[u8], 
 
 /// The number for a join, likewise; what is written goes to the output.
 pub fn join_number(misreading: Option<Misreading>, maker: &[u8], board: &[u8], output: &mut [u8]) -> u64 {
-    switched(misreading, || match join::join(landed(), maker, board, output) {
+    switched(misreading, || writing_number(join::join(landed(), maker, board, output), output))
+}
+
+/// The number for a canonical image, likewise.
+pub fn canonical_number(misreading: Option<Misreading>, policy: &[u8], output: &mut [u8]) -> u64 {
+    switched(misreading, || writing_number(canonical::canonical(landed(), policy, output), output))
+}
+
+/// The number of the bytes that were written, or of the refusal.
+fn writing_number(written: Result<usize, u32>, output: &mut [u8]) -> u64 {
+    match written {
         Ok(length) => 256 * if on!(RecordsTold) { (length as u64 - 24) / 12 } else { length as u64 },
         Err(number) => {
             if on!(RefusalClears) {
@@ -97,7 +109,7 @@ pub fn join_number(misreading: Option<Misreading>, maker: &[u8], board: &[u8], o
             }
             4 * number as u64 + 3
         }
-    })
+    }
 }
 
 /// The states of the goal at hand, 2^n.

@@ -1,5 +1,8 @@
-//! `./bench`: the goal question, least steps and joins through the static library, each against plain programs on the same images,
-//! in one run.
+//! `./bench`: the goal question, least steps, joins and canonical images through the static library, each against plain programs on the
+//! same images, in one run.
+mod canonical_plain;
+mod canonicals;
+mod drawn;
 #[allow(clippy::all)]
 #[rustfmt::skip]
 mod fast_search;
@@ -7,6 +10,7 @@ mod goals;
 mod join_plain;
 mod joins;
 mod memory_search;
+mod policy_plain;
 mod sizes;
 mod steps;
 mod steps_search;
@@ -60,9 +64,9 @@ fn cases() -> Vec<(String, Size)> {
     all
 }
 
-const USAGE: &str = "usage: ./bench [--list] [--once] [--question goal|steps|join] [--only TEXT].. [--leave-out TEXT]..
+const USAGE: &str = "usage: ./bench [--list] [--once] [--question goal|steps|join|canonical] [--only TEXT].. [--leave-out TEXT]..
 TEXT is a part of a case's name; --list prints the names; --once asks each program once and times nothing; --question asks one
-of the three alone, the goal question, least steps or joins.";
+of the four alone, the goal question, least steps, joins or canonical images.";
 
 fn usage() -> ! {
     eprintln!("{USAGE}");
@@ -102,6 +106,15 @@ const JOINS: Table<joins::Sizes> = Table {
     measure: joins::measure,
     ask_once: joins::ask_once,
     note: joins::NOTE,
+};
+
+const CANONICALS: Table<canonicals::Sizes> = Table {
+    question: "canonical",
+    cases: canonicals::cases,
+    print_head: canonicals::print_head,
+    measure: canonicals::measure,
+    ask_once: canonicals::ask_once,
+    note: canonicals::NOTE,
 };
 
 #[derive(Default)]
@@ -173,7 +186,8 @@ impl<C> Table<C> {
 /// The names of the cases: the first two questions have the same.
 fn names() -> Vec<String> {
     let joins = joins::cases().into_iter().map(|(name, _)| name);
-    cases().into_iter().map(|(name, _)| name).chain(joins).collect()
+    let canonicals = canonicals::cases().into_iter().map(|(name, _)| name);
+    cases().into_iter().map(|(name, _)| name).chain(joins).chain(canonicals).collect()
 }
 
 fn main() {
@@ -181,12 +195,13 @@ fn main() {
     if options.list {
         return names().iter().for_each(|name| println!("{name}"));
     }
-    let asked = [GOALS.is_asked(&options), STEPS.is_asked(&options), JOINS.is_asked(&options)];
-    if asked == [false; 3] {
+    let asked = [GOALS.is_asked(&options), STEPS.is_asked(&options), JOINS.is_asked(&options), CANONICALS.is_asked(&options)];
+    if asked == [false; 4] {
         usage()
     }
     // every table is printed, also after one where answers differ
-    let runs: [&dyn Fn() -> bool; 3] = [&|| GOALS.run(&options), &|| STEPS.run(&options), &|| JOINS.run(&options)];
+    let runs: [&dyn Fn() -> bool; 4] =
+        [&|| GOALS.run(&options), &|| STEPS.run(&options), &|| JOINS.run(&options), &|| CANONICALS.run(&options)];
     let differ = runs.iter().zip(asked).filter(|(run, asked)| *asked && !run()).count();
     std::process::exit((differ > 0) as i32);
 }

@@ -81,6 +81,7 @@ extern "C" {
         output: *mut u8,
         output_length: usize,
     ) -> u64;
+    fn flowgoal_canonical(policy: *const u8, policy_length: usize, output: *mut u8, output_length: usize) -> u64;
 }
 
 /// The goal question.
@@ -157,5 +158,12 @@ pub fn join(maker: &[u8], board: &[u8], output: &mut [u8]) -> Result<Writing, St
     // SAFETY: each pointer leads to as many bytes as its length says, and that of the output to none of the images'.
     let raw =
         unsafe { flowgoal_join(maker.as_ptr(), maker.len(), board.as_ptr(), board.len(), output.as_mut_ptr(), output.len()) };
+    Writing::from_raw(raw)
+}
+
+/// The canonical image of the policy, written to the front of the output.
+pub fn canonical(policy: &[u8], output: &mut [u8]) -> Result<Writing, Stray> {
+    // SAFETY: each pointer leads to as many bytes as its length says, and that of the output to none of the image's.
+    let raw = unsafe { flowgoal_canonical(policy.as_ptr(), policy.len(), output.as_mut_ptr(), output.len()) };
     Writing::from_raw(raw)
 }

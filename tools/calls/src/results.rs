@@ -185,7 +185,7 @@ impl Writing {
             (1..=6 | 14..=16, REFUSED) => Some(Writing::Refused(k)),
             _ => None,
         };
-        said.filter(|said| said.raw() == raw).ok_or(Stray { question: "a join", number: raw })
+        said.filter(|said| said.raw() == raw).ok_or(Stray { question: "a call that writes", number: raw })
     }
 
     pub fn raw(self) -> u64 {

@@ -1,20 +1,21 @@
--- The header, then the two runs of each kind: `WriteLaws` says that each part can be written, and what is there when all are.
-use Prim.Native.Nat.{ℕ, suc, _+_, _-_, _≤_}
-use mathlib.Core.Path.{_≡_, refl, sym, ap, ap₂, subst, _∙_}
+-- The header, then the two runs of each kind: `WriteLaws`, and `ImageWriteLaws` of policy_runs, say that each part can be written, and what is there
+-- when all are.
+use Prim.Native.Nat.{ℕ, _+_, _-_, _≤_}
+use mathlib.Core.Path.{_≡_, refl, ap, ap₂, _∙_}
 use mathlib.Core.List.{List}
 use native.Mathlib.Omega.{arith}
 use lib.ListN.{length, getD}
 use borrow.Author.Needs.{needs}
 use Rattle.base.proofs.FillLaws.{fill-begin}
-use Rattle.policy_image.specs.inner.Writable.{WritableCounts}
-use Rattle.policy_image.specs.Policy.{Policy, policyOf}
+use Rattle.policy_image.specs.Policy.{policyOf}
 use Rattle.policy_lists.specs.Lists.{kindList}
 use Rattle.policy_lists.specs.Joined.{joinedKind, joined}
 use Rattle.policy_lists.proofs.PlaceLaws.{ending}
-use Rattle.join.specs.inner.Runs.{KindTable}
+use Rattle.policy_runs.specs.inner.Runs.{KindTable}
+use Rattle.policy_runs.proofs.RunImageLaws.{RecordsTo}
+use Rattle.policy_runs.proofs.ImageWriteLaws.{EndTable, ends-most, few-upto, counts-writable, heads-writable, header-put}
 use Rattle.join.specs.inner.Parts.{Joinable}
-use Rattle.join.proofs.PlacedLaws.{RecordsTo}
-use Rattle.join.proofs.WriteLaws.{ends-most, few-of-each, ends-are, few-upto, counts-writable, heads-writable, header-put, makers-run-fits, makers-run-put, boards-run-fits, boards-run-put, all-put}
+use Rattle.join.proofs.WriteLaws.{writable-lists, few-of-each, ends-are, counts-are, makers-run-fits, makers-run-put, boards-run-fits, boards-run-put, joined-put}
 use Rattle.join.proofs.write.Statement.{statement}
 use Rattle.join.proofs.write.Tie as tie
 
@@ -53,7 +54,7 @@ module _ (E : tie.After-ends-of Inv-loop μ-loop) where
   abbrev counted : tie.After-count-nodes2 Inv-loop μ-loop
   counted = E .before .before .before
 
-  ends : (k : ℕ) → k ≤ 9 → getD (E .ends-of .result) k 0 ≡ ends-in (start counted .args .maker .now) (start counted .args .board .now) k
+  ends : EndTable (joinedKind (policyOf (start counted .args .maker .now)) (policyOf (start counted .args .board .now))) (E .ends-of .result)
   ends =
       ends-are (ready counted) (of-maker counted) (of-board counted) (makers-kinds counted) (boards-kinds counted) (E .ends-of .result) (E .ends-of .ensures)
 
@@ -84,7 +85,7 @@ ends-of-requires : tie.Need-ends-of-requires Inv-loop μ-loop
 ends-of-requires c κs = let N = c .before .before in few-of-each (ready N) (of-maker N) (of-board N) (makers-kinds N) (boards-kinds N)
 
 heads-of-requires : tie.Need-heads-of-requires Inv-loop μ-loop
-heads-of-requires c κs = let E = c .before in few-upto (ready (counted E)) (E .ends-of .result) (ends E)
+heads-of-requires c κs = let E = c .before in few-upto (writable-lists (ready (counted E))) (E .ends-of .result) (ends E)
 
 larger-counts-requires : tie.Need-larger-counts-requires Inv-loop μ-loop
 larger-counts-requires c κs =
@@ -98,8 +99,8 @@ put-header-requires c κs =
     let E = H .before .before in
     let G = ready (counted E) in (
       omega (arith, G .room),
-      subst WritableCounts (sym (L .larger-counts .ensures)) (counts-writable G (E .ends-of .result) (ends E) (H .heads-of .result) (H .heads-of .ensures)),
-      heads-writable G (E .ends-of .result) (ends E) (H .heads-of .result) (H .heads-of .ensures),
+      counts-writable (writable-lists G) (L .larger-counts .ensures ∙ counts-are G),
+      heads-writable (writable-lists G) (E .ends-of .result) (ends E) (H .heads-of .result) (H .heads-of .ensures),
     )
 
 add-boards-shift : tie.Need-add-boards-shift Inv-loop μ-loop
@@ -107,7 +108,7 @@ add-boards-shift c =
     let E = ends-made c in
     let N = counted E in
     let few = few-of-each (ready N) (of-maker N) (of-board N) (makers-kinds N) (boards-kinds N) in
-    let m = ends-most (ready N) 8 (omega arith) in
+    let m = ends-most (writable-lists (ready N)) 8 (omega arith) in
     omega (arith, ends E 8 (omega arith), m, few .first 9 (omega arith) (omega arith))
 
 loop-holds : tie.Need-loop-holds Inv-loop μ-loop
@@ -189,8 +190,9 @@ returns c =
     let E = ends-made Z in
     let G = ready (counted E) in
     let H = heads-made Z in
-    all-put G (l .loop .k - 1) (omega arith) (l .loop .inv .2 ∙ header Z .put-header .kept .0) refl
-    (header-put G (E .ends-of .result) (ends E) (H .heads-of .result) (H .heads-of .ensures) (header Z .before .before .larger-counts .ensures) (header Z .put-header .ensures))
+    joined-put G (l .loop .k - 1) (omega arith) (l .loop .inv .2 ∙ header Z .put-header .kept .0) refl
+    (header-put (writable-lists G) (E .ends-of .result) (ends E) (H .heads-of .result) (H .heads-of .ensures)
+    (header Z .before .before .larger-counts .ensures ∙ counts-are G) (header Z .put-header .ensures))
     (l .loop .inv .3)
 
 pub write-spec : {M : Type 1} → statement M

@@ -1,12 +1,12 @@
 -- The index: for each type a block of entries. An entry is a key, the code of a class and the other type, and two masks: the
 -- permissions with which the type may act on the other, and those with which the other may act on it.
 use mathlib.Core.Path.{_≡_}
-use mathlib.Core.Bool.{true}
 use mathlib.Core.List.{List}
 use Prim.Native.Nat.{ℕ, _/_, _%_, _≤_, _<_}
 use lib.ListN.{getD}
-use Rattle.base.specs.Bits.{bit}
 use Rattle.base.specs.Ranges.{Within}
+-- what is said of entries in general
+pub use Rattle.sorting.specs.inner.Entries.{Bears, RisingKeys}
 use Rattle.plan_index.specs.inner.Codes.{typeCodes, keyCode}
 
 -- an entry of the block lo .. hi has the key k
@@ -16,22 +16,10 @@ pub record Has (keys : List ℕ) (lo hi k : ℕ) : Type 0 where
   pub high : place < hi
   pub key : getD keys place 0 ≡ k
 
--- an entry of the block lo .. hi has the key k, and its mask the bit q
-pub record Bears (keys masks : List ℕ) (lo hi k q : ℕ) : Type 0 where
-  pub place : ℕ
-  pub low : lo ≤ place
-  pub high : place < hi
-  pub key : getD keys place 0 ≡ k
-  pub bears : bit (getD masks place 0) q ≡ true
-
 -- the key k names a class, and one of the types
 pub record Ranged (types k : ℕ) : Type 0 where
   pub class : Within 1 31 (k / typeCodes)
   pub other : Within 1 types (k % typeCodes)
-
--- rising keys: by class and then by the other type, and one entry for each pair
-pub record RisingKeys (keys : List ℕ) (lo hi : ℕ) : Type 0 where
-  pub rising : (i j : ℕ) → lo ≤ i → i < j → j < hi → getD keys i 0 < getD keys j 0
 
 -- the masks of a block say for class c, other type o and permission q just what R says
 pub record MasksShow (R : ℕ → ℕ → ℕ → Type 0) (keys masks : List ℕ) (lo hi : ℕ) : Type 0 where

@@ -7,12 +7,13 @@ use Prim.Native.Nat.{ℕ, _+_, _*_, _/_, _%_, _≤_, _<_}
 use lib.Bits.{bitAnd}
 use lib.Dec.{eqb}
 use lib.ListN.{getD}
-use Rattle.base.specs.Bits.{bit}
 use Rattle.base.specs.Ranges.{Within}
 use Rattle.policy_image.specs.declared.records.Record.{Record}
 use Rattle.policy_image.specs.Policy.{Policy}
 use Rattle.context.specs.Codes.{eventAt}
 use Rattle.relations.specs.Relations.{targetOf}
+-- what is said of items in general
+pub use Rattle.sorting.specs.inner.Entries.{codeIn, Gives}
 use Rattle.plan_index.specs.inner.Codes.{typeCodes, keyCodes, items, keyCode, itemCode}
 use Rattle.plan_index.specs.inner.Counting.{αBy}
 use Rattle.plan_index.specs.inner.Index.{Ranged}
@@ -29,19 +30,9 @@ pub record ItemsPut (perms : List ℕ) (r : Record) (n : ℕ) (codes masks codes
   pub code : (x : ℕ) → x < 2 * n → getD codes′ x 0 ≡ getD codes x 0
   pub mask : (x : ℕ) → x < n → getD masks′ x 0 ≡ getD masks x 0
 
--- the code of each item, and what it gives to a side: its mask where it is of that side, 0 the source's and 1 the target's
-abbrev pub codeIn : List ℕ → ℕ → ℕ
-codeIn codes x = getD codes x 0
-
+-- what an item gives to a side: its mask where it is of that side, 0 the source's and 1 the target's
 abbrev pub sideMask : List ℕ → ℕ → ℕ → ℕ
 sideMask masks side x = cond (eqb (x % 2) side) (getD masks (x / 2) 0) 0
-
--- one of the first n items has the code k and gives the bit q
-pub record Gives (code give : ℕ → ℕ) (n k q : ℕ) : Type 0 where
-  pub at : ℕ
-  pub below : at < n
-  pub same : code at ≡ k
-  pub bears : bit (give at) q ≡ true
 
 -- the items give in the block of type t, for class c, other type o and permission q, just what R says
 pub record Says (R : ℕ → ℕ → ℕ → ℕ → Type 0) (code give : ℕ → ℕ) (n : ℕ) : Type 0 where

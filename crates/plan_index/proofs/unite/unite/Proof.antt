@@ -5,10 +5,11 @@ use Prim.Native.Nat.{ℕ, _-_, _≤_, _<_}
 use native.Mathlib.Omega.{arith}
 use borrow.Author.Needs.{needs}
 use lib.ListN.{length, getD, length-set}
+use Rattle.sorting.proofs.EntryLaws.{rising-at}
 use Rattle.plan_index.specs.inner.Codes.{items}
 use Rattle.plan_index.specs.inner.Items.{codeIn, sideMask}
 use Rattle.plan_index.specs.inner.Unite.{UnitedItems}
-use Rattle.plan_index.proofs.UniteLaws.{united-none, united-more, rising-at, united-all}
+use Rattle.plan_index.proofs.UniteLaws.{united-none, united-more, united-all}
 use Rattle.plan_index.proofs.unite.unite.Statement.{statement}
 use Rattle.plan_index.proofs.unite.unite.Tie as tie
 
@@ -46,7 +47,7 @@ module _ (K : tie.In-loop Inv-loop μ-loop) where
   room at l =
       let v = L .loop .inv in
       let R = start L .pre .2 in
-      let few : at < items = omega (arith, v .4 .few, K .loop-test .taken, start L .pre .0) in
+      let few : at < items = omega (arith, v .4 .entries .few, K .loop-test .taken, start L .pre .0) in
       (omega (arith, few, v .0, R .keys-size), omega (arith, few, v .1, R .writes-size), omega (arith, few, v .2, R .reads-size))
 
 at-room : (K : tie.After-mask-of2 Inv-loop μ-loop) → let P = placed K in let L = turn (P .before) .before .loop in
@@ -80,7 +81,7 @@ element-copy-out-mask c = omega (arith, item-few (c .before .before))
 entry-for-requires : tie.Need-entry-for-requires Inv-loop μ-loop
 entry-for-requires c κs =
     let K = turn c in
-    (omega (arith, room K (K .before .loop .m) (omega arith) .0), rising-at (start (K .before) .pre .1) (K .before .loop .inv .4) (K .loop-test .taken))
+    (omega (arith, room K (K .before .loop .m) (omega arith) .0), rising-at (start (K .before) .pre .1) (K .before .loop .inv .4 .entries) (K .loop-test .taken))
 
 mask-of-requires : tie.Need-mask-of-requires Inv-loop μ-loop
 mask-of-requires c κs = let K = turn (c .before .before) in omega (arith, room K (K .before .loop .m) (omega arith) .1)

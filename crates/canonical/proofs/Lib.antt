@@ -1,0 +1,4 @@
+pub mod RowLaws
+pub mod PlacedLaws
+pub mod WriteLaws
+pub mod AskedLaws

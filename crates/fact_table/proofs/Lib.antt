@@ -1,0 +1,3 @@
+pub mod CollectLaws
+pub mod UniteLaws
+pub mod TableLaws

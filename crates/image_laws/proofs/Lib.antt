@@ -1,0 +1,5 @@
+pub mod AgreeLaws
+pub mod CarryLaws
+pub mod AgreeQuestionLaws
+pub mod WrittenLaws
+pub mod StemEvalLaws

@@ -1,0 +1,4 @@
+pub mod Facts
+pub mod Canonical
+pub mod inner
+pub mod cases

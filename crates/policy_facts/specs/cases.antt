@@ -1,0 +1,2 @@
+-- What the theorems about the canonical policy say. No outward promise rests on it.
+pub mod Same

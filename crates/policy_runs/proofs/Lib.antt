@@ -1,0 +1,6 @@
+pub mod CountingLaws
+pub mod TableLaws
+pub mod RunLaws
+pub mod ChainRunLaws
+pub mod RunImageLaws
+pub mod ImageWriteLaws

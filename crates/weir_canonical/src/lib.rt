@@ -1,0 +1,1 @@
+// The canonical image on named policies: definitions and theorems alone.
