@@ -8,7 +8,7 @@ pub struct Place {
     pub switched: &'static str,
 }
 
-pub const PLACES: [Place; 54] = [
+pub const PLACES: [Place; 60] = [
     Place {
         file: "layers.rs",
         reads: "(1..goal.n).any(|i| goal.sigma(i + 1, x) && !self.seen.contains(&i))",
