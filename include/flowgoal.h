@@ -123,7 +123,8 @@ uint64_t flowgoal_check(const uint8_t *policy, size_t policy_length, const uint8
 
 /* Is the permission of the class authorized from the context (t1, r1, u1), which acts, on (t2, r2, u2)?
  *
- * Types, roles, users and classes are numbered from 1, permissions from 0. The call refuses with
+ * Types, roles, users and classes are numbered from 1, permissions from 0. Permission 0 of class 1 is process transition, which
+ * needs a record that lets role r1 change to r2 where the two differ, and none where they are equal. The call refuses with
  *   1   the image is shorter than 24 bytes, has more than 4,095 records, or its length does not fit the number of records
  *   2   a count of types, roles, users or classes is out of range
  *   3   a head or a next is out of range, or a next is not above its record

@@ -109,6 +109,24 @@ static void weir_9(void)
     expect_refused("W9 and a constraint without a root", 6);
 }
 
+/* G over a transition: 2 reads 1 and makes one to 4. Since request f that breaks G where the roles are equal; with different roles a
+ * record of kind 7 is still needed for it. */
+static void unchanged_roles(void)
+{
+    static const uint32_t same[5] = {0x111, 64, 0x221, 32, 0x421}, changed[5] = {0x111, 64, 0x221, 32, 0x411};
+    goal_g(&goal);
+    policy_transition(&policy, 2);
+    expect_result("equal roles", ask(WORK, WORK, PATH), 2, 0, FLOWGOAL_EVENTS);
+    expect("its path", memcmp(path, same, sizeof same) == 0, 1);
+    expect("the entries after it", untouched_from(5), 1);
+    policy_transition(&policy, 1);
+    expect_result("different roles", ask(WORK, WORK, PATH), 0, 0, FLOWGOAL_HOLDS);
+    expect("the path slice where it holds", untouched_from(0), 1);
+    policy_add(&policy, 7, 2, 1, 0, 0, 0);
+    expect_result("different roles, and a record", ask(WORK, WORK, PATH), 2, 0, FLOWGOAL_EVENTS);
+    expect("its path", memcmp(path, changed, sizeof changed) == 0, 1);
+}
+
 static void weir_10_to_12(void)
 {
     policy_start(&policy, 1, 1, 1, 1);
@@ -262,6 +280,7 @@ int main(int count, char **arguments)
     }
     weir_examples(arguments[1]);
     weir_9();
+    unchanged_roles();
     weir_10_to_12();
     refusals();
     null_pointers();

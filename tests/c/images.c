@@ -91,6 +91,24 @@ void policy_refused(struct policy *policy, unsigned number)
     }
 }
 
+void policy_transition(struct policy *policy, unsigned role)
+{
+    policy_start(policy, 4, 2, 1, 2);
+    policy_add(policy, 1, 2, 0, 0, 0, 0);
+    policy_add(policy, 1, 4, 0, 0, 0, 0);
+    policy_add(policy, 2, 1, 0, 0, 0, 1);
+    policy_add(policy, 2, 2, 0, 0, 0, 3);
+    policy_add(policy, 3, 1, 1, 0, 0, 1);
+    policy_add(policy, 3, 2, 2, 0, 0, 1);
+    policy_add(policy, 3, 2, 1, 0, 0, 2);
+    policy_add(policy, 4, 2, 1, 2, 0, 1);
+    policy_add(policy, 4, 2, 3, 2, 0, 2);
+    policy_add(policy, 4, 2, 4, 1, 0, 1);
+    policy_add(policy, 5, 2, 2, 0, 0, 0);
+    policy_add(policy, 5, role, 4, 0, 0, 0);
+    policy_add(policy, 6, 1, 2, 0, 0, 0);
+}
+
 void policy_deep(struct policy *policy, int allowed, unsigned last)
 {
     policy_start(policy, 2, 1, 1, 2);

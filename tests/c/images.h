@@ -34,6 +34,8 @@ void policy_add(struct policy *policy, unsigned kind, unsigned a, unsigned b, un
 void policy_weir(struct policy *policy);
 /* The weir policy, damaged so that it is refused with the number: 1 to 6, or 14. */
 void policy_refused(struct policy *policy, unsigned number);
+/* The same in which 4 may not read 3, but 2 may make a transition to 4, which is write-like, and the role named holds 4. */
+void policy_transition(struct policy *policy, unsigned role);
 /* The deepest constraints that a search can come to: a class, its way of flow, a constraint, and nodes up to the record named,
  * each `not` of the one before, above "same type". The records that let type 1 write to type 2, where it is allowed, make it
  * come to flow, where an odd number of negations makes the constraint true for them. */

@@ -54,6 +54,29 @@ static void weir_9(void)
     expect_result("and permission 32 is out of range", authorized(3, 2, 1, 1, 32), 0, 13, FLOWGOAL_REFUSED);
 }
 
+/* The transition of (2, r1) to (4, r2), and whether it flows, which it does where it is authorized. */
+static void expect_transition(const char *what, unsigned r1, unsigned r2, unsigned answer)
+{
+    expect_result(what, flowgoal_authorized(policy.bytes, policy.length, 2, r1, 1, 4, r2, 1, 1, 0), 0, 0, answer);
+    expect_result("its flow", flowgoal_flows(policy.bytes, policy.length, 2, r1, 1, 4, r2, 1, 1, 0), 0, 0, answer);
+    expect_result("no flow back", flowgoal_flows(policy.bytes, policy.length, 4, r2, 1, 2, r1, 1, 1, 0), 0, 0, FLOWGOAL_NO);
+}
+
+/* Since request f a transition with equal roles needs no record of kind 7; with different roles it does. */
+static void unchanged_roles(void)
+{
+    policy_transition(&policy, 2);
+    expect_transition("equal roles", 2, 2, FLOWGOAL_YES);
+    expect_transition("equal roles that hold neither", 1, 1, FLOWGOAL_NO);
+    policy_transition(&policy, 1);
+    expect_transition("equal roles that do not hold 4", 2, 2, FLOWGOAL_NO);
+    expect_transition("different roles", 2, 1, FLOWGOAL_NO);
+    policy_add(&policy, 7, 1, 2, 0, 0, 0);
+    expect_transition("different roles, and a record the other way", 2, 1, FLOWGOAL_NO);
+    policy_add(&policy, 7, 2, 1, 0, 0, 0);
+    expect_transition("different roles, and a record", 2, 1, FLOWGOAL_YES);
+}
+
 /* The deepest constraint that can be asked about: a class with its permission, a constraint on it, and the rest nodes, each
  * `not` of the one before. Where it is to be answered with yes too, an even number of negations of "same type" stands below
  * the records that authorize the event. */
@@ -90,6 +113,7 @@ int main(void)
 {
     answers();
     weir_9();
+    unchanged_roles();
     deepest(1);
     deepest(0);
     return results();

@@ -87,6 +87,23 @@ static void weir_pairs(void)
     }
 }
 
+/* A transition with equal roles is a step since request f; with different roles it is one where a record of kind 7 says so. */
+static void unchanged_roles(void)
+{
+    static const uint32_t same[5] = {0x111, 64, 0x221, 32, 0x421}, changed[5] = {0x111, 64, 0x221, 32, 0x411};
+    const struct context file = {1, 1, 1}, second = {4, 2, 1}, first = {4, 1, 1};
+    policy_transition(&policy, 2);
+    expect_result("equal roles", ask(file, second, WORK, WORK, PATH), 2, 0, FLOWGOAL_SHOWN);
+    expect("its entries", memcmp(path, same, sizeof same) == 0, 1);
+    expect_result("equal roles, back", ask(second, file, WORK, WORK, PATH), 0, 0, FLOWGOAL_NONE);
+    policy_transition(&policy, 1);
+    expect_result("different roles", ask(file, first, WORK, WORK, PATH), 0, 0, FLOWGOAL_NONE);
+    expect("the path slice after none", untouched_from(0), 1);
+    policy_add(&policy, 7, 2, 1, 0, 0, 0);
+    expect_result("different roles, and a record", ask(file, first, WORK, WORK, PATH), 2, 0, FLOWGOAL_SHOWN);
+    expect("its entries", memcmp(path, changed, sizeof changed) == 0, 1);
+}
+
 /* Each of the six numbers out of range, before the work slices are asked about. */
 static void out_of_range(void)
 {
@@ -191,6 +208,7 @@ static void deepest(int allowed, unsigned last, uint64_t steps, unsigned answer)
 int main(void)
 {
     weir_pairs();
+    unchanged_roles();
     out_of_range();
     refused_policies();
     null_pointers();

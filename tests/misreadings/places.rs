@@ -8,7 +8,7 @@ pub struct Place {
     pub switched: &'static str,
 }
 
-pub const PLACES: [Place; 59] = [
+pub const PLACES: [Place; 60] = [
     Place {
         file: "layers.rs",
         reads: "(1..goal.n).any(|i| goal.sigma(i + 1, x) && !self.seen.contains(&i))",
@@ -71,7 +71,13 @@ pub const PLACES: [Place; 59] = [
     Place {
         file: "policy.rs",
         reads: "e != TRANSITION ||",
-        switched: "e != TRANSITION || on!(RoleRuleLeftOut) || on!(EqualRolesNotAsked) && r1 == r2 ||",
+        switched: "e != TRANSITION && !on!(EveryEventAsked) || on!(RoleRuleLeftOut) ||",
+    },
+    Place {
+        file: "policy.rs",
+        reads: "(self.landed.has('f') && r1 == r2) ||",
+        switched: "(self.landed.has('f') && r1 == r2 && !on!(EqualRolesAsked) && !on!(EqualTypesLetPass) && !on!(EqualUsersLetPass)
+                && !(on!(RoleOneAloneLetPass) && r1 != 1)) || !on!(DifferentRolesStopped) &&",
     },
     Place {
         file: "layers.rs",
@@ -86,7 +92,8 @@ pub const PLACES: [Place; 59] = [
                 let mut values = roots.iter().map(|&root| policy.eval(root, y1, y2));
                 let chi = on!(ConstraintsIgnored)
                     || if on!(AnyConstraintSuffices) { roots.is_empty() || values.any(|v| v) } else { values.all(|v| v) };
-                if chi && policy.role_rule(s1, s2, e) && !(on!(NoFlowToItself) && x1 == x2) {",
+                let stays = on!(EqualTypesLetPass) && x1.t == x2.t || on!(EqualUsersLetPass) && x1.u == x2.u;
+                if chi && (stays || policy.role_rule(s1, s2, e)) && !(on!(NoFlowToItself) && x1 == x2) {",
     },
     Place {
         file: "policy.rs",

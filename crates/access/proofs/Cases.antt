@@ -209,12 +209,12 @@ pub transition-2-to-3 : authorized (policyOf gate) (event 1 0) (at 2 2 1) (at 3 
 unfolding authorized flow χ roleRule constraintsHold evalNode evalAt domain Γ writeLike readLike allowed α ρ μ roleChange some every bit countsOf recordCount recordOf policyHead payloadOf decoded
 transition-2-to-3 = refl
 
--- with equal roles it wants a record too
-pub transition-2-to-2 : authorized (policyOf gate) (event 1 0) (at 2 2 1) (at 3 2 1) ≡ false
+-- with equal roles it needs none (paper 02, f)
+pub transition-2-to-2 : authorized (policyOf gate) (event 1 0) (at 2 2 1) (at 3 2 1) ≡ true
 unfolding authorized flow χ roleRule constraintsHold evalNode evalAt domain Γ writeLike readLike allowed α ρ μ roleChange some every bit countsOf recordCount recordOf policyHead payloadOf decoded
 transition-2-to-2 = refl
 
--- no other event is asked: kind 7 has no (2,2)
+-- nor does another event, whatever the roles are (RoleCases `signal-different`)
 pub signal-without-rule : authorized (policyOf gate) (event 1 1) (at 2 2 1) (at 2 2 1) ≡ true
 unfolding authorized flow χ roleRule constraintsHold evalNode evalAt domain Γ writeLike readLike allowed α ρ μ roleChange some every bit countsOf recordCount recordOf policyHead payloadOf decoded
 signal-without-rule = refl

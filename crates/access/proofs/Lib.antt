@@ -1,2 +1,5 @@
+pub mod RoleLaws
+pub mod Amended
 pub mod Cases
+pub mod RoleCases
 pub mod NoDomain

@@ -1,5 +1,6 @@
 -- Authorization and flow (paper 01; source 003, sections 2.3 and 2.4). x is the context that acts, y the one acted on.
 use mathlib.Core.Bool.{Bool, not, _&&_, _||_}
+use lib.Dec.{eqb}
 use Rattle.policy_image.specs.Policy.{Policy}
 use Rattle.context.specs.declared.Context.{Context}
 use Rattle.context.specs.declared.Event.{Event}
@@ -12,9 +13,10 @@ use Rattle.access.specs.declared.Clauses.{Clauses}
 unfoldable pub χ : Policy → Event → Context → Context → Bool
 χ p e x y = Γ p e && constraintsHold p e x y
 
--- "and for process transition kind 7 has (r1,r2) too"
+-- "and for process transition kind 7 has (r1,r2) too"; in the source "if c = process ∧ p = transition then α_ρ(r1, r2)". Amended by paper 02, f:
+-- "From now on a process transition with r1 = r2 needs no kind 7 record; with different roles it does, as before."
 unfoldable pub roleRule : Policy → Event → Context → Context → Bool
-roleRule p e x y = not (isTransition e) || roleChange p (x .role) (y .role)
+roleRule p e x y = not (isTransition e) || (eqb (x .role) (y .role) || roleChange p (x .role) (y .role))
 
 -- the clauses in the paper's order: "α(t1,t2,c,p), ρ(r1,t1), ρ(r2,t2), μ(u1,r1), μ(u2,r2) and χ", then the role rule
 abbrev pub clausesOf : Policy → Event → Context → Context → Clauses

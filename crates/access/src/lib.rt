@@ -49,12 +49,15 @@ fn chi(policy: &[u8], e: Event, x: Context, y: Context) -> bool
     constraints_hold(policy, e, x, y)
 }
 
-// Whether the role may change, where the event is process transition.
+// Whether the role stays or may change, where the event is process transition.
 fn role_rule(policy: &[u8], e: Event, x: Context, y: Context) -> bool
     requires { ⌜ Sound (now policy) × Coded e ⌝ }
     ensures { λ r. ⌜ r ≡ roleRule (policyOf (now (policy .entry))) e x y ⌝ }
 {
     if !e.is_transition() {
+        return true;
+    }
+    if x.role == y.role {
         return true;
     }
     role_change(policy, x.role, y.role)

@@ -57,7 +57,7 @@ module _ {p q : Policy} (S : SameFacts p q) where
 
     same-rule : (e : Event) (x y : Context) → roleRule p e x y ≡ roleRule q e x y
     unfolding roleRule
-    same-rule e x y = λ j. not (isTransition e) || same-changes (x .role) (y .role) j
+    same-rule e x y = λ j. not (isTransition e) || (eqb (x .role) (y .role) || same-changes (x .role) (y .role) j)
 
     -- ---- authorization and flow
     same-authorized : (e : Event) (x y : Context) → authorized p e x y ≡ authorized q e x y

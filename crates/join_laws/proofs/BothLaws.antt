@@ -103,7 +103,7 @@ module _ (r p q : Policy) (T : TakenTogether r p q) where
 
     pub together-rule : (x y : Context) → roleRule r e x y ≡ roleRuleBoth p q e x y
     unfolding roleRule roleRuleBoth
-    together-rule x y = ap (λ (b : Bool). not (isTransition e) || b) (T .changes (x .role) (y .role))
+    together-rule x y = ap (λ (b : Bool). not (isTransition e) || (eqb (x .role) (y .role) || b)) (T .changes (x .role) (y .role))
 
     pub together-authorized : (x y : Context) → authorized r e x y ≡ authorizedBoth p q e x y
     unfolding authorized authorizedBoth

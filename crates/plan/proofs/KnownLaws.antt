@@ -67,5 +67,5 @@ module _ {p : Policy} {masks : List ℕ} (C : ConstraintMasks p masks) (size : l
   tabled {changes} {old} {mid} {new} R A B =
       record {
         special-at = λ c q h. ap (λ (k : ℕ). bit k q) (B .below c (omega arith) ∙ ap (λ (k : ℕ). getD mid k 0) (sym (zero-plus c)) ∙ A .here c (omega arith) h) ∙ marked c q;
-        change = λ r1 r2 h. ap (λ (k : ℕ). bit k r2) (B .here r1 (omega arith) h) ∙ R .at r1 r2;
+        change = λ r1 r2 h. ap (λ (k : ℕ). bit k r2) (B .here r1 (omega arith) h) ∙ R .at r1 r2 h;
       }

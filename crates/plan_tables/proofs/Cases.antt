@@ -75,10 +75,10 @@ module _ (l : List ℕ) where
   unfolding μ some bit recordCount recordOf payloadOf decoded
   user-roles M = (M .at 1 1 (omega arith), M .at 1 2 (omega arith), M .at 1 3 (omega arith))
 
-  -- a change has a direction
-  pub changes : RoleChanges (policyOf few) l → (bit (getD l 1 0) 2 ≡ true) × (bit (getD l 2 0) 1 ≡ false)
+  -- a change has a direction, and a role may stay without one
+  pub changes : RoleChanges (policyOf few) l → (bit (getD l 1 0) 2 ≡ true) × (bit (getD l 2 0) 1 ≡ false) × (bit (getD l 2 0) 2 ≡ true)
   unfolding roleChange some bit recordCount recordOf payloadOf decoded
-  changes M = (M .at 1 2, M .at 2 1)
+  changes M = (M .at 1 2 (omega arith), M .at 2 1 (omega arith), M .at 2 2 (omega arith))
 
 -- the empty table, without the object role, is no table of roles
 pub empty-refused : RoleTable (policyOf weir) (replicate typeEntries 0) → ⊥

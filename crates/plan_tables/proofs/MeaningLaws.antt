@@ -1,9 +1,9 @@
 -- From what a table gathered to what it means, and what follows from a bit that is not set.
 use Prim.Native.Nat.{ℕ}
-use mathlib.Core.Bool.{Bool, true, false, not, cond, _&&_, _||_, and-comm}
+use mathlib.Core.Bool.{Bool, true, false, not, cond, _&&_, _||_, and-comm, or-comm}
 use mathlib.Core.List.{List}
 use mathlib.Core.Logic.{⊎-elim}
-use mathlib.Core.Path.{_≡_, refl, sym, ap, _∙_}
+use mathlib.Core.Path.{_≡_, refl, sym, ap, ap₂, _∙_}
 use native.Mathlib.Omega.{arith}
 use borrow.Author.Tests.{eq-eqb, eqb-true}
 use lib.Dec.{eqb}
@@ -25,7 +25,7 @@ use Rattle.relations.specs.Relations.{Γ, ρ, μ, roleChange}
 use Rattle.constraints.specs.Constraints.{constrains, constraintsHold}
 use Rattle.constraints.specs.Eval.{evalNode}
 use Rattle.plan_tables.specs.inner.Gather.{added, Gathered}
-use Rattle.plan_tables.specs.inner.Tables.{userEntries, GammaMasks, FlowMasks, ConstraintMasks, ObjectRoles, RoleTable, UserTable, RoleChanges}
+use Rattle.plan_tables.specs.inner.Tables.{userEntries, GammaMasks, FlowMasks, ConstraintMasks, ObjectRoles, RoleTable, UserTable, OwnRoles, RoleChanges}
 
 -- ---- truth values
 eqb-sym : (a b : ℕ) → eqb a b ≡ eqb b a
@@ -70,13 +70,6 @@ module _ (p : Policy) (way n : ℕ) (l : List ℕ) where
   pub constraint-means : Gathered p 8 way (replicate n 0) l → ConstraintMasks p l
   constraint-means G = record { at = only-added p 8 way n l G }
 
-  pub changes-mean : Gathered p 7 way (replicate n 0) l → RoleChanges p l
-  unfolding roleChange
-  changes-mean G =
-      record {
-        at = λ r1 r2. only-added p 7 way n l G r1 r2 ∙ some-same p 7 _ _ (λ r. ap (λ (b : Bool). eqb (r .a) r1 && b) (bit-pow (r .b) r2));
-      }
-
 -- ---- a table that had role 1
 module _ (p : Policy) (way : ℕ) (l : List ℕ) where
   -- every user holds role 1
@@ -104,6 +97,17 @@ module _ (p : Policy) (way : ℕ) (l : List ℕ) where
             (some-same p 5 _ _
             (λ r. ap (λ (b : Bool). eqb (r .b) t && b) (bit-pow (r .a) role) ∙ and-comm (eqb (r .b) t) (eqb (r .a) role)));
       }
+
+-- ---- a table that had each role's own bit
+pub changes-mean : (p : Policy) (way : ℕ) (o l : List ℕ) → OwnRoles o → Gathered p 7 way o l → RoleChanges p l
+unfolding roleChange
+changes-mean p way o l O G =
+    record {
+      at = λ r1 r2 h.
+          G .at r1 r2
+          ∙ ap₂ _||_ (some-same p 7 _ _ (λ r. ap (λ (b : Bool). eqb (r .a) r1 && b) (bit-pow (r .b) r2))) (O .at r1 r2 h)
+          ∙ or-comm _ (eqb r1 r2);
+    }
 
 -- ---- where the bit of a permission is not set, no constraint is on it, and they all hold
 pub unconstrained : (p : Policy) (l : List ℕ) → ConstraintMasks p l → (c q : ℕ) → bit (getD l c 0) q ≡ false

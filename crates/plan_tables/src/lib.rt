@@ -5,6 +5,7 @@ pub mod groups;
 
 use crate::gather::gather;
 use base::bits::has_bit;
+use base::bits::with_bit;
 use policy_image::kinds::CONSTRAINT;
 use policy_image::kinds::FLOW;
 use policy_image::kinds::PERMISSIONS;
@@ -19,7 +20,7 @@ ghost use lib.Dec.{eqb};
 ghost use Rattle.base.specs.Bits.{bit};
 ghost use Rattle.policy_image.specs.Policy.{policyOf};
 ghost use Rattle.policy_check.specs.inner.Sound.{Sound};
-ghost use Rattle.plan_tables.specs.inner.Tables.{GammaMasks, FlowMasks, ConstraintMasks, ObjectRoles, RoleTable, UserTable, RoleChanges};
+ghost use Rattle.plan_tables.specs.inner.Tables.{GammaMasks, FlowMasks, ConstraintMasks, ObjectRoles, RoleTable, UserTable, OwnRoles, RoleChanges};
 
 // How many entries a table by classes, by types, by roles or users has: one more than the largest number, for entry 0.
 pub use policy_sources::TYPES;
@@ -104,12 +105,25 @@ pub fn user_table(policy: &[u8]) -> [u32; USERS]
     roles
 }
 
-// For each role those to which it may change.
+// For each role that role alone.
+fn own_roles() -> [u32; ROLES]
+    ensures { λ r. ⌜ OwnRoles r ⌝ }
+{
+    let mut roles = [0u32; ROLES];
+    let mut role = 0;
+    while role < ROLES {
+        roles[role] = with_bit(0, role as u32);
+        role += 1;
+    }
+    roles
+}
+
+// For each role that role and those to which it may change.
 pub fn role_changes(policy: &[u8]) -> [u32; ROLES]
     requires { ⌜ Sound (now policy) ⌝ }
     ensures { λ r. ⌜ RoleChanges (policyOf (now (policy .entry))) r ⌝ }
 {
-    let mut changes = [0u32; ROLES];
+    let mut changes = own_roles();
     gather(policy, ROLE_CHANGE, 0, &mut changes);
     changes
 }

@@ -11,10 +11,9 @@ use Rattle.policy_image.specs.OfKind.{some, every}
 use Rattle.policy_links.proofs.KindLaws.{OfKind, some-yes, some-record, every-yes, every-record}
 use Rattle.context.specs.declared.Context.{Context}
 use Rattle.context.specs.Codes.{eventOf}
-use Rattle.relations.specs.Relations.{roleChange}
 use Rattle.constraints.specs.Constraints.{constrains, constraintsHold}
 use Rattle.constraints.specs.Eval.{evalNode}
-use Rattle.access.specs.Authorization.{roleRule}
+use Rattle.access.proofs.RoleLaws.{rule-same}
 use Rattle.plan.specs.inner.Plan.{special, Alike}
 use Rattle.search_steps.proofs.FlowLaws.{conditions}
 
@@ -47,5 +46,4 @@ module _ {p : Policy} {plan : List ℕ} {e f : ℕ} (A : Alike p plan e f) where
       (λ i o. ap (λ (b : Bool). not b || evalNode p x y (rootOf (p .rec i))) (on-both i o))
 
   pub conditions-same : (x y : Context) → conditions p (eventOf e) x y ≡ conditions p (eventOf f) x y
-  unfolding roleRule
-  conditions-same x y = ap₂ _&&_ (constraints-same x y) (ap (λ (b : Bool). not b || roleChange p (x .role) (y .role)) (A .transition))
+  conditions-same x y = ap₂ _&&_ (constraints-same x y) (rule-same p (eventOf e) x y (eventOf f) (A .transition))

@@ -20,10 +20,11 @@ use Rattle.context.specs.declared.Context.{Context}
 use Rattle.context.specs.declared.Event.{Event}
 use Rattle.context.specs.Codes.{eventOf, isTransition}
 use Rattle.policy_sources.specs.Sources.{domain}
-use Rattle.relations.specs.Relations.{Γ, α, ρ, μ, allowed, roleChange, writeLike, readLike}
+use Rattle.relations.specs.Relations.{Γ, α, ρ, μ, allowed, writeLike, readLike}
 use Rattle.constraints.specs.Constraints.{constrains, constraintsHold}
 use Rattle.constraints.specs.Eval.{evalNode}
 use Rattle.access.specs.Authorization.{χ, roleRule, authorized, flow}
+use Rattle.access.proofs.RoleLaws.{rule-free}
 use Rattle.goal_model.specs.Images.{meetsρμ}
 use Rattle.plan.specs.inner.Plan.{special}
 
@@ -128,10 +129,10 @@ module _ (p : Policy) (e : Event) where
       (true-or-false (constrains (p .rec i) e)))
 
   pub plain-conditions : special p e ≡ false → (x y : Context) → conditions x y ≡ true
-  unfolding special roleRule
+  unfolding special
   plain-conditions h x y =
       let n = or-both (some p 8 (λ r. constrains r e)) (isTransition e) h in
-      ap₂ _&&_ (free x y (n .0)) (ap (λ (b : Bool). not b || roleChange p (x .role) (y .role)) (n .1))
+      ap₂ _&&_ (free x y (n .0)) (rule-free p e x y (n .1))
 
   -- by an event that is not special, what flows from x flows from every context of its type that meets ρ and μ
   pub plain-same : (x x′ y : Context) → special p e ≡ false → x .ty ≡ x′ .ty → meetsρμ p x′ ≡ true → flow p e x y ≡ true → flow p e x′ y ≡ true

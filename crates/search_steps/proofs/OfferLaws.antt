@@ -21,9 +21,10 @@ use Rattle.context.specs.declared.Event.{Event}
 use Rattle.context.specs.Codes.{eventAt, eventOf, isTransition}
 use Rattle.context.specs.Ranges.{ContextInRange}
 use Rattle.context.specs.inner.Places.{contextAtIndex, OfType}
-use Rattle.relations.specs.Relations.{α, roleChange, writeLike, readLike}
+use Rattle.relations.specs.Relations.{α, writeLike, readLike}
 use Rattle.constraints.specs.Constraints.{constraintsHold}
-use Rattle.access.specs.Authorization.{roleRule, flow}
+use Rattle.access.specs.Authorization.{flow}
+use Rattle.access.proofs.RoleLaws.{mayBecome, rule-free, rule-asked}
 use Rattle.goal_model.specs.Images.{meetsρμ}
 use Rattle.plan.specs.inner.Plan.{Ready, special, EntryOf, OfferBlock, Alike, Leader, Leads, PolicyPlan, Planned}
 use Rattle.plan.specs.inner.Regions.{blockEntries, eventEntries}
@@ -335,13 +336,10 @@ module _ (p : Policy) (x y : Context) (e : ℕ) (m : Bool) {d : Event} (q : d �
     is = ap isTransition (sym q) ∙ sym ht
 
     pub no-rule : not t ≡ true → true ≡ (m && conditions p (eventOf e) x y)
-    unfolding roleRule
-    no-rule n = sym (ap₂ _&&_ (not-false m hm) (ap₂ _&&_ holds (ap (λ (b : Bool). not b || roleChange p (x .role) (y .role)) (is ∙ not-true t n))))
+    no-rule n = sym (ap₂ _&&_ (not-false m hm) (ap₂ _&&_ holds (rule-free p (eventOf e) x y (is ∙ not-true t n))))
 
-    pub by-rule : {r : Bool} → not t ≡ false → r ≡ roleChange p (x .role) (y .role) → r ≡ (m && conditions p (eventOf e) x y)
-    unfolding roleRule
-    by-rule n hr =
-        hr ∙ sym (ap₂ _&&_ (not-false m hm) (ap₂ _&&_ holds (ap (λ (b : Bool). not b || roleChange p (x .role) (y .role)) (is ∙ not-false t n))))
+    pub by-rule : {r : Bool} → not t ≡ false → r ≡ mayBecome p x y → r ≡ (m && conditions p (eventOf e) x y)
+    by-rule n hr = hr ∙ sym (ap₂ _&&_ (not-false m hm) (ap₂ _&&_ holds (rule-asked p (eventOf e) x y (is ∙ not-false t n))))
 
 pub roles-few : {s : List ℕ} {n : Counts} {x : Context} → Ready s n → ContextInRange n x → x .role < 16
 roles-few {s} {n} {x} R h =

@@ -12,6 +12,7 @@ pub mod StepsPaths
 pub mod Steps
 pub mod StepsClauses
 pub mod StepsStandIns
+pub mod Roles
 pub mod JoinImages
 pub mod JoinAnswers
 pub mod JoinMany

@@ -57,11 +57,11 @@ unfolding countsOf recordCount recordOf policyHead payloadOf decoded useOf
 apart-accepted = accepted refl refl refl refl refl refl refl
 
 module _ {s : List ℕ} {work : ℕ} (a : Accepted s) (f : StepsFit s work work) where
-  are : (x y : Context) {m : ℕ} {l : List ℕ} → BothInRange (countsOf s) x y → Shows (FlowPath (policyOf s) x y) m l l → NoneShorter (policyOf s) x y m
+  pub are : (x y : Context) {m : ℕ} {l : List ℕ} → BothInRange (countsOf s) x y → Shows (FlowPath (policyOf s) x y) m l l → NoneShorter (policyOf s) x y m
       → StepsAre s x y work m
   are x y b h n = record { asked = passed s x y work work a b f; some = shown-some (policyOf s) x y h; least = n }
 
-  none : (x y : Context) → BothInRange (countsOf s) x y → NoFlowPath (policyOf s) x y → NoSteps s x y work
+  pub none : (x y : Context) → BothInRange (countsOf s) x y → NoFlowPath (policyOf s) x y → NoSteps s x y work
   none x y b n = record { asked = passed s x y work work a b f; none = n }
 
 -- THE FIFTH THEOREM: least steps from the definitions

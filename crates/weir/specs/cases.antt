@@ -9,6 +9,8 @@ pub mod Bytes
 pub mod StepsPolicies
 pub mod Steps
 pub mod StepsClauses
+pub mod RolePolicies
+pub mod Roles
 pub mod JoinPolicies
 pub mod Join
 pub mod JoinClauses

@@ -11,8 +11,9 @@ macro_rules! misreadings {
 }
 
 misreadings! {
-    /// Of what breaks a goal. Those of `../second-search/mutants.py` come first here and among those of flow, 26 in all; the rest
-    /// are ours. One more, that a source need be no domain, is of the images since request b.
+    /// Of what breaks a goal. Those of `../second-search/mutants.py` come first here and among those of flow, 25 in all; the rest
+    /// are ours. One more, that a source need be no domain, is of the images since request b; and that equal roles are not asked
+    /// is no misreading since request f.
     OF_GOALS = [
         SameContextCounts: "order: same context counts (l <= j)",
         OrderFromZero: "order: i from 0",
@@ -38,7 +39,6 @@ misreadings! {
     OF_FLOW = [
         ReadReversed: "read-like reversed",
         RoleRuleLeftOut: "role rule left out",
-        EqualRolesNotAsked: "role rule not asked of equal roles (request f)",
         SelfIgnored: "self ignored",
         ConstraintSwapped: "constraint contexts swapped",
         ConstraintsIgnored: "constraints ignored",
@@ -47,6 +47,12 @@ misreadings! {
         RoleOneHoldsAll: "role 1 holds every type",
         RoleOneNeedsRecord: "role 1 needs a user record",
         RolesSwapped: "role rule asked with the roles swapped",
+        EqualRolesAsked: "role rule asked of equal roles, as until request f",
+        EqualTypesLetPass: "role rule not asked of equal types, in place of roles",
+        EqualUsersLetPass: "role rule not asked of equal users, in place of roles",
+        RoleOneAloneLetPass: "role rule not asked of role 1 alone",
+        EveryEventAsked: "role rule asked of every event",
+        DifferentRolesStopped: "different roles stopped whatever kind 7 has",
         BothIsWriteAlone: "flow both ways taken as write-like alone",
     ];
     /// Of least steps. Some are those of mutants.py; the goal is that of the case, which least steps has nothing to do with.

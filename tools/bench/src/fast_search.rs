@@ -24,6 +24,7 @@ pub fn load(b: &[u8]) -> Pol {
         8 => p.cons[q.a].push((q.mask, q.d + 256 * q.e)), _ => {} } }
     for ty in 1..=t { if !p.dom[ty] { p.rho[1][ty] = true; } }
     for us in 1..=u { p.mu[us][1] = true; }
+    for ro in 1..=r { p.trans[ro][ro] = true; }
     p
 }
 pub type Ctx = (usize, usize, usize);

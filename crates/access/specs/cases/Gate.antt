@@ -33,7 +33,7 @@ gate =
     ∷ userRole 20 1 2
     ∷ userRole 21 1 3
     ∷ userRole 0 2 2
-    -- role 2 may change to role 3, and to no other, not to itself either
+    -- role 2 may change to role 3; that it may stay, no record says
     ∷ roleChange 0 2 3
     -- two constraints on write: same user, or t1 = 3 and not r2 = 2; and u1 = 1
     ∷ constraint 24 2 2 30

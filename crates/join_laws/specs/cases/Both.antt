@@ -85,9 +85,9 @@ unfoldable pub μBoth : Policy → Policy → ℕ → ℕ → Bool
 unfoldable pub χBoth : Policy → Policy → Event → Context → Context → Bool
 χBoth p q e x y = ΓBoth p q e && constraintsBoth p q e x y
 
--- "and for process transition kind 7 has (r1,r2) too"
+-- "and for process transition kind 7 has (r1,r2) too", where r1 and r2 differ (paper 02, f)
 unfoldable pub roleRuleBoth : Policy → Policy → Event → Context → Context → Bool
-roleRuleBoth p q e x y = not (isTransition e) || roleChangeBoth p q (x .role) (y .role)
+roleRuleBoth p q e x y = not (isTransition e) || (eqb (x .role) (y .role) || roleChangeBoth p q (x .role) (y .role))
 
 -- the clauses in the paper's order: "α(t1,t2,c,p), ρ(r1,t1), ρ(r2,t2), μ(u1,r1), μ(u2,r2) and χ", then the role rule
 abbrev pub clausesBoth : Policy → Policy → Event → Context → Context → Clauses

@@ -52,10 +52,10 @@ pub record PlanCounts (n : Counts) : Type 0 where
 unfoldable pub special : Policy → Event → Bool
 special p e = some p 8 (λ r. constrains r e) || isTransition e
 
--- the special permissions of each class, and the roles to which each role may change
+-- the special permissions of each class, and by role that role and those to which it may change
 pub record Tabled (p : Policy) (plan : List ℕ) : Type 0 where
   pub special-at : (c q : ℕ) → c < classEntries → bit (specialAt plan c) q ≡ special p (eventAt c q)
-  pub change : (r1 r2 : ℕ) → r1 < roleEntries → bit (changesAt plan r1) r2 ≡ roleChange p r1 r2
+  pub change : (r1 r2 : ℕ) → r1 < roleEntries → bit (changesAt plan r1) r2 ≡ (eqb r1 r2 || roleChange p r1 r2)
 
 -- an entry from lo to below hi has the key k
 pub record EntryOf (plan : List ℕ) (lo hi k : ℕ) : Type 0 where

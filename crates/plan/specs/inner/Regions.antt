@@ -2,6 +2,7 @@
 -- region before it.
 use Prim.Native.Nat.{ℕ, _+_}
 use Rattle.plan_tables.specs.inner.Tables.{typeEntries}
+pub use Rattle.plan_tables.specs.inner.Tables.{roleEntries}
 use Rattle.plan_index.specs.inner.Codes.{items}
 -- a step is an event and a type, as a key is a class and a type: typeCodes times the first and the second
 pub use Rattle.plan_index.specs.inner.Codes.{typeCodes}
@@ -10,9 +11,6 @@ pub use Rattle.plan_index.specs.inner.Codes.{typeCodes}
 -- and a user, by record of a goal
 abbrev pub classEntries : ℕ
 classEntries = 32
-
-abbrev pub roleEntries : ℕ
-roleEntries = 16
 
 abbrev pub firstEntries : ℕ
 firstEntries = typeEntries + 1

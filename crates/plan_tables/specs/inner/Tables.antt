@@ -1,7 +1,7 @@
 -- What each table of a policy means, by the relations alone. l is the table, and bit q of its entry t is `bit (getD l t 0) q`.
 use Prim.Native.Nat.{ℕ, _<_}
 use mathlib.Core.Path.{_≡_}
-use mathlib.Core.Bool.{not, _&&_}
+use mathlib.Core.Bool.{not, _&&_, _||_}
 use mathlib.Core.List.{List}
 use lib.Dec.{eqb}
 use lib.ListN.{getD}
@@ -12,9 +12,12 @@ use Rattle.context.specs.Codes.{eventAt}
 use Rattle.relations.specs.Relations.{Γ, flowsAs, ρ, μ, roleChange}
 use Rattle.constraints.specs.Constraints.{constrains}
 
--- how many entries a table by types has, and one by users: one more than the largest number
+-- how many entries a table by types has, one by roles and one by users: one more than the largest number
 abbrev pub typeEntries : ℕ
 typeEntries = 256
+
+abbrev pub roleEntries : ℕ
+roleEntries = 16
 
 abbrev pub userEntries : ℕ
 userEntries = 16
@@ -43,6 +46,10 @@ pub record RoleTable (p : Policy) (l : List ℕ) : Type 0 where
 pub record UserTable (p : Policy) (l : List ℕ) : Type 0 where
   pub at : (u role : ℕ) → u < userEntries → bit (getD l u 0) role ≡ μ p u role
 
--- entry r1 has the roles to which role r1 may change
+-- entry r1 has role r1 alone
+pub record OwnRoles (l : List ℕ) : Type 0 where
+  pub at : (r1 r2 : ℕ) → r1 < roleEntries → bit (getD l r1 0) r2 ≡ eqb r1 r2
+
+-- entry r1 has role r1 and the roles to which it may change
 pub record RoleChanges (p : Policy) (l : List ℕ) : Type 0 where
-  pub at : (r1 r2 : ℕ) → bit (getD l r1 0) r2 ≡ roleChange p r1 r2
+  pub at : (r1 r2 : ℕ) → r1 < roleEntries → bit (getD l r1 0) r2 ≡ (eqb r1 r2 || roleChange p r1 r2)

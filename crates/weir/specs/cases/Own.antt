@@ -62,7 +62,7 @@ pub record OwnCases : Type 0 where
   pub constraint-of-class-alone : authorized (policyOf gate) (event 1 1) (at 2 2 2) (at 2 2 2) ≡ true
   pub chi-outside-gamma : χ (policyOf gate) (event 2 2) (at 2 2 1) (at 1 1 1) ≡ false
   pub transition-2-to-3 : authorized (policyOf gate) (event 1 0) (at 2 2 1) (at 3 3 1) ≡ true
-  pub transition-2-to-2 : authorized (policyOf gate) (event 1 0) (at 2 2 1) (at 3 2 1) ≡ false
+  pub transition-2-to-2 : authorized (policyOf gate) (event 1 0) (at 2 2 1) (at 3 2 1) ≡ true
   pub signal-without-rule : authorized (policyOf gate) (event 1 1) (at 2 2 1) (at 2 2 1) ≡ true
   pub transition-flows : flow (policyOf gate) (event 1 0) (at 2 2 1) (at 3 3 1) ≡ true
   pub read-flow-suffix-1 : flow (policyOf readers) (event 1 1) (at 2 3 1) (at 1 2 1) ≡ true
