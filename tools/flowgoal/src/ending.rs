@@ -1,7 +1,7 @@
 //! How a run ends: its exit status, and the one line that it says where it ends before its answer.
 use std::fmt::Display;
 
-/// The exit statuses of all subcommands (D66, DX1 of docs/DECISIONS.md).
+/// The exit statuses of all subcommands (D66, D103 of docs/DECISIONS.md).
 #[derive(Clone, Copy, PartialEq, Eq, Debug)]
 pub enum End {
     /// holds, yes, the same, agree, written, shown
