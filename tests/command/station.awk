@@ -44,7 +44,6 @@ function policy(    t, r, u) {
     for (t = 2; t <= 248; t += 6) print "allow", t, t + 6, "1 1"
     for (t = 2; t <= 254; t += 2) print "allow", t, "self 3 3"
     for (u = 1; u <= 4; u++) for (r = 2; r <= 4; r++) if (u == 1 || (u + r) % 2) print "user", u, "role", r
-    for (r = 2; r <= 4; r++) print "trans", r, r
     # files are read and written by those of the same user alone, or by the first
     print "constrain 2 3 either"
     print "same: node sameuser"

@@ -2,10 +2,10 @@
 use crate::cases::{cases, event, numbers, Case};
 use crate::json::Value;
 use crate::records::Explained;
-use crate::tool::{words, Results, Tool};
+use crate::tool::{words, Results, Tool, NO, STOPPED_ROLE, YES};
 use flowgoal_calls::Bare;
 use second_search::layers::flow_edges;
-use second_search::policy::{Context, Event, Policy};
+use second_search::policy::{Context, Event, Policy, TRANSITION};
 
 /// The clauses of authorization as the second search finds them; a name that is not here is none of them.
 fn clause(policy: &Policy, name: &str, x: Context, y: Context, e: Event) -> Option<bool> {
@@ -27,20 +27,15 @@ fn clause(policy: &Policy, name: &str, x: Context, y: Context, e: Event) -> Opti
 }
 
 pub fn test(tool: &Tool, results: &mut Results) {
-    let (mut yes, mut no) = (0, 0);
     for mut case in cases(400) {
         tool.write("policy.img", &case.policy.encode());
         for (x, y, e) in questions(&mut case) {
             for question in [Bare::Authorized, Bare::Flows] {
-                match ask(tool, &case, question, x, y, e, results) {
-                    true => yes += 1,
-                    false => no += 1,
-                }
+                let yes = ask(tool, &case, question, x, y, e, results);
+                results.meet(if yes { YES } else { NO });
             }
         }
     }
-    println!("  questions: {yes} yes, {no} no");
-    results.claim(yes >= 200 && no >= 200, || "too few questions are answered yes, or no".to_string());
 }
 
 /// A step that flows where there is one, the other way round, and any.
@@ -53,7 +48,29 @@ fn questions(case: &mut Case) -> Vec<(Context, Context, Event)> {
         let (x, y, e) = case.rng.pick(&flowing);
         all.extend([(x, y, e), (y, x, e)]);
     }
+    all.extend(transitions(case));
     all
+}
+
+/// Transitions that are authorized but for the role rule: between equal roles, between different ones that it lets through, and others.
+fn transitions(case: &mut Case) -> Vec<(Context, Context, Event)> {
+    let Case { policy, rng, .. } = case;
+    let valid: Vec<Context> = policy.contexts().into_iter().filter(|&x| policy.valid(x)).collect();
+    let pairs = valid.iter().flat_map(|&x| valid.iter().map(move |&y| (x, y)));
+    let mut sorts: [Vec<(Context, Context, Event)>; 3] = Default::default();
+    for (x, y) in pairs.filter(|(x, y)| policy.alpha(x.t, y.t, TRANSITION) && policy.chi(*x, *y, TRANSITION)) {
+        let lets = policy.records.iter().any(|r| (r.kind, r.a as u32, r.b as u32) == (7, x.r, y.r));
+        let sort = if x.r == y.r { 0 } else { 1 + lets as usize };
+        sorts[sort].push((x, y, TRANSITION));
+    }
+    sorts.iter().filter(|sort| !sort.is_empty()).map(|sort| rng.pick(sort)).collect()
+}
+
+/// Is this the one clause that fails?
+fn only_fails(clauses: &[Value], name: &str) -> bool {
+    let mut failing =
+        clauses.iter().filter(|one| *one.field("holds") == Value::Bool(false)).map(|one| one.field("clause").text());
+    failing.next() == Some(name) && failing.next().is_none()
 }
 
 fn ask(tool: &Tool, case: &Case, question: Bare, x: Context, y: Context, e: Event, results: &mut Results) -> bool {
@@ -84,6 +101,9 @@ fn ask(tool: &Tool, case: &Case, question: Bare, x: Context, y: Context, e: Even
             let second = clause(&case.policy, one.field("clause").text(), *acting, *on, e);
             results.claim(second.is_none_or(|second| second == holds), || format!("{name}: {one:?}"));
         }
+    }
+    if question == Bare::Authorized && e == TRANSITION && x.r != y.r && only_fails(ways[0].0, "transition") {
+        results.meet(STOPPED_ROLE);
     }
     if wanted {
         let holding = ways

@@ -2,10 +2,10 @@
 //! proved library says so, of the policies that are made for it.
 use crate::cases::{event, numbers};
 use crate::json::Value;
-use crate::tool::Results;
+use crate::tool::{Results, CHANGED_ROLE, EQUAL_ROLES};
 use flowgoal_calls::{bare, Answer, Bare};
 use second_search::gen::renumber;
-use second_search::policy::{Context, Event, Policy, Record};
+use second_search::policy::{Context, Event, Policy, Record, TRANSITION};
 use std::collections::BTreeSet;
 
 /// What is explained: that an event is authorized or makes flow.
@@ -61,6 +61,31 @@ impl Explained<'_> {
         for clause in CLAUSES.into_iter().chain(["transition"]).filter(|clause| !self.by_rule(clause)) {
             self.without(clause, results);
         }
+        for clauses in &self.ways {
+            self.by_role_rule(clauses, results);
+        }
+    }
+
+    /// A transition between different roles has records of kind 7, one between equal roles none, whatever kind 7 says; of another event there
+    /// is no such clause.
+    fn by_role_rule(&self, clauses: &[Value], results: &mut Results) {
+        let equal = self.x.r == self.y.r;
+        let of_rule: Vec<&Value> = clauses.iter().filter(|one| one.field("clause").text() == "transition").collect();
+        let right = match of_rule[..] {
+            [] => self.e != TRANSITION,
+            [one] => self.e == TRANSITION && named(one).is_empty() == equal,
+            _ => false,
+        };
+        results.claim(right, || format!("{}: the role rule is told as {of_rule:?}", self.name));
+        if self.e == TRANSITION {
+            let said_of_it =
+                self.policy.records.iter().any(|record| record.kind == 7 && record.a == record.b && record.a as u32 == self.x.r);
+            match equal {
+                true if !said_of_it => results.meet(EQUAL_ROLES),
+                true => (),
+                false => results.meet(CHANGED_ROLE),
+            }
+        }
     }
 
     /// Without the records of a clause, in each way, it is gone.
@@ -69,7 +94,7 @@ impl Explained<'_> {
             clauses.iter().filter(|one| one.field("clause").text() == clause).flat_map(named).collect::<BTreeSet<_>>()
         };
         let of_ways: Vec<BTreeSet<usize>> = self.ways.iter().map(of_way).collect();
-        // no clause of the question, or one that a rule gives in some way, as the role rule does where the role stays what it is
+        // no clause of the question, or one that a rule gives in some way: of the role rule by_role_rule says whether that is right
         if of_ways.iter().any(BTreeSet::is_empty) {
             let by_records = ["domain", "class", "allow"].contains(&clause) || clause == "flow" && self.question == Bare::Flows;
             results.claim(!by_records, || format!("{}: no records are named for the clause {clause}", self.name));

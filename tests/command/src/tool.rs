@@ -1,5 +1,6 @@
 //! The command that is tested, what it says, and what is counted.
 use crate::json::{self, Value};
+use std::collections::BTreeMap;
 use std::path::PathBuf;
 use std::process::Command;
 
@@ -22,7 +23,21 @@ pub struct Ran {
 pub struct Results {
     pub passed: usize,
     pub failed: usize,
+    /// What the cases must meet, and how often they did.
+    met: BTreeMap<&'static str, usize>,
 }
+
+/// What must be met at least so often, so that something is said of it.
+const ENOUGH: usize = 20;
+pub const HOLDS: &str = "holds";
+pub const ORDER: &str = "order";
+pub const EVENTS: &str = "events";
+pub const YES: &str = "yes";
+pub const NO: &str = "no";
+pub const EQUAL_ROLES: &str = "a transition between equal roles, of which kind 7 says nothing";
+pub const CHANGED_ROLE: &str = "a transition between different roles, by a record of kind 7";
+pub const STOPPED_ROLE: &str = "a transition between different roles that kind 7 alone stops";
+const WANTED: [&str; 8] = [HOLDS, ORDER, EVENTS, YES, NO, EQUAL_ROLES, CHANGED_ROLE, STOPPED_ROLE];
 
 impl Results {
     pub fn claim(&mut self, holds: bool, what: impl Fn() -> String) {
@@ -31,6 +46,19 @@ impl Results {
         } else {
             self.failed += 1;
             println!("FAILED: {}", what());
+        }
+    }
+
+    pub fn meet(&mut self, what: &'static str) {
+        *self.met.entry(what).or_default() += 1;
+    }
+
+    /// Says how often each thing was met, which must be often enough.
+    pub fn met_enough(&mut self) {
+        for what in WANTED {
+            let times = self.met.get(what).copied().unwrap_or(0);
+            println!("  met {times} times: {what}");
+            self.claim(times >= ENOUGH, || format!("too few cases have {what}"));
         }
     }
 }

@@ -2,12 +2,14 @@
 //! of other hands comes to as well.
 use crate::cases::{cases, landed, numbers, Case};
 use crate::json::Value;
+use crate::places;
 use crate::records::Explained;
-use crate::tool::{words, Results, Tool};
+use crate::tool::{words, Results, Tool, EVENTS, HOLDS, ORDER};
 use flowgoal_calls::Bare;
 use second_search::answer::{goal_question_landed, Answer};
 use second_search::goal::{Goal, GAMMA_E, SIGMA_E};
 use second_search::layers::flow_edges;
+use second_search::paths::Path;
 use second_search::policy::{Context, Event};
 use std::collections::{BTreeMap, BTreeSet};
 
@@ -15,23 +17,15 @@ use std::collections::{BTreeMap, BTreeSet};
 const STEPS: usize = 5;
 
 pub fn test(tool: &Tool, results: &mut Results) {
-    let mut met: BTreeMap<String, usize> = BTreeMap::new();
     for case in cases(500) {
         tool.write("policy.img", &case.policy.encode());
         tool.write("goal.img", &case.goal.encode());
         let name = format!("case {}", case.number);
         match tool.json(&["check", "policy.img", "goal.img", "--json"]) {
-            Ok((ran, said)) => {
-                *met.entry(said.field("answer").text().to_string()).or_default() += 1;
-                checked(&case, &name, ran.status, &said, results);
-            }
+            Ok((ran, said)) => checked(&case, &name, ran.status, &said, results),
             Err(why) => results.claim(false, || format!("{name}: check --json: {why}")),
         }
         steps(tool, &case, &name, results);
-    }
-    println!("  walked: {met:?}");
-    for answer in ["holds", "order", "events"] {
-        results.claim(met.get(answer).is_some_and(|&count| count >= 20), || format!("too few cases with the answer {answer}"));
     }
 }
 
@@ -67,10 +61,39 @@ fn checked(case: &Case, name: &str, status: i32, said: &Value, results: &mut Res
     };
     results.claim(status == of_answer, || format!("{name}: status {status} for {wanted}"));
     match second {
-        Answer::Holds => grounded(case, name, said.field("ground"), results),
-        Answer::Broken(..) => walked(case, name, said, results),
+        Answer::Holds => {
+            results.meet(HOLDS);
+            grounded(case, name, said.field("ground"), results);
+        }
+        Answer::Broken(..) => {
+            results.meet(if wanted.starts_with(ORDER) { ORDER } else { EVENTS });
+            walked(case, name, said, results);
+            broken(case, name, said, results);
+        }
         Answer::Refused(..) => (),
     }
+}
+
+/// Where the path breaks the goal, and why, by what paper 01 says of the places where legs begin.
+fn broken(case: &Case, name: &str, said: &Value, results: &mut Results) {
+    let goal = &case.goal;
+    let lines: Vec<&str> = said.field("lines").list().iter().skip(1).map(Value::text).collect();
+    let path = Path::from_entries(&Path::parse_lines(&lines).unwrap_or_default());
+    let open: Vec<Vec<usize>> = (0..path.xs.len()).map(|at| places::open(goal, &path, at)).collect();
+    let listed: Vec<Vec<usize>> =
+        said.field("open_legs").list().iter().map(|legs| legs.list().iter().filter_map(Value::number).collect()).collect();
+    results.claim(listed == open, || format!("{name}: the open legs are {listed:?}, and should be {open:?}"));
+    let breaks = said.field("breaks");
+    let (what, at, words) = (breaks.field("what").text(), breaks.field("at").number(), breaks.field("words").text());
+    let (place, wanted) = match what {
+        "order" => places::out_of_order(goal, &path),
+        _ => places::off_the_legs(goal, &path, &open),
+    };
+    results.claim(at == Some(place), || format!("{name}: the path breaks {what} at {at:?}, and should at {place}"));
+    results.claim(said.field("answer").text() == what, || format!("{name}: {what} is broken, and the answer is another"));
+    results.claim(!wanted.is_empty() && wanted.iter().all(|one| words.contains(one)), || {
+        format!("{name}: {words:?} lacks some of {wanted:?}")
+    });
 }
 
 /// Contexts that are come to from some by steps.

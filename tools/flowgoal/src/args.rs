@@ -34,6 +34,7 @@ impl Args {
                 _ if usage.flags.contains(&word.as_str()) => args.flags.push(word.clone()),
                 _ if usage.values.contains(&name) => {
                     let value = value.map(str::to_string).or_else(|| rest.next().cloned());
+                    let value = value.filter(|value| !value.is_empty());
                     let value = value.ok_or_else(|| args.wrong(format!("{name} is followed by a file")))?;
                     if args.value(name).is_some() {
                         return Err(args.wrong(format!("{name} is given twice")));
@@ -75,7 +76,8 @@ impl Args {
 
     /// The next word, which is the file of something.
     pub fn file(&mut self, what: &str) -> Run<String> {
-        self.words.pop_front().ok_or_else(|| self.wrong(format!("{what} is missing")))
+        let word = self.words.pop_front().filter(|word| !word.is_empty());
+        word.ok_or_else(|| self.wrong(format!("{what} is missing")))
     }
 
     /// No word is left.

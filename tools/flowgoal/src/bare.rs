@@ -72,20 +72,25 @@ fn ask(mut args: Args, question: Bare) -> Run<End> {
     if let Answer::Refused(_) = answer {
         return Refusal::out_of_range("flowgoal_authorized", &policy, &names, &[x, y], Some(e)).print(form);
     }
-    let reading = Reading::new(&policy, &names);
-    let Said { yes, why, json } = match question {
-        Bare::Authorized => authorization(&reading, x, y, e),
-        Bare::Flows => flow(&reading, x, y, e),
-    };
-    if (answer == Answer::Yes) != yes {
-        return Err(bug(format!("the library says {answer}, and the records say {}", if yes { "yes" } else { "no" })));
-    }
+    let explained = || held(&Reading::new(&policy, &names), question, answer, x, y, e);
     output::print(&match form {
         Form::Plain => format!("{answer}\n"),
-        Form::Explained => format!("{answer}\n\n{why}"),
-        Form::Json => format!("{}\n", Json::Object(vec![("answer", text(answer)), json])),
+        Form::Explained => format!("{answer}\n\n{}", explained()?.why),
+        Form::Json => format!("{}\n", Json::Object(vec![("answer", text(answer)), explained()?.json])),
     })?;
-    Ok(if yes { End::Yes } else { End::No })
+    Ok(if answer == Answer::Yes { End::Yes } else { End::No })
+}
+
+/// What the records say, which must be the library's answer.
+fn held(reading: &Reading, question: Bare, answer: Answer, x: Context, y: Context, e: Event) -> Run<Said> {
+    let said = match question {
+        Bare::Authorized => authorization(reading, x, y, e),
+        Bare::Flows => flow(reading, x, y, e),
+    };
+    match (answer == Answer::Yes) == said.yes {
+        true => Ok(said),
+        false => Err(bug(format!("the library says {answer}, and the records say {}", if said.yes { "yes" } else { "no" }))),
+    }
 }
 
 /// What the records say to a question.
@@ -95,16 +100,17 @@ struct Said {
     json: (&'static str, Json),
 }
 
-/// Clauses a line each, with their records below.
+/// Clauses a line each, with their records below. What is the same of both contexts is said once.
 fn clauses<'a>(reading: &Reading, clauses: impl Iterator<Item = &'a Clause>, indent: &str) -> String {
-    let mut said = String::new();
+    let mut blocks: Vec<String> = Vec::new();
     for clause in clauses {
-        said += &format!("{indent}{}\n", clause.words);
-        for &k in &clause.records {
-            said += &format!("{indent}  record {k}: {}\n", reading.line(k));
+        let record = |&k: &usize| format!("{indent}  record {k}: {}\n", reading.line(k));
+        let block = format!("{indent}{}\n{}", clause.words, clause.records.iter().map(record).collect::<String>());
+        if !blocks.contains(&block) {
+            blocks.push(block);
         }
     }
-    said
+    blocks.concat()
 }
 
 /// All clauses of what is authorized, and those that fail of what is not.

@@ -37,6 +37,8 @@ pub struct Checked<'a> {
     pub reading: &'a Reading<'a>,
     pub goal: &'a Goal,
     pub outcome: Outcome,
+    /// what the goal program prints
+    pub lines: String,
     pub ground: Found,
 }
 
@@ -76,19 +78,26 @@ pub fn run(mut args: Args) -> Run<End> {
         let subject = refused(&policy_image, &goal_image, policy_file, goal_file)?;
         return Refusal::of("flowgoal_check", k, subject).print(form);
     }
-    let policy = library::policy(&policy_image)?;
-    let goal = library::goal(&goal_image, &policy)?;
     let (outcome, path) = library::check(&policy_image, &goal_image)?;
-    let reading = Reading::new(&policy, &names);
-    let ground = match path {
-        None => Found::Nothing(ground::of(&reading, &policy_image, &goal)?),
-        Some(path) => found_path(&reading, &policy_image, &goal, outcome, path)?,
-    };
-    let checked = Checked { reading: &reading, goal: &goal, outcome, ground };
-    if let Some(file) = args.value("--dot") {
-        output::write(file, dot::picture(&checked).as_bytes(), args.flag("--overwrite"))?;
+    let lines = report::lines(outcome, path.as_ref());
+    let picture = args.value("--dot");
+    if form == Form::Plain && picture.is_none() {
+        // the library's answer and nothing of the tool's own
+        output::print(&lines)?;
+    } else {
+        let policy = library::policy(&policy_image)?;
+        let goal = library::goal(&goal_image, &policy)?;
+        let reading = Reading::new(&policy, &names);
+        let ground = match path {
+            None => Found::Nothing(ground::of(&reading, &policy_image, &goal)?),
+            Some(path) => found_path(&reading, &policy_image, &goal, outcome, path)?,
+        };
+        let checked = Checked { reading: &reading, goal: &goal, outcome, lines, ground };
+        if let Some(file) = picture {
+            output::write(file, dot::picture(&checked).as_bytes(), args.flag("--overwrite"))?;
+        }
+        output::print(&report::checked(&checked, form))?;
     }
-    output::print(&report::checked(&checked, form))?;
     Ok(if outcome == Outcome::Holds { End::Yes } else { End::No })
 }
 

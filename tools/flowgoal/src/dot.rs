@@ -18,7 +18,8 @@ pub fn picture(checked: &Checked) -> String {
             format!("{}: {}", checked.outcome, broken.words(checked.goal, path, checked.reading.names))
         }
     };
-    let mut said = format!("digraph flowgoal {{\n  label={};\n  labelloc=t;\n  rankdir=LR;\n", quoted(&title));
+    let mut said =
+        format!("digraph flowgoal {{\n  label={};\n  labelloc=t;\n  rankdir=LR;\n  fontname=\"Helvetica\";\n", quoted(&title));
     said += "  node [shape=box, fontname=\"Helvetica\"];\n  edge [fontname=\"Helvetica\"];\n";
     said += &legs(checked);
     if let Found::Path { path, steps, broken, .. } = &checked.ground {

@@ -1,26 +1,95 @@
-//! The expression of a constraint: whether it is true of two contexts, and in words.
+//! The expression of a constraint: of which contexts it is true, and in words.
 use crate::names::{Names, Sort};
 use second_search::policy::{Context, Policy, Record};
+use std::ops::{BitAnd, BitOr, Not};
+
+/// Some contexts of one type: by role, a bit for each user.
+#[derive(Clone, Copy, PartialEq, Eq, Debug)]
+pub struct OfType([u16; 16]);
+
+impl OfType {
+    pub const NONE: OfType = OfType([0; 16]);
+    pub const ALL: OfType = OfType([!0; 16]);
+
+    fn all_if(yes: bool) -> OfType {
+        if yes {
+            OfType::ALL
+        } else {
+            OfType::NONE
+        }
+    }
+
+    pub fn role(r: u32) -> OfType {
+        let mut some = OfType::NONE;
+        some.0[r as usize] = !0;
+        some
+    }
+
+    fn user(u: u32) -> OfType {
+        OfType([1 << u; 16])
+    }
+
+    /// Is it one of them? Its type is not asked.
+    pub fn has(self, x: Context) -> bool {
+        self.0[x.r as usize] >> x.u & 1 == 1
+    }
+}
+
+impl BitAnd for OfType {
+    type Output = OfType;
+    fn bitand(self, other: OfType) -> OfType {
+        OfType(std::array::from_fn(|r| self.0[r] & other.0[r]))
+    }
+}
+
+impl BitOr for OfType {
+    type Output = OfType;
+    fn bitor(self, other: OfType) -> OfType {
+        OfType(std::array::from_fn(|r| self.0[r] | other.0[r]))
+    }
+}
+
+impl Not for OfType {
+    type Output = OfType;
+    fn not(self) -> OfType {
+        OfType(self.0.map(|users| !users))
+    }
+}
+
+/// A context, whether it acts, and the type of those on the other side.
+#[derive(Clone, Copy)]
+pub struct Sides {
+    pub one: Context,
+    pub acts: bool,
+    pub other: u32,
+}
+
+/// The contexts on the other side of which the node is true. A policy has many contexts of a type: they are asked about all at once.
+pub fn others(policy: &Policy, node: usize, sides: Sides) -> OfType {
+    let record = &policy.records[node - 1];
+    let Sides { one, acts, other } = sides;
+    let b = record.b as u32;
+    let of = |child: usize| others(policy, child, sides);
+    // operators 7, 9 and 11 speak of the context that acts, 8, 10 and 12 of the one that is acted on
+    let of_one = (record.a % 2 == 1) == acts;
+    match record.a {
+        1 => !of(record.left()),
+        2 => of(record.left()) & of(record.right()),
+        3 => of(record.left()) | of(record.right()),
+        4 => OfType::all_if(one.t == other),
+        5 => OfType::role(one.r),
+        6 => OfType::user(one.u),
+        7 | 8 => OfType::all_if(b == if of_one { one.t } else { other }),
+        9 | 10 if of_one => OfType::all_if(one.r == b),
+        9 | 10 => OfType::role(b),
+        _ if of_one => OfType::all_if(one.u == b),
+        _ => OfType::user(b),
+    }
+}
 
 /// Is the node true, where x acts on y?
 pub fn truth(policy: &Policy, node: usize, x: Context, y: Context) -> bool {
-    let record = &policy.records[node - 1];
-    let b = record.b as u32;
-    let of = |child: usize| truth(policy, child, x, y);
-    match record.a {
-        1 => !of(record.left()),
-        2 => of(record.left()) && of(record.right()),
-        3 => of(record.left()) || of(record.right()),
-        4 => x.t == y.t,
-        5 => x.r == y.r,
-        6 => x.u == y.u,
-        7 => x.t == b,
-        8 => y.t == b,
-        9 => x.r == b,
-        10 => y.r == b,
-        11 => x.u == b,
-        _ => y.u == b,
-    }
+    others(policy, node, Sides { one: x, acts: true, other: y.t }).has(y)
 }
 
 /// An expression of more nodes than these is not written out.

@@ -29,6 +29,7 @@ mod writing;
 
 use args::{Args, Usage};
 use ending::{unasked, End, Run};
+use std::ffi::OsString;
 
 /// A subcommand: its words, what it does in a line, and what runs it.
 struct Subcommand {
@@ -67,6 +68,11 @@ fn run(words: &[String]) -> Run<End> {
     let Some((name, rest)) = words.split_first() else {
         return Err(unasked("no subcommand is given: ./flowgoal --help lists them"));
     };
+    // `help check` is `check --help`
+    let (name, helps) = match rest.first() {
+        Some(of) if name == "help" => (of, true),
+        _ => (name, rest.iter().any(is_help)),
+    };
     if is_help(name) || name == "help" {
         output::print(&help())?;
         return Ok(End::Yes);
@@ -74,17 +80,21 @@ fn run(words: &[String]) -> Run<End> {
     let Some(Subcommand { usage, run, .. }) = SUBCOMMANDS.iter().find(|one| one.usage.name == name) else {
         return Err(unasked(format!("there is no subcommand {name:?}: ./flowgoal --help lists them")));
     };
-    if rest.iter().any(is_help) {
+    if helps {
         output::print(&format!("./flowgoal {} {}\n\n{}\n", usage.name, usage.words, usage.help))?;
         return Ok(End::Yes);
     }
     run(Args::new(usage, rest)?)
 }
 
+/// The words of the command line.
+fn words() -> Run<Vec<String>> {
+    let text = |word: OsString| word.into_string().map_err(|word| unasked(format!("{word:?} is no text (UTF-8)")));
+    std::env::args_os().skip(1).map(text).collect()
+}
+
 fn main() {
-    // a file's name may be no text; it is shown as well as it can be, and then not found
-    let words: Vec<String> = std::env::args_os().skip(1).map(|word| word.to_string_lossy().into_owned()).collect();
-    let end = run(&words).unwrap_or_else(|fault| {
+    let end = words().and_then(|words| run(&words)).unwrap_or_else(|fault| {
         output::note(&fault.why);
         fault.end
     });

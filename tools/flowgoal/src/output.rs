@@ -17,9 +17,10 @@ fn print_bytes(bytes: &[u8]) -> Run<()> {
     }
 }
 
-/// Says a line beside the answer; where nobody can hear it, it is lost.
+/// Says a line beside the answer, and one alone, whatever a file is named; where nobody can hear it, it is lost.
 pub fn note(line: &str) {
-    let _ = writeln!(io::stderr(), "flowgoal: {line}");
+    let one = |c: char| if c.is_control() { c.escape_default().to_string() } else { c.to_string() };
+    let _ = writeln!(io::stderr(), "flowgoal: {}", line.chars().map(one).collect::<String>());
 }
 
 /// Writes a file, an existing one only where that was asked for.

@@ -1,5 +1,5 @@
 //! The tool's own reading of a policy: each clause of paper 01's "Authorization and flow" with the records that give it. What it says
-//! is held to the library's answer wherever it is shown (`held.rs`).
+//! is held to the library's answer wherever it is shown.
 use crate::expression;
 use crate::names::{Names, Sort};
 use crate::text;
@@ -167,24 +167,24 @@ impl<'a> Reading<'a> {
         self.constraints_on(e).into_iter().map(clause).collect()
     }
 
-    /// The role rule, of process transition alone (D18). Since request f of paper 02 it is asked where the role changes: a transition
-    /// that leaves the role as it is needs no record.
-    pub fn role_rule(&self, x: Context, y: Context, e: Event) -> RoleRule {
+    /// The role rule, where a context of the first role acts on one of the second (D18): process transition asks for a record of kind 7,
+    /// unless the role stays what it is (request f of paper 02).
+    pub fn role_rule(&self, r1: u32, r2: u32, e: Event) -> RoleRule {
         match e == TRANSITION {
             false => RoleRule::NotAsked,
-            true if self.policy.landed.has('f') && x.r == y.r => RoleRule::Unchanged,
-            true => RoleRule::Changes(self.pairs(7, x.r, y.r)),
+            true if r1 == r2 => RoleRule::Unchanged,
+            true => RoleRule::Changes(self.pairs(7, r1, r2)),
         }
     }
 
     fn role_clause(&self, x: Context, y: Context, e: Event) -> Option<Clause> {
-        let rule = self.role_rule(x, y, e);
+        let rule = self.role_rule(x.r, y.r, e);
         let (holds, before, after) = (rule.holds(), self.names.long(Sort::Role, x.r), self.names.long(Sort::Role, y.r));
         let (records, words) = match rule {
             RoleRule::NotAsked => return None,
             RoleRule::Unchanged => (vec![], format!("{before} stays what it is, which needs no record")),
             RoleRule::Changes(records) if holds => (records, format!("{before} may change to {after}")),
-            RoleRule::Changes(records) => (records, format!("{before} may not change to {after}")),
+            RoleRule::Changes(records) => (records, format!("no trans record lets {before} change to {after}")),
         };
         Some(Clause { name: "transition", holds, records, words })
     }

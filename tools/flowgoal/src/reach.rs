@@ -1,10 +1,10 @@
 //! A plain search over contexts: which are reached from some, and which lead to some. It knows no legs and shows no path; it is there to
 //! say what an all-clear rests on.
-use crate::expression;
+use crate::expression::{self, OfType, Sides};
 use crate::policy::Reading;
 use second_search::goal::Goal;
 use second_search::policy::{Context, Event, Policy, TRANSITION};
-use std::collections::{HashMap, HashSet};
+use std::collections::{BTreeMap, HashSet};
 
 /// What flows from one type to another by a class, as far as types say: permissions, and who acts.
 struct Link {
@@ -15,15 +15,23 @@ struct Link {
     writes: bool,
 }
 
+/// Permissions of a class that more is asked of than types, ρ and μ, of all of them the same.
+struct Asked {
+    mask: u32,
+    /// the role rule
+    transition: bool,
+    /// the roots of their constraints
+    roots: Vec<usize>,
+}
+
 /// The contexts of a policy that meet ρ and μ, and what flows between their types.
 pub struct Graph<'a> {
     policy: &'a Policy,
-    reading: &'a Reading<'a>,
     links: Vec<Link>,
-    /// By class: permissions that more is asked of than types, ρ and μ.
-    special: Vec<u32>,
-    /// By class and permission, where there are some: the roots of the constraints on it.
-    constraints: HashMap<Event, Vec<usize>>,
+    /// By class.
+    asked: Vec<Vec<Asked>>,
+    /// By the role that acts: the roles that a transition leads to.
+    changes: Vec<Vec<bool>>,
     pub valid: Vec<Context>,
 }
 
@@ -64,20 +72,14 @@ fn masks(policy: &Policy, kind: u8, is: impl Fn(u16) -> bool) -> Vec<u32> {
 impl<'a> Graph<'a> {
     pub fn new(reading: &'a Reading<'a>) -> Graph<'a> {
         let policy = reading.policy;
-        let gamma = masks(policy, 2, |_| true);
-        let (write, read) = (masks(policy, 3, |b| b != 2), masks(policy, 3, |b| b != 1));
-        let mut special = masks(policy, 8, |_| true);
-        special[TRANSITION.c as usize] |= 1 << TRANSITION.p;
-        let mut links = Vec::new();
-        for allow in policy.records.iter().filter(|record| record.kind == 4) {
-            let (source, class) = (allow.a as u32, allow.c as u32);
-            let target = if allow.b == 0 { source } else { allow.b as u32 };
-            let given = allow.mask & gamma[class as usize];
-            links.push(Link { from: source, to: target, class, mask: given & write[class as usize], writes: true });
-            links.push(Link { from: target, to: source, class, mask: given & read[class as usize], writes: false });
+        let changes = |r1: u32| (0..=policy.roles).map(|r2| reading.role_rule(r1, r2, TRANSITION).holds()).collect();
+        Graph {
+            policy,
+            links: links(policy),
+            asked: (0..=policy.classes).map(|c| asked(reading, c)).collect(),
+            changes: (0..=policy.roles).map(changes).collect(),
+            valid: reading.valid(),
         }
-        links.retain(|link| link.mask != 0);
-        Graph { policy, reading, links, special, constraints: constraints(reading), valid: reading.valid() }
     }
 
     /// The contexts that are come to from some, which are among them where they meet ρ and μ.
@@ -96,15 +98,17 @@ impl<'a> Graph<'a> {
                 continue;
             }
             for link in &links[x.t as usize] {
-                let other = if direction == Direction::Forward { link.to } else { link.from };
-                let (new, old) = left[other as usize].drain(..).partition(|&y| match direction {
-                    Direction::Forward => self.flows(link, x, y),
-                    Direction::Backward => !bounds.stop(y) && self.flows(link, y, x),
-                });
-                left[other as usize] = old;
-                let new: Vec<Context> = new;
+                let sides = link.sides(direction, x);
+                let left = &mut left[sides.other as usize];
+                if left.is_empty() {
+                    continue;
+                }
+                let across = self.across(link, sides);
+                let comes = |y: &Context| across.has(*y) && (direction == Direction::Forward || !bounds.stop(*y));
+                let (new, old): (Vec<Context>, Vec<Context>) = left.drain(..).partition(comes);
+                *left = old;
                 met.extend(&new);
-                queue.extend(&new);
+                queue.extend(new);
             }
         }
         met
@@ -124,22 +128,70 @@ impl<'a> Graph<'a> {
         by_type
     }
 
-    /// Does one of the permissions of a link flow between two contexts of its types, which both meet ρ and μ?
-    fn flows(&self, link: &Link, from: Context, to: Context) -> bool {
-        let special = self.special[link.class as usize];
-        let (x, y) = if link.writes { (from, to) } else { (to, from) };
-        let is_true = |p: u32| {
-            let e = Event { c: link.class, p };
-            let roots = self.constraints.get(&e).map_or(&[][..], Vec::as_slice);
-            self.reading.role_rule(x, y, e).holds() && roots.iter().all(|&root| expression::truth(self.policy, root, x, y))
+    /// The contexts on the other side of a link with which one of its permissions flows, all of them meeting ρ and μ.
+    fn across(&self, link: &Link, sides: Sides) -> OfType {
+        let asked = &self.asked[link.class as usize];
+        let special = asked.iter().fold(0, |mask, one| mask | one.mask);
+        if link.mask & !special != 0 {
+            return OfType::ALL;
+        }
+        let some = asked.iter().filter(|one| one.mask & link.mask != 0);
+        some.fold(OfType::NONE, |met, one| met | self.meeting(one, sides))
+    }
+
+    /// Those that meet what is asked.
+    fn meeting(&self, asked: &Asked, sides: Sides) -> OfType {
+        let by_role = if asked.transition { self.by_role_rule(sides) } else { OfType::ALL };
+        asked.roots.iter().fold(by_role, |met, &root| met & expression::others(self.policy, root, sides))
+    }
+
+    fn by_role_rule(&self, Sides { one, acts, .. }: Sides) -> OfType {
+        let may = |r: &u32| match acts {
+            true => self.changes[one.r as usize][*r as usize],
+            false => self.changes[*r as usize][one.r as usize],
         };
-        link.mask & !special != 0 || (0..32).any(|p| link.mask >> p & 1 == 1 && is_true(p))
+        (1..=self.policy.roles).filter(may).fold(OfType::NONE, |met, r| met | OfType::role(r))
     }
 }
 
-fn constraints(reading: &Reading) -> HashMap<Event, Vec<usize>> {
+impl Link {
+    /// A context at one end, and the type at the other.
+    fn sides(&self, direction: Direction, one: Context) -> Sides {
+        match direction {
+            Direction::Forward => Sides { one, acts: self.writes, other: self.to },
+            Direction::Backward => Sides { one, acts: !self.writes, other: self.from },
+        }
+    }
+}
+
+/// What the allow records give, permissions outside Γ and those that make no flow left out.
+fn links(policy: &Policy) -> Vec<Link> {
+    let gamma = masks(policy, 2, |_| true);
+    let (write, read) = (masks(policy, 3, |b| b != 2), masks(policy, 3, |b| b != 1));
+    let mut given: BTreeMap<(u32, u32, u32, bool), u32> = BTreeMap::new();
+    for allow in policy.records.iter().filter(|record| record.kind == 4) {
+        let (source, class) = (allow.a as u32, allow.c as u32);
+        let target = if allow.b == 0 { source } else { allow.b as u32 };
+        let mask = allow.mask & gamma[class as usize];
+        *given.entry((source, target, class, true)).or_default() |= mask & write[class as usize];
+        *given.entry((target, source, class, false)).or_default() |= mask & read[class as usize];
+    }
+    let link = |((from, to, class, writes), mask)| Link { from, to, class, mask, writes };
+    given.into_iter().map(link).filter(|link| link.mask != 0).collect()
+}
+
+/// The permissions of a class that more is asked of, those of which the same is asked together.
+fn asked(reading: &Reading, class: u32) -> Vec<Asked> {
     let root = |k: usize| reading.policy.records[k - 1].root();
-    let roots = |e: Event| reading.constraints_on(e).into_iter().map(root).collect::<Vec<_>>();
-    let all = reading.policy.events().into_iter().map(|e| (e, roots(e)));
-    all.filter(|(_, roots)| !roots.is_empty()).collect()
+    let mut all: Vec<Asked> = Vec::new();
+    for p in 0..32 {
+        let e = Event { c: class, p };
+        let (transition, roots) = (e == TRANSITION, reading.constraints_on(e).into_iter().map(root).collect::<Vec<_>>());
+        match all.iter_mut().find(|one| one.transition == transition && one.roots == roots) {
+            Some(one) => one.mask |= 1 << p,
+            None if transition || !roots.is_empty() => all.push(Asked { mask: 1 << p, transition, roots }),
+            None => (),
+        }
+    }
+    all
 }

@@ -2,12 +2,13 @@
 use crate::check::{Checked, Form, Found};
 use crate::ground::Ground;
 use crate::json::{list, number, text, Json};
+use crate::names::Sort;
 use crate::policy::{Clause, Reading, Way};
 use crate::sets::{self, listed};
 use crate::walk::{self, Break, Step};
 use flowgoal_calls::Outcome;
 use second_search::goal::Goal;
-use second_search::paths::{Path, Sort};
+use second_search::paths::{self, Path};
 use second_search::policy::{Context, Event};
 
 /// A line of a block: a word in its own column, and what it says.
@@ -40,9 +41,10 @@ fn event(reading: &Reading, goal: Option<&Goal>, e: Event) -> String {
 /// The records of a way: the allow records, and what else a step hangs on that types do not say.
 fn way(reading: &Reading, way: &Way) -> String {
     let word = if way.name == "write" { "writes" } else { "reads" };
+    let role = |r: u32| reading.names.short(Sort::Role, r);
     let clause = |clause: &Clause| match (clause.name, &clause.records[..]) {
         ("allow", numbers) => records(reading, word, numbers),
-        ("transition", []) => row("role", &clause.words),
+        ("transition", []) => row("role", &format!("{} stays what it is, which needs no record", role(way.acting.r))),
         ("transition", numbers) => records(reading, "role", numbers),
         ("constraint", numbers) => row("under", &format!("record {}: {}", listed(numbers), clause.words)),
         _ => String::new(),
@@ -60,7 +62,7 @@ pub fn step(reading: &Reading, goal: Option<&Goal>, at: usize, step: &Step) -> S
 }
 
 /// The steps of a path that breaks a goal, and where it does.
-fn walked(checked: &Checked, path: &Path, steps: &[Step], broken: &Break, sort: Sort) -> String {
+fn walked(checked: &Checked, path: &Path, steps: &[Step], broken: &Break, sort: paths::Sort) -> String {
     let (reading, goal) = (checked.reading, checked.goal);
     let breaks = row("breaks", &format!("{}: {}", walk::word(sort), broken.words(goal, path, reading.names)));
     let open = walk::open_legs(goal, path);
@@ -71,7 +73,7 @@ fn walked(checked: &Checked, path: &Path, steps: &[Step], broken: &Break, sort: 
     for (j, one) in steps.iter().enumerate() {
         said += &step(reading, Some(goal), j + 1, one);
         // after the break no leg is open
-        if sort == Sort::Events && j < broken.at() {
+        if sort == paths::Sort::Events && j < broken.at() {
             let [before, after] = [j, j + 1].map(|at| walk::open_words(&open[at], goal.n));
             said += &row("legs", &format!("open before it: {before}; after it: {after}"));
         }
@@ -91,36 +93,33 @@ fn grounded(ground: &Ground, last: usize) -> String {
     let Ground { contexts, valid, starts, ends, reached, leading, both, warnings } = ground;
     let mut said = format!("{} of {} ρ and μ; ", valid, count(*contexts, "context meets", "contexts meet"));
     said += &format!("of these {} in σ0 and {ends} in σ{last}\n", count(*starts, "is", "are"));
-    said += &format!(
-        "{} from σ0 and {leading} lead to σ{last}, with no exception met before; ",
-        count(*reached, "is reached", "are reached")
-    );
-    said += &format!("{both} do both\n");
+    let reached = count(*reached, "is reached", "are reached");
+    let leading = count(*leading, "leads", "lead");
+    said += &format!("{reached} from σ0 and {leading} to σ{last}, with no exception met before; ");
+    said += &format!("{} both\n", count(*both, "does", "do"));
     said + &warnings.iter().map(|warning| format!("warning: {warning}\n")).collect::<String>()
 }
 
-fn lines(outcome: Outcome, found: &Found) -> String {
-    match found {
-        Found::Nothing(_) => format!("{outcome}\n"),
-        Found::Path { path, .. } => format!("{outcome}\n{}", path.lines()),
-    }
+/// The lines of the goal program.
+pub fn lines(outcome: Outcome, path: Option<&Path>) -> String {
+    format!("{outcome}\n{}", path.map_or(String::new(), Path::lines))
 }
 
 pub fn checked(checked: &Checked, form: Form) -> String {
-    let lines = lines(checked.outcome, &checked.ground);
+    let lines = &checked.lines;
     match (form, &checked.ground) {
-        (Form::Plain, _) => lines,
-        (Form::Json, _) => format!("{}\n", as_json(checked, &lines)),
+        (Form::Plain, _) => lines.clone(),
+        (Form::Json, _) => format!("{}\n", as_json(checked)),
         (_, Found::Nothing(ground)) => format!("{lines}\n{}", grounded(ground, checked.goal.n)),
         (_, Found::Path { path, steps, broken, sort }) => format!("{lines}\n{}", walked(checked, path, steps, broken, *sort)),
     }
 }
 
-fn as_json(checked: &Checked, lines: &str) -> Json {
+fn as_json(checked: &Checked) -> Json {
     let mut fields = vec![
         ("answer", text(checked.outcome.name())),
         ("steps", Json::Null),
-        ("lines", list(lines.lines(), text)),
+        ("lines", list(checked.lines.lines(), text)),
         ("legs", list(0..checked.goal.n, |leg| text(if checked.goal.repeated(leg) { "repeated" } else { "one step" }))),
     ];
     match &checked.ground {

@@ -56,20 +56,20 @@ fn shown(reading: &Reading, image: &[u8], steps: Steps, ends: [Context; 2], path
     if [path.xs[0], path.xs[path.steps()]] != ends {
         return Err(bug("the library's path does not lead from the one context to the other"));
     }
-    let walked = walk::steps(reading, image, path)?;
+    let walked = || walk::steps(reading, image, path);
     let lines = format!("{steps}\n{}", path.lines());
     let blocks = |(j, step): (usize, &Step)| report::step(reading, None, j + 1, step);
     output::print(&match form {
         Form::Plain => lines,
-        Form::Explained if walked.is_empty() => format!("{lines}\nthe two contexts are one\n"),
-        Form::Explained => format!("{lines}\n{}", walked.iter().enumerate().map(blocks).collect::<String>()),
+        Form::Explained if path.steps() == 0 => format!("{lines}\nthe two contexts are one\n"),
+        Form::Explained => format!("{lines}\n{}", walked()?.iter().enumerate().map(blocks).collect::<String>()),
         Form::Json => {
             let fields = vec![
                 ("answer", text("steps")),
                 ("steps", number(path.steps())),
                 ("lines", list(lines.lines(), text)),
                 ("contexts", list(&path.xs, |&x| report::context_json(reading, None, x))),
-                ("walk", list(&walked, |step| report::step_json(reading, None, step))),
+                ("walk", list(&walked()?, |step| report::step_json(reading, None, step))),
             ];
             format!("{}\n", Json::Object(fields))
         }
@@ -77,8 +77,15 @@ fn shown(reading: &Reading, image: &[u8], steps: Steps, ends: [Context; 2], path
     Ok(End::Yes)
 }
 
-/// That there is no path, which the search of contexts must find too.
-fn none(reading: &Reading, from: Context, to: Context, form: Form) -> Run<End> {
+/// Why there is no path: which of the two contexts fails ρ or μ, or how many are reached from the one and lead to the other.
+struct Lack {
+    failing: Vec<String>,
+    reached: usize,
+    leading: usize,
+}
+
+/// That there is none the search of contexts must find too.
+fn lack(reading: &Reading, from: Context, to: Context) -> Run<Lack> {
     let graph = Graph::new(reading);
     let bounds = Bounds { goal: None, exceptions: false };
     let reached = graph.search(Direction::Forward, &|x| x == from, bounds);
@@ -87,27 +94,38 @@ fn none(reading: &Reading, from: Context, to: Context, form: Form) -> Run<End> {
         return Err(bug("the library says that there is no path, and the search of contexts finds one"));
     }
     let fails = |x: Context| reading.held(x).into_iter().find(|clause| !clause.holds).map(|clause| (x, clause.words));
-    let failing: Vec<String> =
-        [from, to].into_iter().filter_map(fails).map(|(x, why)| format!("{}: {why}", reading.names.context(x))).collect();
+    let said = |(x, why): (Context, String)| format!("{}: {why}", reading.names.context(x));
+    let failing = [from, to].into_iter().filter_map(fails).map(said).collect();
+    Ok(Lack { failing, reached: reached.len(), leading: leading.len() })
+}
+
+fn none(reading: &Reading, from: Context, to: Context, form: Form) -> Run<End> {
     output::print(&match form {
         Form::Plain => "none\n".to_string(),
-        Form::Explained if failing.is_empty() => {
-            let [from, to] = [from, to].map(|x| reading.names.context(x));
-            let counts = format!("{} reached from {from}, {} leading to {to}", reached.len(), leading.len());
-            format!("none\n\nno path leads there; contexts, these two counted: {counts}\n")
-        }
-        Form::Explained => format!("none\n\n{}\n", failing.join("\n")),
+        Form::Explained => format!("none\n\n{}\n", lack(reading, from, to)?.words(reading, from, to)),
         Form::Json => {
+            let Lack { failing, reached, leading } = lack(reading, from, to)?;
             let fields = vec![
                 ("answer", text("none")),
                 ("steps", Json::Null),
                 ("lines", list(["none"], text)),
-                ("reached", number(reached.len())),
-                ("leading", number(leading.len())),
+                ("reached", number(reached)),
+                ("leading", number(leading)),
                 ("failing", list(&failing, text)),
             ];
             format!("{}\n", Json::Object(fields))
         }
     })?;
     Ok(End::No)
+}
+
+impl Lack {
+    fn words(&self, reading: &Reading, from: Context, to: Context) -> String {
+        if !self.failing.is_empty() {
+            return self.failing.join("\n");
+        }
+        let [from, to] = [from, to].map(|x| reading.names.context(x));
+        let counts = format!("{} reached from {from}, {} leading to {to}", self.reached, self.leading);
+        format!("no path leads there; contexts, these two counted: {counts}")
+    }
 }
