@@ -41,7 +41,7 @@ pub fn off_the_legs(goal: &Goal, path: &Path, open: &[Vec<usize>]) -> (usize, Ve
     let why = |&leg: &usize| match (goal.gamma(leg, event), goal.repeated(leg), goal.sigma(leg + 1, to)) {
         (false, ..) => format!("leg {leg} is open, and "),
         (true, false, false) => format!("leg {leg} is one step, and this one does not lead to σ{}", leg + 1),
-        (true, ..) => format!("leg {leg} is open, and the path ends before the last leg"),
+        (true, ..) => format!("leg {leg} is open, and the path ends here, before leg {}, the last, ", goal.n - 1),
     };
     let outside = open[step - 1].iter().filter(|&&leg| !goal.gamma(leg, event)).map(|leg| format!("is not in γ{leg}"));
     (step, open[step - 1].iter().map(why).chain(outside).collect())

@@ -141,7 +141,9 @@ impl Break {
                 let reason = |&(leg, why): &(usize, Reason)| match why {
                     Reason::Event => format!("leg {leg} is open, and {event} is not in γ{leg}"),
                     Reason::Place => format!("leg {leg} is one step, and this one does not lead to σ{}", leg + 1),
-                    Reason::Early => format!("leg {leg} is open, and the path ends before the last leg, leg {}", goal.n - 1),
+                    Reason::Early => {
+                        format!("leg {leg} is open, and the path ends here, before leg {}, the last, has been walked", goal.n - 1)
+                    }
                 };
                 legs.iter().map(reason).collect::<Vec<_>>().join("; ")
             }
