@@ -17,26 +17,29 @@ package_of() {
     case $1 in
     cargo) if apt-cache show cargo-web >/dev/null 2>&1; then echo cargo-web; else echo cargo; fi ;;
     cc) echo gcc ;;
+    dot) echo graphviz ;;
     nm) echo binutils ;;
     *) echo "$1" ;;
     esac
 }
 
-# need TOOL..: sees that each tool is there. One that is missing is installed from Debian's packages where that can be done,
-# and else ends the run: no test is passed over for want of a tool.
+# seek TOOL: is it there? One that is missing is installed from Debian's packages where that can be done.
+seek() {
+    command -v "$1" >/dev/null && return
+    if [ "$(id -u)" -eq 0 ] && command -v apt-get >/dev/null; then
+        echo "installing $1 (Debian package $(package_of "$1")) .."
+        apt-get install -y -q "$(package_of "$1")" >/dev/null 2>&1 ||
+            { apt-get update -q >/dev/null 2>&1 && apt-get install -y -q "$(package_of "$1")" >/dev/null 2>&1; } || :
+    fi
+    command -v "$1" >/dev/null
+}
+
+# need TOOL..: sees that each tool is there, and else ends the run: no test is passed over for want of a tool.
 need() {
     for tool; do
-        command -v "$tool" >/dev/null && continue
-        package=$(package_of "$tool")
-        if [ "$(id -u)" -eq 0 ] && command -v apt-get >/dev/null; then
-            echo "installing $tool (Debian package $package) .."
-            apt-get install -y -q "$package" >/dev/null 2>&1 ||
-                { apt-get update -q >/dev/null 2>&1 && apt-get install -y -q "$(package_of "$tool")" >/dev/null 2>&1; }
-        fi
-        if ! command -v "$tool" >/dev/null; then
-            echo "$0: there is no $tool on the PATH: install it first (Debian package $(package_of "$tool"))" >&2
-            exit 1
-        fi
+        seek "$tool" && continue
+        echo "$0: there is no $tool on the PATH: install it first (Debian package $(package_of "$tool"))" >&2
+        exit 1
     done
 }
 
