@@ -16,7 +16,7 @@ mod steps;
 mod steps_search;
 mod timing;
 
-use sizes::{Goals, Masks, Size};
+use sizes::{Goals, Masks, Order, Says, Size};
 
 const PROGRAM: Size = Size {
     types: 64,
@@ -26,12 +26,45 @@ const PROGRAM: Size = Size {
     allows: 1500,
     legs: 4,
     constraints: 0,
+    says: Says::SameUserOrRole1,
+    nested: 0,
+    crowd: None,
+    order: Order::Made,
     masks: Masks::OneBit,
     goal: Goals::Holds,
 };
 const STATION: Size = Size { types: 255, classes: 8, allows: 3000, legs: 2, ..PROGRAM };
 const SIX_LEGS: Size = Size { legs: 6, ..STATION };
 const LARGEST: Size = Size { roles: 15, users: 15, classes: 31, ..SIX_LEGS };
+
+/// Few domains with many rules, as real policies have them.
+const CROWDED: Size = Size { types: 255, classes: 18, allows: 3000, crowd: Some(10), legs: 2, masks: Masks::Few, order: Order::Random, ..PROGRAM };
+/// Every permission is constrained.
+const CONSTRAINED: Size = Size { allows: 1000, constraints: 4, says: Says::SameUser, nested: 4, masks: Masks::All, ..PROGRAM };
+
+/// The shapes of real policies: few domains, and constraints that let little through.
+fn shapes() -> Vec<(String, Size)> {
+    let few = Size { types: 130, crowd: Some(20), allows: 3750, ..CROWDED };
+    let mut all = Vec::new();
+    for (order, name) in [(Order::Random, "random"), (Order::Sorted, "sorted"), (Order::Reversed, "reversed")] {
+        all.push((format!("crowded, 10 of 255 types, {name}"), Size { order, ..CROWDED }));
+        all.push((format!("crowded, 20 of 130 types, {name}"), Size { order, ..few }));
+    }
+    for (types, size) in [("10 of 255", CROWDED), ("20 of 130", few)] {
+        all.push((format!("crowded, {types} types, two nodes"), Size { goal: Goals::OneNode, ..size }));
+    }
+    let many_users = Size { users: 15, classes: 2, constraints: 2, legs: 2, nested: 10, ..CONSTRAINED };
+    let both = Size { roles: 15, allows: 500, ..many_users };
+    for (says, name) in [(Says::SameUser, "same user"), (Says::SameRole, "same role"), (Says::SameUserOrRole1, "same user or role 1")] {
+        all.push((format!("{name}, 4 nested"), Size { says, ..CONSTRAINED }));
+        all.push((format!("{name}, 400 nested"), Size { says, nested: 400, ..CONSTRAINED }));
+        all.push((format!("{name}, 4 roles, 15 users"), Size { says, ..many_users }));
+        all.push((format!("{name}, 15 roles, 15 users"), Size { says, ..both }));
+        all.push((format!("{name}, station, 300 nested"), Size { says, types: 255, allows: 1500, nested: 300, ..both }));
+    }
+    all.push(("same user, 1,500 nested".to_string(), Size { classes: 1, constraints: 1, nested: 1500, ..both }));
+    all
+}
 
 /// The sizes, from the limit of the goal program to the largest policy and goal, each with masks of one bit and of 32, and what else is to be measured.
 fn cases() -> Vec<(String, Size)> {
@@ -61,6 +94,7 @@ fn cases() -> Vec<(String, Size)> {
         let size = Size { roles, users, types: 128, allows: 1500, ..STATION };
         all.push((format!("growth, {} contexts", size.contexts()), size));
     }
+    all.extend(shapes());
     all
 }
 
