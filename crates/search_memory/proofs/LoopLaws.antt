@@ -39,7 +39,7 @@ use Rattle.search_graph.specs.inner.Blocks.{Asks, Ahead, FirstStep}
 use Rattle.search_graph.proofs.SearchLaws.{enter, take-up, turn-chain, chain-bound, end-turn}
 use Rattle.search_graph.proofs.LevelLaws.{step-on, step-past, few-types, range-at, chain-open, edge-free, edge-flow, swept-to, dropped, enter-below, entered, seen, broken}
 use Rattle.search_memory.specs.declared.turn.Node.{Node}
-use Rattle.search_memory.specs.inner.Opens.{slotOf, openKey, openAt, Opened, PairsTaken}
+use Rattle.search_memory.specs.inner.Opens.{slotOf, openKey, openAt, SlotOpened, PairsTaken}
 use Rattle.search_memory.specs.inner.Memory.{AskerOf, TakenUp, FirstFrom, Remembered, Memory}
 use Rattle.search_memory.proofs.StandLaws.{asks-from}
 use Rattle.search_memory.proofs.MemoryLaws.{passed, edge-like, memory-opened, memory-swept, memory-spent}
@@ -155,7 +155,7 @@ module _ {s plan : List ℕ} {t : Task} {z : Search} {u : ℕ} {v : Node} {o : O
         let w = I .within in
         memory-spent (w .given) (w .memory) (w .stands) (chain-bound (turn-chain (I .turn))) (w .asker) (I .turn) h C R
 
-  pub inner-begin : {opens′ r : List ℕ} → Middle s plan t z u v o → o .step < stepsEnd → Opened (t .counts) plan (z .opens) opens′ (o .step % 4096) (keptOf (v .asker) (eventSetsAt plan (o .step / 4096))) r
+  pub inner-begin : {opens′ r : List ℕ} → Middle s plan t z u v o → o .step < stepsEnd → SlotOpened (t .counts) plan (z .opens) opens′ (o .step % 4096) (keptOf (v .asker) (eventSetsAt plan (o .step / 4096))) r
       → Inner s plan t (sweptTo z (z .swept) opens′) u v o (firstPlace (t .counts) (o .step % 4096))
   inner-begin I h P =
       let w = I .within in

@@ -47,7 +47,7 @@ use Rattle.search_graph.proofs.SearchLaws.{clear-keep, turn-chain}
 use Rattle.search_graph.proofs.ModelLaws.{states-some}
 use Rattle.search_graph.proofs.ArrivalLaws.{by-of}
 use Rattle.search_graph.proofs.LevelLaws.{place-lt, place-le, whole, chain-open, edge-flow, edge-free, edge-freeE, edge-at}
-use Rattle.search_memory.specs.inner.Opens.{slotOf, openKey, openAt, Opened, PairsTaken, pairOf}
+use Rattle.search_memory.specs.inner.Opens.{slotOf, openKey, openAt, SlotOpened, PairsTaken, nodePair}
 use Rattle.search_memory.specs.inner.Memory.{keptBy, Marks, Remembered, AskerOf, Opens, Memory}
 use Rattle.search_memory.proofs.KeptLaws.{kept, step-by-kept}
 use Rattle.search_memory.proofs.StandLaws.{state-small, stands-any, kept-small}
@@ -81,7 +81,7 @@ memory-keep v x z M =
 
 -- a slot is looked up
 pub memory-opened : {s plan : List ℕ} {t : Task} {back swept spent opens opens′ r : List ℕ} {o k : ℕ} → Given s plan t → Within 1 (t .counts .types) o → k < 64
-    → Opened (t .counts) plan opens opens′ o k r → Memory s plan t back swept spent opens → Memory s plan t back swept spent opens′
+    → SlotOpened (t .counts) plan opens opens′ o k r → Memory s plan t back swept spent opens → Memory s plan t back swept spent opens′
 memory-opened A w lk P M =
     record {
       left = opens-opened A w lk (M .left) P;
@@ -234,16 +234,16 @@ module _ {s plan : List ℕ} {t₀ : Task} (A : Given s plan t₀) where
         left : (j : ℕ) → j < 256 → openAt opens′ slot j ≡ (openAt opens slot j && not (inPairs pairs j))
         left j h = P .words (j / 64) (omega arith) .at (j % 64)
 
-        taken-clear : (u′ e w : ℕ) → u′ < G .k → w < G .k → G .Edge u′ e w → openKey (o .step % 4096) kept₀ ≡ openKey (typeOf t₀ w) (keptBy m plan (stateOf K u′) e) → openAt opens′ slot (pairOf t₀ w) ≡ false → Clear G back w
+        taken-clear : (u′ e w : ℕ) → u′ < G .k → w < G .k → G .Edge u′ e w → openKey (o .step % 4096) kept₀ ≡ openKey (typeOf t₀ w) (keptBy m plan (stateOf K u′) e) → openAt opens′ slot (nodePair t₀ w) ≡ false → Clear G back w
         taken-clear u′ e w lu′ lw ed q f =
             ⊎-elim
-            (λ (b : inPairs pairs (pairOf t₀ w) ≡ true).
+            (λ (b : inPairs pairs (nodePair t₀ w) ≡ true).
             target-clear u′ e w lw ed (sym (D .0)) (D .1)
-            (ap (λ (y : Context). flow (policyOf s) (eventOf e₀) x y) (sym (pair-is A lw) ∙ ap (λ (i : ℕ). pairAt n i (pairOf t₀ w)) (sym (D .0))) ∙ flows (pairOf t₀ w) (pair-few A lw) b))
-            (λ (b : inPairs pairs (pairOf t₀ w) ≡ false).
+            (ap (λ (y : Context). flow (policyOf s) (eventOf e₀) x y) (sym (pair-is A lw) ∙ ap (λ (i : ℕ). pairAt n i (nodePair t₀ w)) (sym (D .0))) ∙ flows (nodePair t₀ w) (pair-few A lw) b))
+            (λ (b : inPairs pairs (nodePair t₀ w) ≡ false).
             N .left .clear slot u′ e w few lu′ lw ed (key ∙ q)
-            (sym (and-yes (openAt opens slot (pairOf t₀ w)) (not (inPairs pairs (pairOf t₀ w))) (ap not b)) ∙ sym (left (pairOf t₀ w) (pair-few A lw)) ∙ f))
-            (true-or-false (inPairs pairs (pairOf t₀ w)))
+            (sym (and-yes (openAt opens slot (nodePair t₀ w)) (not (inPairs pairs (nodePair t₀ w))) (ap not b)) ∙ sym (left (nodePair t₀ w) (pair-few A lw)) ∙ f))
+            (true-or-false (inPairs pairs (nodePair t₀ w)))
           where
             few : slot < 1024
             few = omega arith
@@ -264,8 +264,8 @@ module _ {s plan : List ℕ} {t₀ : Task} (A : Given s plan t₀) where
                   (split-eq i slot);
               clear = λ i u′ e w li lu′ lw ed q f.
                   ⊎-elim
-                  (λ (z : i ≡ slot). taken-clear u′ e w lu′ lw ed (sym key ∙ sym (P .key) ∙ ap (λ (v : ℕ). getD opens′ v 0) (sym z) ∙ q) (ap (λ (v : ℕ). openAt opens′ v (pairOf t₀ w)) (sym z) ∙ f))
-                  (λ (d : i ≡ slot → ⊥). let Z = P .others i li d in N .left .clear i u′ e w li lu′ lw ed (sym (Z .key) ∙ q) (sym (same-open (pairOf t₀ w) (pair-few A lw) Z) ∙ f))
+                  (λ (z : i ≡ slot). taken-clear u′ e w lu′ lw ed (sym key ∙ sym (P .key) ∙ ap (λ (v : ℕ). getD opens′ v 0) (sym z) ∙ q) (ap (λ (v : ℕ). openAt opens′ v (nodePair t₀ w)) (sym z) ∙ f))
+                  (λ (d : i ≡ slot → ⊥). let Z = P .others i li d in N .left .clear i u′ e w li lu′ lw ed (sym (Z .key) ∙ q) (sym (same-open (nodePair t₀ w) (pair-few A lw) Z) ∙ f))
                   (split-eq i slot);
             }
 
@@ -281,7 +281,7 @@ module _ {s plan : List ℕ} {t₀ : Task} (A : Given s plan t₀) where
                   ⊎-elim (λ d. N .swept-clear u′ e w lu′ lw ed d)
                   (λ d.
                   taken-clear u′ e w lu′ lw ed (ap₂ openKey (sym (d .0)) (d .2))
-                  (ap (λ (v : ℕ). bit v (pairOf t₀ w % 64)) (P .none (d .1) (pairOf t₀ w / 64) (let h = pair-few A lw in omega arith)) ∙ bit-zero (pairOf t₀ w % 64)))
+                  (ap (λ (v : ℕ). bit v (nodePair t₀ w % 64)) (P .none (d .1) (nodePair t₀ w / 64) (let h = pair-few A lw in omega arith)) ∙ bit-zero (nodePair t₀ w % 64)))
                   (R .only (typeOf t₀ w) (keptBy m plan (stateOf K u′) e) b);
             }
 

@@ -31,7 +31,7 @@ use Rattle.search_graph.specs.inner.Tasks.{statesIn, Given, graphOf, typeOf}
 use Rattle.search_graph.proofs.SearchLaws.{clear-keep}
 use Rattle.search_graph.proofs.ModelLaws.{states-some}
 use Rattle.search_graph.proofs.LevelLaws.{place-lt, edge-flow}
-use Rattle.search_memory.specs.inner.Opens.{openSlots, slotOf, openKey, openWord, openAt, pairHeld, HeldWord, SameSlot, Opened, pairOf}
+use Rattle.search_memory.specs.inner.Opens.{openSlots, slotOf, openKey, openWord, openAt, pairHeld, HeldWord, SameSlot, SlotOpened, nodePair}
 use Rattle.search_memory.specs.inner.Memory.{keptBy, Opens}
 use Rattle.search_memory.proofs.StandLaws.{stands-any, kept-small}
 
@@ -104,13 +104,13 @@ module _ {s plan : List ℕ} {t : Task} (A : Given s plan t) where
   of-node : {w : ℕ} → w < G .k → OfType n (typeOf t w) (placeOf K w)
   of-node lw = own-type (C .countable) (place-lt (states-some t) lw)
 
-  pub pair-in : {w : ℕ} → w < G .k → pairOf t w < pairCount n
+  pub pair-in : {w : ℕ} → w < G .k → nodePair t w < pairCount n
   pair-in lw = of-pair (C .countable) (of-node lw) refl
 
-  pub pair-few : {w : ℕ} → w < G .k → pairOf t w < 256
+  pub pair-few : {w : ℕ} → w < G .k → nodePair t w < 256
   pair-few lw = let a = pair-in lw in omega (arith, pairs-few C)
 
-  pub pair-is : {w : ℕ} → w < G .k → pairAt n (typeOf t w) (pairOf t w) ≡ contextAtIndex n (placeOf K w)
+  pub pair-is : {w : ℕ} → w < G .k → pairAt n (typeOf t w) (nodePair t w) ≡ contextAtIndex n (placeOf K w)
   pair-is lw = of-same (C .countable) (of-node lw) refl
 
   pub type-within : {w : ℕ} → w < G .k → Within 1 (n .types) (typeOf t w)
@@ -122,7 +122,7 @@ module _ {s plan : List ℕ} {t : Task} (A : Given s plan t) where
       flow-held (policyOf s) (eventOf e) (contextAtIndex n (placeOf K u)) (contextAtIndex n (placeOf K w)) (edge-flow A (stands-any A u lu) lw ed) .1
 
   -- ---- a slot is looked up
-  module _ {back old new r : List ℕ} {o k : ℕ} (w : Within 1 (n .types) o) (lk : k < 64) (O : Opens s plan t back old) (P : Opened n plan old new o k r) where
+  module _ {back old new r : List ℕ} {o k : ℕ} (w : Within 1 (n .types) o) (lk : k < 64) (O : Opens s plan t back old) (P : SlotOpened n plan old new o k r) where
     abbrev slot : ℕ
     slot = slotOf (n .types) o k
 
@@ -137,18 +137,18 @@ module _ {s plan : List ℕ} {t : Task} (A : Given s plan t) where
           let l : j < pairCount n = ltb-true j (pairCount n) (and-first (ltb j (pairCount n)) (pairHeld plan o j) c) in
           (l, sym (pair-meets w l) ∙ and-second (ltb j (pairCount n)) (pairHeld plan o j) c)
 
-      fresh-clear : (u e v : ℕ) → u < G .k → v < G .k → G .Edge u e v → typeOf t v ≡ o → openAt new slot (pairOf t v) ≡ true
+      fresh-clear : (u e v : ℕ) → u < G .k → v < G .k → G .Edge u e v → typeOf t v ≡ o → openAt new slot (nodePair t v) ≡ true
       fresh-clear u e v lu lv ed q =
           let l = pair-in lv in
-          let m : meetsρμ (policyOf s) (pairAt n o (pairOf t v)) ≡ true = ap (λ (i : ℕ). meetsρμ (policyOf s) (pairAt n i (pairOf t v))) (sym q) ∙ ap (meetsρμ (policyOf s)) (pair-is lv) ∙ edge-held lu lv ed in
-          fresh (pairOf t v) (pair-few lv) ∙ and-true (ltb (pairOf t v) (pairCount n)) (pairHeld plan o (pairOf t v)) (lt-ltb (pairOf t v) (pairCount n) l) (pair-meets w l ∙ m)
+          let m : meetsρμ (policyOf s) (pairAt n o (nodePair t v)) ≡ true = ap (λ (i : ℕ). meetsρμ (policyOf s) (pairAt n i (nodePair t v))) (sym q) ∙ ap (meetsρμ (policyOf s)) (pair-is lv) ∙ edge-held lu lv ed in
+          fresh (nodePair t v) (pair-few lv) ∙ and-true (ltb (nodePair t v) (pairCount n)) (pairHeld plan o (nodePair t v)) (lt-ltb (nodePair t v) (pairCount n) l) (pair-meets w l ∙ m)
 
     pub opens-opened : Opens s plan t back new
     opens-opened =
         record {
           size = P .size;
           held = λ i o′ k′ j li lk′ lj e b. ⊎-elim (here-held i o′ k′ j lk′ lj e b) (λ d. let S = P .others i li d in O .held i o′ k′ j li lk′ lj (sym (S .key) ∙ e) (sym (same-open j lj S) ∙ b)) (split-eq i slot);
-          clear = λ i u e v li lu lv ed q f. ⊎-elim (here-clear i u e v li lu lv ed q f) (λ d. let S = P .others i li d in O .clear i u e v li lu lv ed (sym (S .key) ∙ q) (sym (same-open (pairOf t v) (pair-few lv) S) ∙ f)) (split-eq i slot);
+          clear = λ i u e v li lu lv ed q f. ⊎-elim (here-clear i u e v li lu lv ed q f) (λ d. let S = P .others i li d in O .clear i u e v li lu lv ed (sym (S .key) ∙ q) (sym (same-open (nodePair t v) (pair-few lv) S) ∙ f)) (split-eq i slot);
         }
       where
         here-held : (i o′ k′ j : ℕ) → k′ < 64 → j < 256 → getD new i 0 ≡ openKey o′ k′ → openAt new i j ≡ true → i ≡ slot → (j < pairCount n) × (meetsρμ (policyOf s) (pairAt n o′ j) ≡ true)
@@ -164,16 +164,16 @@ module _ {s plan : List ℕ} {t : Task} (A : Given s plan t) where
             left : openAt new slot j ≡ true
             left = ap (λ (v : ℕ). openAt new v j) (sym q) ∙ b
 
-        here-clear : (i u e v : ℕ) → i < openSlots → u < G .k → v < G .k → G .Edge u e v → getD new i 0 ≡ openKey (typeOf t v) (keptBy (t .mode) plan (stateOf K u) e) → openAt new i (pairOf t v) ≡ false → i ≡ slot
+        here-clear : (i u e v : ℕ) → i < openSlots → u < G .k → v < G .k → G .Edge u e v → getD new i 0 ≡ openKey (typeOf t v) (keptBy (t .mode) plan (stateOf K u) e) → openAt new i (nodePair t v) ≡ false → i ≡ slot
             → Clear G back v
         here-clear i u e v li lu lv ed q f at =
             ⊎-elim
-            (λ S. O .clear slot u e v (slot-few (n .types) o k) lu lv ed (sym (S .key) ∙ at-slot) (sym (same-open (pairOf t v) (pair-few lv) S) ∙ gone))
+            (λ S. O .clear slot u e v (slot-few (n .types) o k) lu lv ed (sym (S .key) ∙ at-slot) (sym (same-open (nodePair t v) (pair-few lv) S) ∙ gone))
             (λ F. absurd (clash (fresh-clear F u e v lu lv ed (sym (key-same o k (typeOf t v) (keptBy (t .mode) plan (stateOf K u) e) lk (kept-small A u e) (sym (P .key) ∙ at-slot) .0))) gone))
             (P .here)
           where
             at-slot : getD new slot 0 ≡ openKey (typeOf t v) (keptBy (t .mode) plan (stateOf K u) e)
             at-slot = ap (λ (i : ℕ). getD new i 0) (sym at) ∙ q
 
-            gone : openAt new slot (pairOf t v) ≡ false
-            gone = ap (λ (i : ℕ). openAt new i (pairOf t v)) (sym at) ∙ f
+            gone : openAt new slot (nodePair t v) ≡ false
+            gone = ap (λ (i : ℕ). openAt new i (nodePair t v)) (sym at) ∙ f

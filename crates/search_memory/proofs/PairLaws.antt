@@ -40,7 +40,7 @@ use Rattle.search_graph.specs.inner.Blocks.{Ahead}
 use Rattle.search_graph.proofs.SearchLaws.{turn-chain, chain-bound}
 use Rattle.search_graph.proofs.LevelLaws.{edge-flow, skip-to}
 use Rattle.search_memory.specs.declared.turn.Node.{Node}
-use Rattle.search_memory.specs.inner.Opens.{slotOf, openKey, openAt, Opened, pairOf}
+use Rattle.search_memory.specs.inner.Opens.{slotOf, openKey, openAt, SlotOpened, nodePair}
 use Rattle.search_memory.specs.inner.Memory.{keptBy, Memory}
 use Rattle.search_memory.proofs.OpenLaws.{start-pairs, pair-context, pair-in, pair-is}
 use Rattle.search_memory.proofs.MemoryLaws.{kept-is}
@@ -97,7 +97,7 @@ module _ {s plan : List ℕ} {t : Task} {z : Search} {u : ℕ} {v : Node} {o : O
   abbrev slot : ℕ
   slot = slotOf (t .counts .types) (o .step % 4096) keeps
 
-  pub todo-of : {old among pairs : List ℕ} → Opened (t .counts) plan old (z .opens) (o .step % 4096) keeps among
+  pub todo-of : {old among pairs : List ℕ} → SlotOpened (t .counts) plan old (z .opens) (o .step % 4096) keeps among
       → StepPairs (policyOf s) (policyOf s .counts) (v .x) (o .step / 4096) (o .step % 4096) among pairs 4 → Todo s plan t (z .opens) v o pairs
   todo-of {among = among} {pairs} P F₀ =
       record {
@@ -161,12 +161,12 @@ inner-jump {s} {plan} {t} {z} {u} {v} {o} {pairs} {from} {k} T I lf N =
         → graphOf s plan t .Edge u (o .step / 4096) w → Clear (graphOf s plan t) (z .back) w
     skipped w lw lo hi ed =
         ⊎-elim
-        (λ (f : openAt (z .opens) slot₀ (pairOf t w) ≡ false).
+        (λ (f : openAt (z .opens) slot₀ (nodePair t w) ≡ false).
         I .within .memory .left .clear slot₀ u (o .step / 4096) w (omega arith) (chain-bound (turn-chain (I .turn))) lw ed (T .key ∙ ap₂ openKey (sym is) kept-same) f)
-        (λ (f : flow (policyOf s) (eventOf (o .step / 4096)) (v .x) (pairAt n (o .step % 4096) (pairOf t w)) ≡ false).
+        (λ (f : flow (policyOf s) (eventOf (o .step / 4096)) (v .x) (pairAt n (o .step % 4096) (nodePair t w)) ≡ false).
         absurd (clash (edge-flow A (I .within .stands) lw ed)
-        (ap (flow (policyOf s) (eventOf (o .step / 4096)) (v .x)) (sym (pair-is A lw) ∙ ap (λ (i : ℕ). pairAt n i (pairOf t w)) is) ∙ f)))
-        (T .rest (pairOf t w) (pair-in A lw) (N .none (pairOf t w) (let q = at in omega arith) (pair-in A lw) (below-next (let q = at in omega arith))))
+        (ap (flow (policyOf s) (eventOf (o .step / 4096)) (v .x)) (sym (pair-is A lw) ∙ ap (λ (i : ℕ). pairAt n i (nodePair t w)) is) ∙ f)))
+        (T .rest (nodePair t w) (pair-in A lw) (N .none (nodePair t w) (let q = at in omega arith) (pair-in A lw) (below-next (let q = at in omega arith))))
       where
         slot₀ : ℕ
         slot₀ = slotOf (n .types) (o .step % 4096) (keptOf (v .asker) (eventSetsAt plan (o .step / 4096)))
@@ -174,7 +174,7 @@ inner-jump {s} {plan} {t} {z} {u} {v} {o} {pairs} {from} {k} T I lf N =
         is : typeOf t w ≡ o .step % 4096
         is = type-is (A .readable .sets .counts .countable) (o .step % 4096) (placeOf (statesIn t) w) (omega arith) (let e = end in omega (arith, up))
 
-        at : pairOf t w ≡ placeOf (statesIn t) w - firstPlace n (o .step % 4096)
+        at : nodePair t w ≡ placeOf (statesIn t) w - firstPlace n (o .step % 4096)
         at = ap (λ (i : ℕ). placeOf (statesIn t) w - firstPlace n i) is
 
         kept-same : keptOf (v .asker) (eventSetsAt plan (o .step / 4096)) ≡ keptBy (t .mode) plan (stateOf (statesIn t) u) (o .step / 4096)
@@ -187,7 +187,7 @@ pub record Pairing (s plan : List ℕ) (t : Task) (z : Search) (u : ℕ) (v : No
   pub has : k < pairsEnd → inPairs pairs k ≡ true
 
 pub pairing-begin : {s plan : List ℕ} {t : Task} {z : Search} {u : ℕ} {v : Node} {o : Offer} {opens′ among pairs : List ℕ} {k : ℕ} → Middle s plan t z u v o → o .step < stepsEnd
-    → Opened (t .counts) plan (z .opens) opens′ (o .step % 4096) (keptOf (v .asker) (eventSetsAt plan (o .step / 4096))) among
+    → SlotOpened (t .counts) plan (z .opens) opens′ (o .step % 4096) (keptOf (v .asker) (eventSetsAt plan (o .step / 4096))) among
     → StepPairs (policyOf s) (policyOf s .counts) (v .x) (o .step / 4096) (o .step % 4096) among pairs 4 → NextPair pairs 0 (pairCount (t .counts)) k
     → Pairing s plan t (sweptTo z (z .swept) opens′) u v o pairs k
 pairing-begin {s} {plan} {t} {z} {u} {v} {o} {opens′} {among} {pairs} {k} M h P F N =

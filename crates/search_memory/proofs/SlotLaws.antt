@@ -21,7 +21,7 @@ use Rattle.base.proofs.Numbers.{split-eq, split-le}
 use Rattle.policy_image.specs.declared.counts.Counts.{Counts}
 use Rattle.context.specs.inner.Places.{pairCount}
 use Rattle.plan.specs.inner.Entries.{rolesAt, holdersAt}
-use Rattle.search_memory.specs.inner.Opens.{openSlots, openEntries, slotOf, openKey, openWord, pairHeld, HeldWord, SameSlot, Opened, PairsTaken}
+use Rattle.search_memory.specs.inner.Opens.{openSlots, openEntries, slotOf, openKey, openWord, pairHeld, HeldWord, SameSlot, SlotOpened, PairsTaken}
 use Rattle.search_memory.proofs.KeptLaws.{shl-64}
 
 -- ---- a word of the pairs that meet ρ and μ
@@ -129,7 +129,7 @@ module _ (n : Counts) (plan : List ℕ) (o k : ℕ) (old : List ℕ) (size : len
   words-at : (l : List ℕ) {i : ℕ} → i ≡ slot → (w : ℕ) → w < 4 → getD (fourWords l i) w 0 ≡ getD l (openWord slot w) 0
   words-at l {i} q w h = four-words l i w h ∙ ap (λ (j : ℕ). getD l (openWord j w) 0) q
 
-  pub opened-same : {i : ℕ} → i ≡ slot → getD old i 0 ≡ openKey o k → Opened n plan old old o k (fourWords old i)
+  pub opened-same : {i : ℕ} → i ≡ slot → getD old i 0 ≡ openKey o k → SlotOpened n plan old old o k (fourWords old i)
   opened-same q e =
       record {
         size = size;
@@ -140,7 +140,7 @@ module _ (n : Counts) (plan : List ℕ) (o k : ℕ) (old : List ℕ) (size : len
       }
 
   pub opened-new : {i : ℕ} {new : List ℕ} → i ≡ slot → length new ≡ openEntries → Filled (λ w v. HeldWord n plan o w v) (set old slot (openKey o k)) new (openSlots + 4 * slot) 0 4
-      → Opened n plan old new o k (fourWords new i)
+      → SlotOpened n plan old new o k (fourWords new i)
   opened-new {new = new} q size′ F =
       record {
         size = size′;

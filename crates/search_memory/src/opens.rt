@@ -10,7 +10,7 @@ ghost use Rattle.plan.specs.inner.Plan.{PlanCounts};
 ghost use Rattle.plan.specs.inner.Regions.{planEntries};
 ghost use Rattle.plan_tables.specs.inner.Tables.{typeEntries};
 ghost use Rattle.search_steps.specs.inner.Nearest.{stateCodes};
-ghost use Rattle.search_memory.specs.inner.Opens.{openEntries, slotOf, openKey, HeldWord, Opened, PairsTaken};
+ghost use Rattle.search_memory.specs.inner.Opens.{openEntries, slotOf, openKey, HeldWord, SlotOpened, PairsTaken};
 
 // How much is remembered: by slot a key, and behind all keys four words for each slot.
 pub const SLOTS: usize = 1024;
@@ -76,7 +76,7 @@ pub fn open_pairs(
     kept: u32,
 ) -> [u64; 4]
     requires { ⌜ PlanCounts counts × (planEntries ≤ length (now plan)) × (length (now opens) ≡ openEntries) × (ty < typeEntries) × (kept < stateCodes) ⌝ }
-    ensures { λ r. ⌜ Opened counts (now (plan .entry)) (now (opens .entry)) (now (opens .exit)) ty kept r ⌝ }
+    ensures { λ r. ⌜ SlotOpened counts (now (plan .entry)) (now (opens .entry)) (now (opens .exit)) ty kept r ⌝ }
 {
     let slot = slot_of(counts.types, ty, kept);
     let key = open_key(ty, kept);

@@ -29,7 +29,7 @@ use Rattle.search_graph.specs.inner.Nodes.{placeOf, stateOf}
 use Rattle.search_graph.specs.inner.Model.{asksBy}
 use Rattle.search_graph.specs.inner.Tasks.{statesIn, graphOf, typeOf, Stands}
 use Rattle.search_memory.specs.declared.turn.Node.{Node}
-use Rattle.search_memory.specs.inner.Opens.{openSlots, openEntries, openKey, openAt, pairOf}
+use Rattle.search_memory.specs.inner.Opens.{openSlots, openEntries, openKey, openAt, nodePair}
 
 -- the bits of a state that every event keeps
 abbrev pub keepsOf : Mode → ℕ
@@ -63,7 +63,7 @@ pub record Opens (s plan : List ℕ) (t : Task) (back opens : List ℕ) : Type 0
   pub held : (i o k j : ℕ) → i < openSlots → k < stateCodes → j < pairsEnd → getD opens i 0 ≡ openKey o k → openAt opens i j ≡ true
       → (j < pairCount (t .counts)) × (meetsρμ (policyOf s) (pairAt (t .counts) o j) ≡ true)
   pub clear : (i u e w : ℕ) → i < openSlots → u < graphOf s plan t .k → w < graphOf s plan t .k → graphOf s plan t .Edge u e w
-      → getD opens i 0 ≡ openKey (typeOf t w) (keptBy (t .mode) plan (stateOf (statesIn t) u) e) → openAt opens i (pairOf t w) ≡ false → Clear (graphOf s plan t) back w
+      → getD opens i 0 ≡ openKey (typeOf t w) (keptBy (t .mode) plan (stateOf (statesIn t) u) e) → openAt opens i (nodePair t w) ≡ false → Clear (graphOf s plan t) back w
 
 -- swept, by type of the target: an edge whose event keeps of the state what is in the set arrives at no end, and at a node that is visited.
 -- spent, by type of the source: so does an edge from a state in the set, by an event that is not special. opens, by slot: what is left of a type

@@ -49,7 +49,7 @@ pub record SameSlot (old new : List ℕ) (i : ℕ) : Type 0 where
   pub words : (w : ℕ) → w < 4 → getD new (openWord i w) 0 ≡ getD old (openWord i w) 0
 
 -- the slot of the type o and of k has their key; it has what it had, or all that meet ρ and μ; and r has its words
-pub record Opened (n : Counts) (plan old new : List ℕ) (o k : ℕ) (r : List ℕ) : Type 0 where
+pub record SlotOpened (n : Counts) (plan old new : List ℕ) (o k : ℕ) (r : List ℕ) : Type 0 where
   pub size : length new ≡ openEntries
   pub key : getD new (slotOf (n .types) o k) 0 ≡ openKey o k
   pub words : (w : ℕ) → w < 4 → getD r w 0 ≡ getD new (openWord (slotOf (n .types) o k) w) 0
@@ -65,5 +65,5 @@ pub record PairsTaken (n : Counts) (old new : List ℕ) (o k : ℕ) (pairs : Lis
   pub none : r ≡ true → (w : ℕ) → w < 4 → getD new (openWord (slotOf (n .types) o k) w) 0 ≡ 0
 
 -- the pair of a node's context
-abbrev pub pairOf : Task → ℕ → ℕ
-pairOf t w = placeOf (statesIn t) w - firstPlace (t .counts) (typeOf t w)
+abbrev pub nodePair : Task → ℕ → ℕ
+nodePair t w = placeOf (statesIn t) w - firstPlace (t .counts) (typeOf t w)
