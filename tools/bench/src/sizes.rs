@@ -21,6 +21,8 @@ pub enum Says {
     SameUserOrRole1,
     SameUser,
     SameRole,
+    /// The same user, or the same type and role: what tells every context from every other.
+    SameUserOrRest,
 }
 
 /// How the records of an image stand.
@@ -43,6 +45,14 @@ pub enum Goals {
     OneNode,
 }
 
+/// Which of the plain programs is asked. They evaluate a constraint anew for each pair of contexts, which takes minutes where it is long.
+#[derive(Clone, Copy, PartialEq, Eq)]
+pub enum Plain {
+    Both,
+    MemoryAlone,
+    Neither,
+}
+
 #[derive(Clone, Copy)]
 pub struct Size {
     pub types: u32,
@@ -60,6 +70,7 @@ pub struct Size {
     pub order: Order,
     pub masks: Masks,
     pub goal: Goals,
+    pub plain: Plain,
 }
 
 impl Size {
@@ -71,7 +82,11 @@ impl Size {
     }
     /// A constraint is itself, what it says, and the nots above that.
     fn records_of_a_constraint(&self) -> u32 {
-        let said = if self.says == Says::SameUserOrRole1 { 3 } else { 1 };
+        let said = match self.says {
+            Says::SameUser | Says::SameRole => 1,
+            Says::SameUserOrRole1 => 3,
+            Says::SameUserOrRest => 5,
+        };
         1 + said + self.nested
     }
     fn frame_records(&self) -> u32 {
@@ -146,6 +161,13 @@ impl Maker {
                 self.records.push(Record::node(9, 1, 0, 0));
                 self.records.push(Record::node(3, 0, at + 1, at + 2));
             }
+            Says::SameUserOrRest => {
+                self.records.push(Record::node(4, 0, 0, 0));
+                self.records.push(Record::node(5, 0, 0, 0));
+                self.records.push(Record::node(2, 0, at + 1, at + 2));
+                self.records.push(Record::node(6, 0, 0, 0));
+                self.records.push(Record::node(3, 0, at + 3, at + 4));
+            }
             Says::SameUser => self.records.push(Record::node(6, 0, 0, 0)),
             Says::SameRole => self.records.push(Record::node(5, 0, 0, 0)),
         }
@@ -159,7 +181,7 @@ impl Maker {
     /// Puts the allow records into their order; the records of other kinds stay where they are.
     fn arrange(&mut self) {
         let places: Vec<usize> = (0..self.records.len()).filter(|&i| self.records[i].kind == 4).collect();
-        let mut allows: Vec<Record> = places.iter().map(|&i| self.records[i].clone()).collect();
+        let mut allows: Vec<Record> = places.iter().map(|&i| self.records[i]).collect();
         let key = |r: &Record| (r.a, r.b, r.c);
         match self.size.order {
             Order::Made => return,
