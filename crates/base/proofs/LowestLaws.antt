@@ -42,21 +42,24 @@ tz-div (suc d) n = go (n % 2) refl (tz-div d (n / 2))
         ∙ omega arith
     go (suc r) e ih = mul-one (n / 1) ∙ div-one n
 
-pub lowest-law : (m : ℕ) → 0 < m → m < 2 ^ 32 → Lowest m (trailingZeros 32 m)
-unfolding bit
-lowest-law m h l =
-    record {
-      small = small (decLt (trailingZeros 32 m) 32);
-      has = has;
-      before = λ q lt e. clash e (subst (λ (x : ℕ). bit x q ≡ false) (tz-div 32 m) (bit-shl-low (m / 2 ^ trailingZeros 32 m) lt));
-    }
-  where
-    has : bit m (trailingZeros 32 m) ≡ true
-    has = eq-eqb (m / 2 ^ trailingZeros 32 m % 2) 1 (tz-odd 32 m h l)
+-- of d bits
+module _ (d m : ℕ) (h : 0 < m) (l : m < 2 ^ d) where
+  pub lowest-has : bit m (trailingZeros d m) ≡ true
+  unfolding bit
+  lowest-has = eq-eqb (m / 2 ^ trailingZeros d m % 2) 1 (tz-odd d m h l)
 
-    small : Dec (trailingZeros 32 m < 32) → trailingZeros 32 m < 32
-    small (yes a) = a
-    small (no n) = absurd (clash has (bit-above {m = m} {k = 32} (trailingZeros 32 m) l (omega arith)))
+  pub lowest-small : trailingZeros d m < d
+  lowest-small = go (decLt (trailingZeros d m) d)
+    where
+      go : Dec (trailingZeros d m < d) → trailingZeros d m < d
+      go (yes a) = a
+      go (no n) = absurd (clash lowest-has (bit-above {m = m} {k = d} (trailingZeros d m) l (omega arith)))
+
+  pub lowest-first : (q : ℕ) → q < trailingZeros d m → bit m q ≡ false
+  lowest-first q lt = subst (λ (x : ℕ). bit x q ≡ false) (tz-div d m) (bit-shl-low (m / 2 ^ trailingZeros d m) lt)
+
+pub lowest-law : (m : ℕ) → 0 < m → m < 2 ^ 32 → Lowest m (trailingZeros 32 m)
+lowest-law m h l = record { small = lowest-small 32 m h l; has = lowest-has 32 m h l; before = λ q lt e. clash e (lowest-first 32 m h l q lt) }
 
 -- without its lowest bit, and whatever else, a mask is less: a loop that takes bits out ends
 pub less-without : {m p x one rest : ℕ} → Lowest m p → With x p one → Without m one rest → rest < m

@@ -1,2 +1,5 @@
 pub mod EvalLaws
 pub mod OperatorLaws
+pub mod WordLaws
+pub mod LeafLaws
+pub mod NodeWordLaws

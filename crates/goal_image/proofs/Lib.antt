@@ -5,6 +5,7 @@ pub mod SortLaws
 pub mod Along
 pub mod SetLaws
 pub mod Gather
+pub mod UnionLaws
 pub mod AnswerLaws
 pub mod Tests
 pub mod Cases

@@ -65,20 +65,30 @@ module _ (g : Goal) (O : OneChainEach g) (h : ℕ) (low : h < 15) where
           let n : g .head h ≡ 0 → ⊥ = meets-zero (goalLinks g) (r .1) in
           along-meets (goalLinks g) f (O .nexts) (g .size) (g .head h) (O .heads h low) (omega arith) (r .0) (r .1) (r .2)
 
+  pub chain-none : (f : ℕ → Bool) → ((i : ℕ) → OnChain (goalLinks g) h i → f i ≡ false) → along (goalLinks g) f (g .size) (g .head h) ≡ false
+  chain-none f n =
+      ⊎-elim (λ t. let r = chain-iff f .0 t in absurd (clash (r .2) (n (r .0) (r .1)))) (λ e. e) (true-or-false (along (goalLinks g) f (g .size) (g .head h)))
+
+  -- "an empty chain is the empty set", whatever the test
+  pub empty-chain : g .head h ≡ 0 → (f : ℕ → Bool) → along (goalLinks g) f (g .size) (g .head h) ≡ false
+  empty-chain z f = chain-none f (λ i r. absurd (meets-zero (goalLinks g) r z))
+
   -- what is asked is in the set exactly when some record of the chain matches it
   pub set-iff : (a : Asked) → Iff (askedIn g h a ≡ true) (Some g (matchesAsked g a) h)
-  unfolding contextIn eventIn onChain
+  unfolding contextIn onChain
   set-iff (asked.Context x) = chain-iff (λ i. matchesContext (g .context i) x)
-  set-iff (asked.Event e) = chain-iff (λ i. matchesEvent (g .event i) e)
   set-iff (asked.Record k) = chain-iff (λ i. eqb i k)
 
   -- and is not, exactly when none does
   pub set-none : (a : Asked) → ((i : ℕ) → OnChain (goalLinks g) h i → matchesAsked g a i ≡ false) → askedIn g h a ≡ false
-  set-none a n = ⊎-elim (λ t. let r = set-iff a .0 t in absurd (clash (r .2) (n (r .0) (r .1)))) (λ f. f) (true-or-false (askedIn g h a))
+  unfolding contextIn onChain
+  set-none (asked.Context x) = chain-none (λ i. matchesContext (g .context i) x)
+  set-none (asked.Record k) = chain-none (λ i. eqb i k)
 
-  -- "an empty chain is the empty set"
-  pub empty-chain : g .head h ≡ 0 → (a : Asked) → askedIn g h a ≡ false
-  empty-chain z a = set-none a (λ i r. absurd (meets-zero (goalLinks g) r z))
+  -- so for an event
+  pub event-iff : (e : Event) → Iff (eventIn g h e ≡ true) (Some g (λ i. matchesEvent (g .event i) e) h)
+  unfolding eventIn
+  event-iff e = chain-iff (λ i. matchesEvent (g .event i) e)
 
   -- a record of zeros makes the set everything
   pub any-context : (i : ℕ) → OnChain (goalLinks g) h i → g .context i .ty ≡ 0 → g .context i .role ≡ 0 → g .context i .user ≡ 0 → (x : Context)
@@ -94,4 +104,4 @@ module _ (g : Goal) (O : OneChainEach g) (h : ℕ) (low : h < 15) where
   -- a record of class 0 holds the permissions of its mask in every class
   pub any-class : (i : ℕ) → OnChain (goalLinks g) h i → g .event i .class ≡ 0 → (e : Event) → bit (g .event i .mask) (e .perm) ≡ true → eventIn g h e ≡ true
   any-class i r a e b =
-      set-iff (asked.Event e) .1 (i, r, and-true (fits (g .event i .class) (e .class)) (bit (g .event i .mask) (e .perm)) (any-field _ _ a) b)
+      event-iff e .1 (i, r, and-true (fits (g .event i .class) (e .class)) (bit (g .event i .mask) (e .perm)) (any-field _ _ a) b)

@@ -9,14 +9,11 @@ use borrow.Author.Tests.{le-leb, lt-ltb, eq-eqb, leb-true, ltb-true, eqb-true}
 use Rattle.base.specs.inner.Decides.{Decides}
 use Rattle.base.proofs.Decide.{decides-iff}
 use Rattle.base.proofs.Numbers.{split-le, split-eq}
-use Rattle.base.proofs.BoolLaws.{or-true, or-left, or-cases, and-true, and-first, and-second, clash}
+use Rattle.base.proofs.BoolLaws.{or-true, or-left, or-cases, and-true, and-first, and-second, true-or-false, clash}
 use Rattle.policy_image.specs.declared.counts.Counts.{Counts}
-use Rattle.goal_image.specs.declared.sets.Asked.{Asked}
-use Rattle.goal_image.specs.declared.sets.Asked.the-variants as asked
 use Rattle.goal_image.specs.Goal.{Goal, isContextChain, isEventChain}
 use Rattle.goal_image.specs.Questions.{ContextFits, EventFits}
 use Rattle.goal_image.specs.inner.Reading.{RecordFits}
-use Rattle.goal_image.specs.inner.Memberships.{isAsked}
 
 pub context-chain : (h : ℕ) → isContextChain h ≡ true → (h < 7) ⊎ (h ≡ 13)
 context-chain h e = ⊎-elim (λ a. inl (ltb-true h 7 a)) (λ a. inr (eqb-true h 13 a)) (or-cases (ltb h 7) (eqb h 13) e)
@@ -34,10 +31,10 @@ context-below h e = ⊎-elim (λ a. omega arith) (λ a. omega arith) (context-ch
 pub event-below : (h : ℕ) → isEventChain h ≡ true → h < 15
 event-below h e = ⊎-elim (λ a. omega arith) (λ a. omega arith) (event-chain h e)
 
-pub asked-below : (a : Asked) (h : ℕ) → isAsked a h ≡ true → h < 15
-asked-below (asked.Context x) = context-below
-asked-below (asked.Event e) = event-below
-asked-below (asked.Record k) = context-below
+-- the first chains are σ chains
+pub event-from : (h : ℕ) → h < 7 → isEventChain h ≡ false
+event-from h l =
+    ⊎-elim (λ e. ⊎-elim (λ a. absurd (omega arith)) (λ a. absurd (omega arith)) (event-chain h e)) (λ e. e) (true-or-false (isEventChain h))
 
 pub one-sort : (h : ℕ) → isContextChain h ≡ true → isEventChain h ≡ true → ⊥
 one-sort h e f =

@@ -1,5 +1,5 @@
-// The sets of an accepted goal: in which of them a context or an event is, and on which chains a record is. Each chain is followed
-// once, up to the first record that matches, so that a call meets each record at most once.
+// The sets of an accepted goal: in which of them a context is, on which chains a record is, and which permissions of a class a set has. A
+// call follows a chain at most once, so that it meets each record at most once.
 use crate::fields::is_context_chain;
 use crate::fields::is_event_chain;
 use crate::records::CHAINS;
@@ -9,17 +9,17 @@ use crate::records::context_at;
 use crate::records::event_at;
 use crate::records::head_at;
 use crate::records::next_at;
-use base::bits::has_bit;
 use context::Context;
-use context::Event;
 ghost use mathlib.Core.Path.{_≡_};
-ghost use Prim.Native.Nat.{_≤_, _<_};
+ghost use Prim.Native.Nat.{ℕ, _≤_, _<_};
 ghost use mathlib.Core.Bool.{_&&_};
+ghost use Rattle.base.specs.Bits.{bit};
+ghost use Rattle.context.specs.Codes.{eventAt};
 ghost use Rattle.goal_image.specs.Layout.{GoalExact, goalCount};
-ghost use Rattle.goal_image.specs.Goal.{goalOf};
+ghost use Rattle.goal_image.specs.Goal.{goalOf, isContextChain};
 ghost use Rattle.goal_image.specs.Sets.{fits, matchesContext, matchesEvent};
 ghost use Rattle.goal_image.specs.inner.Reading.{chainCount};
-ghost use Rattle.goal_image.specs.inner.Memberships.{isAsked, Askable, matchesAsked, askedIn, Sets, ContextSets, EventSets, RecordSets};
+ghost use Rattle.goal_image.specs.inner.Memberships.{matchesAsked, askedIn, Sets, ContextSets, RecordSets, ChainMask};
 ghost use Rattle.goal_image.specs.inner.Sound.{SoundGoal};
 
 // The sets of a context or an event are bits, by the numbers of the goal's chains: bit i for σi, bit EVENT_CHAINS + i for γi, and one for each
@@ -30,11 +30,9 @@ pub const EXCEPTED_CONTEXTS: u32 = 13;
 
 pub const EXCEPTED_EVENTS: u32 = 14;
 
-// What the chains are asked: whether a context is in the sets of the σ chains, an event in those of the γ chains, or a record on the
-// σ chains.
+// What the σ chains are asked: whether a context is in their sets, or a record on them.
 pub enum Asked {
     Context(Context),
-    Event(Event),
     Record(usize),
 }
 
@@ -58,46 +56,23 @@ pub fn matches_context(r: ContextRecord, x: Context) -> bool
     fits_field(r.user, x.user)
 }
 
-// Whether the record of a γ chain matches the event.
-fn matches_event(r: EventRecord, e: Event) -> bool
-    requires { ⌜ e .perm < 32 ⌝ }
-    ensures { λ t. ⌜ t ≡ matchesEvent r e ⌝ }
-{
-    if !fits_field(r.class, e.class) {
-        return false;
-    }
-    has_bit(r.mask, e.perm)
-}
-
-// Whether chain h is of the sort that is asked.
-fn is_asked(h: usize, asked: Asked) -> bool
-    ensures { λ r. ⌜ r ≡ isAsked asked h ⌝ }
-{
-    match asked {
-        Asked::Context(_) => is_context_chain(h),
-        Asked::Event(_) => is_event_chain(h),
-        Asked::Record(_) => is_context_chain(h),
-    }
-}
-
 // Whether record i matches what is asked.
 fn matches(goal: &[u8], i: usize, asked: Asked) -> bool
-    requires { ⌜ GoalExact (now goal) × (1 ≤ i) × (i ≤ goalCount (now goal)) × Askable asked ⌝ }
+    requires { ⌜ GoalExact (now goal) × (1 ≤ i) × (i ≤ goalCount (now goal)) ⌝ }
     ensures { λ r. ⌜ r ≡ matchesAsked (goalOf (now (goal .entry))) asked i ⌝ }
 {
     match asked {
         Asked::Context(x) => matches_context(context_at(goal, i), x),
-        Asked::Event(e) => matches_event(event_at(goal, i), e),
         Asked::Record(k) => i == k,
     }
 }
 
-// Whether chain h is of the sort that is asked, and what is asked is in its set.
+// Whether h is a σ chain, and what is asked is in its set.
 fn is_in(goal: &[u8], h: usize, asked: Asked) -> bool
-    requires { ⌜ SoundGoal (now goal) × (h < chainCount) × Askable asked ⌝ }
-    ensures { λ r. ⌜ r ≡ (isAsked asked h && askedIn (goalOf (now (goal .entry))) h asked) ⌝ }
+    requires { ⌜ SoundGoal (now goal) × (h < chainCount) ⌝ }
+    ensures { λ r. ⌜ r ≡ (isContextChain h && askedIn (goalOf (now (goal .entry))) h asked) ⌝ }
 {
-    if !is_asked(h, asked) {
+    if !is_context_chain(h) {
         return false;
     }
     let mut i = head_at(goal, h);
@@ -112,7 +87,7 @@ fn is_in(goal: &[u8], h: usize, asked: Asked) -> bool
 
 // The sets that what is asked is in: bit h for chain h.
 fn sets(goal: &[u8], asked: Asked) -> u32
-    requires { ⌜ SoundGoal (now goal) × Askable asked ⌝ }
+    requires { ⌜ SoundGoal (now goal) ⌝ }
     ensures { λ r. ⌜ Sets (goalOf (now (goal .entry))) asked r ⌝ }
 {
     let mut mask: u32 = 0;
@@ -134,18 +109,38 @@ pub fn context_sets(goal: &[u8], x: Context) -> u32
     sets(goal, Asked::Context(x))
 }
 
-// The γ sets that the event is in: bit h for chain h.
-pub fn event_sets(goal: &[u8], e: Event) -> u32
-    requires { ⌜ SoundGoal (now goal) × (e .perm < 32) ⌝ }
-    ensures { λ r. ⌜ EventSets (goalOf (now (goal .entry))) e r ⌝ }
-{
-    sets(goal, Asked::Event(e))
-}
-
 // The σ chains that record k is on: bit h for chain h.
 pub fn record_sets(goal: &[u8], k: usize) -> u32
     requires { ⌜ SoundGoal (now goal) ⌝ }
     ensures { λ r. ⌜ RecordSets (goalOf (now (goal .entry))) k r ⌝ }
 {
     sets(goal, Asked::Record(k))
+}
+
+// The permissions of the class that the record of a γ chain has.
+fn class_mask(r: EventRecord, class: u32) -> u32
+    ensures { λ m. ⌜ ((q : ℕ) → bit m q ≡ matchesEvent r (eventAt class q)) ⌝ }
+{
+    if fits_field(r.class, class) {
+        r.mask
+    } else {
+        0
+    }
+}
+
+// The permissions of the class that are in the set of chain h, where it is a γ chain: bit q for permission q.
+pub fn chain_mask(goal: &[u8], h: usize, class: u32) -> u32
+    requires { ⌜ SoundGoal (now goal) × (h < chainCount) ⌝ }
+    ensures { λ r. ⌜ ChainMask (goalOf (now (goal .entry))) h class r ⌝ }
+{
+    if !is_event_chain(h) {
+        return 0;
+    }
+    let mut mask: u32 = 0;
+    let mut i = head_at(goal, h);
+    while i != 0 {
+        mask = mask | class_mask(event_at(goal, i), class);
+        i = next_at(goal, i);
+    }
+    mask
 }

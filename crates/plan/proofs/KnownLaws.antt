@@ -1,11 +1,11 @@
 -- What a plan knows of events and of roles, from the tables that it is made of.
 use Prim.Native.Nat.{ℕ, _+_}
 use mathlib.Core.Path.{_≡_, sym, subst, ap, ap₂, _∙_}
-use mathlib.Core.Bool.{Bool, true, false, not, _&&_, _||_, or-false}
+use mathlib.Core.Bool.{Bool, _&&_, _||_, or-false}
 use mathlib.Core.List.{List}
 use mathlib.Core.Logic.{⊎-elim}
 use native.Mathlib.Omega.{arith}
-use borrow.Author.Tests.{not-true, not-false, ne-eqb, eq-eqb}
+use borrow.Author.Tests.{ne-eqb, eq-eqb}
 use lib.Dec.{eqb}
 use lib.ListN.{length, getD, set}
 use lib.Seq.{getD-set-same, getD-set-other}
@@ -28,13 +28,6 @@ use Rattle.plan.specs.inner.Plan.{special, Tabled}
 
 pub zero-plus : (c : ℕ) → 0 + c ≡ c
 zero-plus c = omega arith
-
--- ---- truth values
-pub both-not : {a r : Bool} (b : Bool) → r ≡ a → not r ≡ true → false ≡ (a && b)
-both-not {a} {r} b p t = let q : a ≡ false = sym p ∙ not-true r t in rw q
-
-pub both-then : {a b r t : Bool} → r ≡ a → not r ≡ false → t ≡ b → t ≡ (a && b)
-both-then {a} {b} {r} {t} p n e = let q : a ≡ true = sym p ∙ not-false r n in rw q e
 
 -- ---- contexts and events
 pub sets-same : {g : Goal} {x x′ : Context} {v : ℕ} → x ≡ x′ → ContextSets g x v → ContextSets g x′ v

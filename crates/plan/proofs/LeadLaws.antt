@@ -1,22 +1,22 @@
 -- The leading permissions of an entry, and what they stand for.
 use Prim.Native.Nat.{ℕ, zero, suc, _+_, _-_, _*_, _/_, _%_, _≤_, _<_}
 use mathlib.Core.Path.{_≡_, refl, sym, ap, ap₂, subst, _∙_}
-use mathlib.Core.Bool.{Bool, true, false, not, _&&_, _||_, or-false}
+use mathlib.Core.Bool.{true, false, not, _||_}
 use mathlib.Core.List.{List}
 use mathlib.Core.Logic.{_⊎_, inl, inr, ⊎-elim}
 use native.Mathlib.Omega.{arith}
-use borrow.Author.Tests.{not-true, not-false, eqb-true, eq-eqb, ne-eqb}
-use lib.Bits.{bitOr}
+use borrow.Author.Tests.{not-true, eqb-true, eq-eqb}
+use lib.Bits.{bitAnd, bitOr}
 use lib.Dec.{eqb}
-use lib.ListN.{length, getD, set, replicate}
+use lib.ListN.{getD, set, replicate, length-set, length-replicate}
+use lib.Seq.{getD-set-same, getD-set-other}
 use Rattle.base.specs.Bits.{bit}
 use Rattle.base.specs.inner.Masks.{Lowest, With, Without}
 use Rattle.base.specs.inner.Fill.{Filled}
 use Rattle.base.specs.Ranges.{Within}
-use Rattle.base.proofs.BitLaws.{bit-or, bit-zero}
-use Rattle.base.proofs.FillLaws.{fill-more}
+use Rattle.base.proofs.BitLaws.{bit-and, bit-or, bit-zero}
 use Rattle.base.proofs.Numbers.{split-eq, split-le, zeros}
-use Rattle.base.proofs.BoolLaws.{clash, or-true, or-left, or-none, or-cases, and-yes, and-no, and-true, and-first, and-second, true-or-false}
+use Rattle.base.proofs.BoolLaws.{clash, or-true, or-left, or-cases, and-true, and-first, and-second, true-or-false}
 use Rattle.policy_image.specs.declared.counts.Counts.{Counts}
 use Rattle.policy_image.specs.Policy.{Policy}
 use Rattle.context.specs.Codes.{eventAt, eventOf, isTransition}
@@ -26,42 +26,31 @@ use Rattle.plan.specs.inner.Entries.{firstAt, keyAt, writesAt, readsAt, 
 use Rattle.plan.specs.inner.Regions.{blockEntries, firstStart, keysStart, writesStart, readsStart, groupsStart, rolesStart, eventSetsStart, leadsStart}
 use Rattle.plan.specs.inner.Plan.{PlanCounts, Grouped, OfferBlocks, Alike, Leader, Leads}
 use Rattle.plan.specs.inner.Put.{Tops, Kept, AllLeads, LeadsPut}
-use Rattle.plan.specs.inner.Leads.{likes, WithIf, SameSets, AlikeTable, Led, Leading, EntryLeads}
+use Rattle.plan.specs.inner.Leads.{NotTransition, SameSets, AllAlike, AlikeTable, Shared, Led, Leading, EntryLeads}
 use Rattle.plan.proofs.BlockLaws.{last-top}
 
--- ---- events in the same sets
-pub sets-begin : (plan : List ℕ) (event : ℕ) → SameSets plan event (event % 32) 0
-sets-begin plan event = record { low = λ q h. bit-zero q; done = λ q l h. absurd (omega arith); rest = λ q h. bit-zero q }
-
-pub sets-next : {plan : List ℕ} {event n r r′ : ℕ} {yes : Bool} → event % 32 ≤ n → SameSets plan event n r → yes ≡ likes plan event n → WithIf r n yes r′ → SameSets plan event (n + 1) r′
-sets-next {plan} {event} {n} {r} {r′} {yes} from S y W =
+-- ---- the permissions of a class, but process transition
+pub transition-out : {c one r : ℕ} → c ≡ 1 → With 0 0 one → Without 4294967295 one r → NotTransition c r
+transition-out {c} {one} {r} k O W =
     record {
-      low = λ q h. W .at q ∙ off q (λ e. omega arith) ∙ S .low q h;
-      done = λ q l h. W .at q
-          ∙ ⊎-elim
-          (λ (e : q ≡ n). ap₂ (λ (a b : Bool). a || (yes && b)) (S .rest q (omega arith)) (eq-eqb n q (sym e)) ∙ and-yes yes true refl ∙ y ∙ ap (likes plan event) (sym e))
-          (λ (d : q ≡ n → ⊥). off q d ∙ S .done q l (omega (arith, d)))
-          (split-eq q n);
-      rest = λ q h. W .at q ∙ off q (λ e. omega arith) ∙ S .rest q (omega arith);
+      out = λ q h b e.
+          let z : q ≡ 0 = omega arith in
+          clash (subst (λ (i : ℕ). bit one i ≡ true) (sym z) (O .at 0 ∙ or-true (bit 0 0) (eqb 0 0) (eq-eqb 0 0 refl)))
+          (not-true (bit one q) (and-second (bit 4294967295 q) (not (bit one q)) (sym (W .at q) ∙ b)));
     }
-  where
-    off : (q : ℕ) → (q ≡ n → ⊥) → (bit r q || (yes && eqb n q)) ≡ bit r q
-    off q d = or-none (bit r q) (yes && eqb n q) (and-no yes (eqb n q) (ne-eqb n q (λ e. d (sym e))))
 
-pub sets-end : {plan : List ℕ} {event n r : ℕ} → n ≡ 32 → SameSets plan event n r → SameSets plan event 32 r
-sets-end {plan} {event} {r = r} e S = subst (λ (k : ℕ). SameSets plan event k r) e S
+pub transition-still : {c left m left′ : ℕ} → NotTransition c left → Without left m left′ → NotTransition c left′
+transition-still {left = left} {m} N W = record { out = λ q h b. N .out q h (and-first (bit left q) (not (bit m q)) (sym (W .at q) ∙ b)) }
 
-pub with-yes : {m q r : ℕ} {yes : Bool} → yes ≡ true → With m q r → WithIf m q yes r
-with-yes {m} {q} t W = record { at = λ i. W .at i ∙ ap (λ (b : Bool). bit m i || (b && eqb q i)) (sym t) }
+-- ---- permissions in the same sets
+pub sets-begin : (plan : List ℕ) (c sets : ℕ) → SameSets plan c sets 0
+sets-begin plan c sets = record { at = λ q b. absurd (clash b (bit-zero q)) }
 
-pub with-no : {m q : ℕ} {yes : Bool} → yes ≡ false → WithIf m q yes m
-with-no {m} {q} f = record { at = λ i. sym (or-false (bit m i)) ∙ ap (λ (b : Bool). bit m i || (b && eqb q i)) (sym f) }
-
-pub like-transition : {a r : Bool} (f : ℕ) (b : Bool) → r ≡ a → not r ≡ false → f ≡ transitionCode → false ≡ (a && (not (eqb f transitionCode) && b))
-like-transition {a} {r} f b p n e = let q : a ≡ true = sym p ∙ not-false r n in let z : eqb f transitionCode ≡ true = eq-eqb f transitionCode e in rw (q, z)
-
-pub like-then : {a r : Bool} (f : ℕ) {b t : Bool} → r ≡ a → not r ≡ false → (f ≡ transitionCode → ⊥) → t ≡ b → t ≡ (a && (not (eqb f transitionCode) && b))
-like-then {a} {r} f p n d e = let q : a ≡ true = sym p ∙ not-false r n in let z : eqb f transitionCode ≡ false = ne-eqb f transitionCode d in rw (q, z) e
+pub sets-next : {plan : List ℕ} {c sets q r r′ : ℕ} → SameSets plan c sets r → eventSetsAt plan (32 * c + q) ≡ sets → With r q r′ → SameSets plan c sets r′
+sets-next {plan} {c} {sets} {q} {r} S e W =
+    record {
+      at = λ i b. ⊎-elim (S .at i) (λ k. subst (λ (j : ℕ). eventSetsAt plan (32 * c + j) ≡ sets) (eqb-true q i k) e) (or-cases (bit r i) (eqb q i) (sym (W .at i) ∙ b));
+    }
 
 -- ---- events that are alike
 no-transition : (f : ℕ) → (f ≡ transitionCode → ⊥) → isTransition (eventOf f) ≡ false
@@ -74,49 +63,66 @@ no-transition f d =
     (λ t. t)
     (true-or-false (isTransition (eventOf f)))
 
-event-code : (c q : ℕ) → q < 32 → eventAt c q ≡ eventOf (32 * c + q)
+pub event-code : (c q : ℕ) → q < 32 → eventAt c q ≡ eventOf (32 * c + q)
 event-code c q h =
     let a : c ≡ (32 * c + q) / 32 = omega arith in
     let b : q ≡ (32 * c + q) % 32 = omega arith in
     ap₂ eventAt a b
 
-not-it : (f : ℕ) → not (eqb f transitionCode) ≡ true → f ≡ transitionCode → ⊥
-not-it f h e = clash (eq-eqb f transitionCode e) (not-true (eqb f transitionCode) h)
+-- those of a group that are in the same sets, without process transition
+module _ {plan : List ℕ} {c q₀ left sets same : ℕ} (lc : c < 32) (l₀ : q₀ < 32) (N : NotTransition c left) (S : SameSets plan c sets same) where
+  abbrev group : ℕ
+  group = groupsAt plan (32 * c + q₀)
 
-pub alike-more : {P : ℕ → ℕ → Type 0} {old new : List ℕ} {a i v : ℕ} → Filled P old new 0 a i → a ≤ i → i < length new → P i v → Filled P old (set new i v) 0 a (i + 1)
-alike-more {P} {old} {new} {a} {i} {v} F l h x =
-    subst (λ (k : ℕ). Filled P old (set new k v) 0 a (i + 1)) (let e : 0 + i ≡ i = omega arith in e) (fill-more P F l (omega arith) x)
+  abbrev members : ℕ
+  members = bitAnd (bitAnd left group) same
 
-pub alike-all : {plan alike : List ℕ} {end : ℕ} → end ≤ 1024 → Filled (λ e v. SameSets plan e 32 v) (replicate 1024 0) alike 0 (transitionCode + 1) end → AlikeTable plan alike
-alike-all {plan} {alike} {end} few F =
+  member : (q : ℕ) → bit members q ≡ true → (bit left q ≡ true) × (bit group q ≡ true) × (bit same q ≡ true)
+  member q b =
+      let w = sym (bit-and (bitAnd left group) same q) ∙ b in
+      let v = sym (bit-and left group q) ∙ and-first (bit (bitAnd left group) q) (bit same q) w in
+      (and-first (bit left q) (bit group q) v, and-second (bit left q) (bit group q) v, and-second (bit (bitAnd left group) q) (bit same q) w)
+
+  pub all-alike : AllAlike plan c members
+  all-alike =
+      record {
+        at = λ p G q i lq li b d.
+            let x = member q b in
+            let y = member i d in
+            record {
+              sets = S .at q (x .2) ∙ sym (S .at i (y .2));
+              constrained = λ j lo hi kind. ap (constrains (p .rec j)) (sym (event-code c q lq))
+                  ∙ sym (G .sound c q₀ q lc l₀ lq (x .1) .same j lo hi kind)
+                  ∙ G .sound c q₀ i lc l₀ li (y .1) .same j lo hi kind
+                  ∙ ap (constrains (p .rec j)) (event-code c i li);
+              transition = no-transition (32 * c + q) (N .out q lq (x .0)) ∙ sym (no-transition (32 * c + i) (N .out i li (y .0)));
+            };
+      }
+
+-- ---- the table of those that are alike
+pub table-begin : (plan : List ℕ) → AlikeTable plan (replicate 1024 0)
+table-begin plan =
     record {
-      at = λ p G c q i lc lq li b. ⊎-elim
-          (λ (h : end ≤ 32 * c + q). absurd (clash b (ap (λ (v : ℕ). bit v i) (F .above (32 * c + q) (omega arith) ∙ zeros 1024 (32 * c + q)) ∙ bit-zero i)))
-          (λ (h : 32 * c + q < end). ⊎-elim
-          (λ (k : transitionCode + 1 ≤ 32 * c + q). like p G c q i lc lq li k (subst (λ (z : ℕ). SameSets plan (32 * c + q) 32 (getD alike z 0)) (let z : 0 + (32 * c + q) ≡ 32 * c + q = omega arith in z) (F .here (32 * c + q) k h)) b)
-          (λ (k : 32 * c + q < transitionCode + 1). absurd (clash b (ap (λ (v : ℕ). bit v i) (F .below (32 * c + q) (omega arith) ∙ zeros 1024 (32 * c + q)) ∙ bit-zero i)))
-          (split-le (transitionCode + 1) (32 * c + q)))
-          (split-le end (32 * c + q));
+      size = length-replicate {A = ℕ} 1024 0;
+      at = λ p G c q i lc lq li b. absurd (clash b (ap (λ (v : ℕ). bit v i) (zeros 1024 (32 * c + q)) ∙ bit-zero i));
     }
-  where
-    like : (p : Policy) → Grouped p plan → (c q i : ℕ) → c < 32 → q < 32 → i < 32 → transitionCode + 1 ≤ 32 * c + q → SameSets plan (32 * c + q) 32 (getD alike (32 * c + q) 0)
-        → bit (getD alike (32 * c + q) 0) i ≡ true → Alike p plan (32 * c + q) (32 * c + i)
-    like p G c q i lc lq li k S b =
-        let group : ℕ = groupsAt plan (32 * c + q) in
-        let l : (32 * c + q) % 32 ≤ i = ⊎-elim (λ h. h) (λ (h : i < (32 * c + q) % 32). absurd (clash b (S .low i h))) (split-le ((32 * c + q) % 32) i) in
-        let e : 32 * ((32 * c + q) / 32) + i ≡ 32 * c + i = omega arith in
-        let w : (bit group i && (not (eqb (32 * c + i) transitionCode) && eqb (eventSetsAt plan (32 * c + i)) (eventSetsAt plan (32 * c + q)))) ≡ true
-        = subst (λ (f : ℕ). (bit group i && (not (eqb f transitionCode) && eqb (eventSetsAt plan f) (eventSetsAt plan (32 * c + q)))) ≡ true) e (sym (S .done i l li) ∙ b) in
-        let g : bit group i ≡ true = and-first (bit group i) _ w in
-        let r = and-second (bit group i) _ w in
-        let n : not (eqb (32 * c + i) transitionCode) ≡ true = and-first (not (eqb (32 * c + i) transitionCode)) _ r in
-        let s : eqb (eventSetsAt plan (32 * c + i)) (eventSetsAt plan (32 * c + q)) ≡ true = and-second (not (eqb (32 * c + i) transitionCode)) _ r in
-        record {
-          sets = sym (eqb-true (eventSetsAt plan (32 * c + i)) (eventSetsAt plan (32 * c + q)) s);
-          constrained = λ j lo hi kind.
-              ap (constrains (p .rec j)) (sym (event-code c q lq)) ∙ G .sound c q i lc lq li g .same j lo hi kind ∙ ap (constrains (p .rec j)) (event-code c i li);
-          transition = no-transition (32 * c + q) (λ z. omega arith) ∙ sym (no-transition (32 * c + i) (not-it (32 * c + i) n));
-        }
+
+pub shared-more : {c mask q : ℕ} {l l′ : List ℕ} → c < 32 → q < 32 → bit mask q ≡ true → Shared c mask l l′ → Shared c mask l (set l′ (32 * c + q) mask)
+shared-more {c} {mask} {q} {l} {l′} lc lq has S =
+    record {
+      table = λ plan M B. let A = S .table plan M B in record {
+        size = simp length-set (A .size);
+        at = λ p G c′ q′ i lc′ lq′ li b. ⊎-elim
+            (λ (e : 32 * c′ + q′ ≡ 32 * c + q).
+            let v : getD (set l′ (32 * c + q) mask) (32 * c + q) 0 ≡ mask = getD-set-same l′ (32 * c + q) mask 0 (omega (arith, A .size)) in
+            let z : c ≡ c′ = omega arith in
+            subst (λ (f : ℕ). Alike p plan f (32 * c′ + i)) (sym e)
+            (subst (λ (d : ℕ). Alike p plan (32 * c + q) (32 * d + i)) z
+            (M .at p G q i lq li has (sym (ap (λ (m : ℕ). bit m i) (ap (λ (f : ℕ). getD (set l′ (32 * c + q) mask) f 0) e ∙ v)) ∙ b))))
+            (λ (d : 32 * c′ + q′ ≡ 32 * c + q → ⊥). A .at p G c′ q′ i lc′ lq′ li (sym (ap (λ (m : ℕ). bit m i) (getD-set-other l′ (32 * c + q) (32 * c′ + q′) mask 0 d)) ∙ b))
+            (split-eq (32 * c′ + q′) (32 * c + q));
+      };
+    }
 
 -- ---- the lowest of those that are alike
 pub record Sorting (alike : List ℕ) (class mask left r : ℕ) : Type 0 where

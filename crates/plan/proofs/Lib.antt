@@ -4,5 +4,6 @@ pub mod ContextLaws
 pub mod SetLaws
 pub mod BlockLaws
 pub mod LeadLaws
+pub mod EventLaws
 pub mod PlanLaws
 pub mod EndsLaws

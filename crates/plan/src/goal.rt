@@ -1,39 +1,71 @@
 // The goal's part of a plan: the sets of its events and contexts, and the permissions that stand for others where the sets do not tell them
 // apart.
+use crate::fill::clear;
 use crate::leads::put_leads;
 use crate::named::put_links;
 use crate::regions::EVENT_SETS_START;
 use crate::regions::PAIR_SETS_START;
 use crate::regions::TYPE_SETS_START;
+use base::bits::lowest;
+use base::bits::with_bit;
+use base::bits::without;
 use context::Context;
-use context::Event;
+use goal_image::records::CHAINS;
+use goal_image::sets::EVENT_CHAINS;
+use goal_image::sets::chain_mask;
 use goal_image::sets::context_sets;
-use goal_image::sets::event_sets;
 use policy_image::counts::Counts;
 ghost use Prim.Native.Nat.{_+_, _*_, _≤_, _<_};
-ghost use lib.ListN.{length};
+ghost use lib.ListN.{length, getD};
+ghost use Rattle.base.specs.Bits.{bit};
 ghost use Rattle.base.specs.inner.Fill.{Filled};
-ghost use Rattle.context.specs.Codes.{contextAt, eventOf};
+ghost use Rattle.context.specs.Codes.{contextAt, eventAt, eventOf};
 ghost use Rattle.goal_image.specs.Goal.{goalOf};
 ghost use Rattle.goal_image.specs.inner.Memberships.{ContextSets, EventSets};
 ghost use Rattle.goal_image.specs.inner.Sound.{SoundGoal};
 ghost use Rattle.plan_tables.specs.inner.Tables.{typeEntries};
 ghost use Rattle.plan.specs.inner.Plan.{PlanCounts, PairSets};
-ghost use Rattle.plan.specs.inner.Put.{Tops, GoalPut};
+ghost use Rattle.plan.specs.inner.Put.{Tops, GoalPut, WithIf};
 ghost use Rattle.plan.specs.inner.Regions.{classEntries, eventSetsStart, typeSetsStart, pairSetsStart, planEntries};
 ghost use Rattle.context.specs.inner.Places.{pairCount};
+
+// Puts chain h into the sets of those of the 32 events from a place on whose permissions the mask has.
+fn put_chain(mask: u32, h: u32, at: usize, plan: &mut [u32])
+    requires { ⌜ (h < 32) × (at + 32 ≤ length (now plan)) ⌝ }
+    ensures { λ _. ⌜ Filled (λ q v. WithIf (getD (now (plan .entry)) (at + q) 0) h (bit mask q) v) (now (plan .entry)) (now (plan .exit)) at 0 32 ⌝ }
+{
+    let mut left = mask;
+    while left != 0 {
+        let q = lowest(left);
+        let i = at + (q as usize);
+        plan[i] = with_bit(plan[i], h);
+        left = without(left, with_bit(0, q));
+    }
+}
+
+// The sets of the events of a class, chain by chain, so that each record of a γ chain is met once for all of them.
+fn put_class(goal: &[u8], class: u32, plan: &mut [u32])
+    requires { ⌜ SoundGoal (now goal) × (class < classEntries) × (planEntries ≤ length (now plan)) ⌝ }
+    ensures { λ _. ⌜ Filled (λ q v. EventSets (goalOf (now (goal .entry))) (eventAt class q) v) (now (plan .entry)) (now (plan .exit)) (eventSetsStart + 32 * class) 0 32 ⌝ }
+{
+    let at = EVENT_SETS_START + ((32 * class) as usize);
+    clear(plan, at, 32);
+    let mut h = EVENT_CHAINS as usize;
+    while h < CHAINS {
+        put_chain(chain_mask(goal, h, class), h as u32, at, plan);
+        h += 1;
+    }
+}
 
 // The sets of the events of the policy's classes.
 fn put_events(goal: &[u8], classes: u32, plan: &mut [u32])
     requires { ⌜ SoundGoal (now goal) × (classes < classEntries) × (planEntries ≤ length (now plan)) ⌝ }
     ensures { λ _. ⌜ Filled (λ e v. EventSets (goalOf (now (goal .entry))) (eventOf e) v) (now (plan .entry)) (now (plan .exit)) eventSetsStart 32 (32 * (classes + 1)) ⌝ }
 {
-    let end = 32 * (classes + 1);
-    let mut e: u32 = 32;
-    while e < end {
-        let at = EVENT_SETS_START + (e as usize);
-        plan[at] = event_sets(goal, Event::decode(e));
-        e += 1;
+    let mut class: u32 = 1;
+    while class <= classes {
+        put_class(goal, class, plan);
+        class += 1;
     }
 }
 

@@ -7,59 +7,80 @@ use crate::regions::LEADS_START;
 use crate::regions::READS_START;
 use crate::regions::TYPE_CODES;
 use crate::regions::WRITES_START;
-use base::bits::has_bit;
 use base::bits::lowest;
 use base::bits::with_bit;
 use base::bits::without;
 use context::Event;
 use policy_image::counts::Counts;
-ghost use mathlib.Core.Path.{_≡_};
 ghost use Prim.Native.Nat.{_≤_, _<_};
 ghost use lib.ListN.{length};
 ghost use Rattle.base.specs.inner.Fill.{Filled};
-ghost use Rattle.plan.specs.inner.Regions.{classEntries, eventEntries, blockEntries, leadsStart, planEntries};
+ghost use Rattle.plan.specs.inner.Regions.{classEntries, blockEntries, leadsStart, planEntries};
 ghost use Rattle.plan.specs.inner.Plan.{PlanCounts};
 ghost use Rattle.plan.specs.inner.Put.{Tops, LeadsPut};
-ghost use Rattle.plan.specs.inner.Leads.{likes, WithIf, SameSets, AlikeTable, Leading, EntryLeads};
+ghost use Rattle.plan.specs.inner.Leads.{NotTransition, SameSets, Shared, AlikeTable, Leading, EntryLeads};
 
-// Whether the permission q has the same constraints as the event of its class, is in the same sets of the goal, and is not process
-// transition.
-fn is_like(plan: &[u32], event: u32, q: u32) -> bool
-    requires { ⌜ (event < eventEntries) × (q < 32) × (planEntries ≤ length (now plan)) ⌝ }
-    ensures { λ r. ⌜ r ≡ likes (now (plan .entry)) event q ⌝ }
+// All permissions of a class.
+const ALL: u32 = 4294967295;
+
+// The permissions of a class without process transition, which is like no other.
+fn not_transition(class: u32) -> u32
+    ensures { λ r. ⌜ NotTransition class r ⌝ }
 {
-    if !has_bit(plan[GROUPS_START + (event as usize)], q) {
-        return false;
+    if class == Event::TRANSITION.class {
+        return without(ALL, with_bit(0, Event::TRANSITION.perm));
     }
-    let other = 32 * (event / 32) + q;
-    if other == Event::TRANSITION_CODE {
-        return false;
-    }
-    let at = EVENT_SETS_START + (other as usize);
-    let own = EVENT_SETS_START + (event as usize);
-    plan[at] == plan[own]
+    ALL
 }
 
-// The mask, with bit q where yes.
-fn with_if(mask: u32, q: u32, yes: bool) -> u32
-    requires { ⌜ q < 32 ⌝ }
-    ensures { λ r. ⌜ WithIf mask q yes r ⌝ }
+// The permissions of the class that are in just these sets of the goal. All 32 are looked at, few as may be left: the compiler makes
+// that few instructions.
+fn same_sets(plan: &[u32], class: u32, sets: u32) -> u32
+    requires { ⌜ (class < 32) × (planEntries ≤ length (now plan)) ⌝ }
+    ensures { λ r. ⌜ SameSets (now (plan .entry)) class sets r ⌝ }
 {
-    if yes { with_bit(mask, q) } else { mask }
-}
-
-// All such permissions from the event's own on: of those that are alike the lowest leads, so no lower one is asked for.
-fn same_sets(plan: &[u32], event: u32) -> u32
-    requires { ⌜ (event < eventEntries) × (planEntries ≤ length (now plan)) ⌝ }
-    ensures { λ r. ⌜ SameSets (now (plan .entry)) event 32 r ⌝ }
-{
+    let first = (32 * class) as usize;
     let mut r: u32 = 0;
-    let mut q = event % 32;
+    let mut q: u32 = 0;
     while q < 32 {
-        r = with_if(r, q, is_like(plan, event, q));
+        let at = first + (q as usize);
+        if plan[EVENT_SETS_START + at] == sets {
+            r = with_bit(r, q);
+        }
         q += 1;
     }
     r
+}
+
+// Puts the mask into the entry of each permission of the class that is in it.
+fn share(class: u32, mask: u32, alike: &mut [u32; 1024])
+    requires { ⌜ class < 32 ⌝ }
+    ensures { λ _. ⌜ Shared class mask (now (alike .entry)) (now (alike .exit)) ⌝ }
+{
+    let mut left = mask;
+    while left != 0 {
+        let q = lowest(left);
+        let at = (32 * class + q) as usize;
+        alike[at] = mask;
+        left = without(left, with_bit(0, q));
+    }
+}
+
+// Puts into the entry of each permission of the class but process transition those that a search cannot tell from it: they have the
+// same constraints and are in the same sets. To be so is mutual, so that a set is found once, for its lowest permission.
+fn put_alike(plan: &[u32], class: u32, alike: &mut [u32; 1024])
+    requires { ⌜ (class < 32) × (planEntries ≤ length (now plan)) × AlikeTable (now plan) (now alike) ⌝ }
+    ensures { λ _. ⌜ AlikeTable (now (plan .entry)) (now (alike .exit)) ⌝ }
+{
+    let mut left = not_transition(class);
+    while left != 0 {
+        let q = lowest(left);
+        let at = (32 * class + q) as usize;
+        let same = same_sets(plan, class, plan[EVENT_SETS_START + at]);
+        let set = left & plan[GROUPS_START + at] & same;
+        share(class, set, alike);
+        left = without(left, with_bit(set, q));
+    }
 }
 
 // For each event of the policy's classes but process transition, which is like no other, the permissions of its class that a search
@@ -69,12 +90,10 @@ fn alike_table(classes: u32, plan: &[u32]) -> [u32; 1024]
     ensures { λ r. ⌜ AlikeTable (now (plan .entry)) r ⌝ }
 {
     let mut alike = [0u32; 1024];
-    let end = 32 * (classes + 1);
-    let mut event = Event::TRANSITION_CODE + 1;
-    while event < end {
-        let at = event as usize;
-        alike[at] = same_sets(plan, event);
-        event += 1;
+    let mut class: u32 = 1;
+    while class <= classes {
+        put_alike(plan, class, &mut alike);
+        class += 1;
     }
     alike
 }

@@ -278,12 +278,10 @@ module _ {s plan : List ℕ} {t₀ : Task} (A : Given s plan t₀) where
               (λ k. k)
               (split-le (firstPlace n (at % 4096) * K) w)
 
-      -- the context at place y is no target
-      pub not-target : {e y : ℕ} → Turn G back queue head tail stop depth u e (y * K) → y < contextCount n
-          → flow (policyOf s) (eventOf e) x (contextAtIndex n y) ≡ false → Turn G back queue head tail stop depth u e ((y + 1) * K)
-      not-target {e} {y} t h f =
-          pass-to ((y + 1) * K) t
-          (λ w lo hi ed. absurd (clash (edge-flow (room (y + 1) w (omega arith) hi) ed) (ap (λ (i : ℕ). flow (policyOf s) (eventOf e) x (contextAtIndex n i)) (place-is e y w lo hi) ∙ f)))
+      -- the contexts from one place to below another lead nowhere that is new
+      pub skip-to : {e a b : ℕ} → Turn G back queue head tail stop depth u e (a * K) → b ≤ contextCount n
+          → ((w : ℕ) → w < G .k → a ≤ placeOf K w → placeOf K w < b → Through G back u e w) → Turn G back queue head tail stop depth u e (b * K)
+      skip-to {b = b} t h th = pass-to (b * K) t (λ w lo hi. th w (room b w h hi) (place-le (states-some t₀) lo) (place-lt (states-some t₀) hi))
 
       -- the contexts of the step's type are done
       pub swept-to : (at : ℕ) → at % 4096 ≤ n .types → Turn G back queue head tail stop depth u (at / 4096) (firstPlace n (at % 4096 + 1) * K)

@@ -1,12 +1,11 @@
 -- The invariants of the three loops, and how each step of the code keeps them.
 use mathlib.Core.Path.{_≡_, refl, sym, _∙_, ap, subst}
-use mathlib.Core.Bool.{Bool, true, false, not}
+use mathlib.Core.Bool.{Bool, true, false}
 use mathlib.Core.List.{List}
-use mathlib.Core.Logic.{_⊎_, inl, inr, ⊎-elim}
-use Prim.Native.Nat.{ℕ, zero, _+_, _*_, _/_, _%_, _^_, _≤_, _<_}
+use mathlib.Core.Logic.{_⊎_, ⊎-elim}
+use Prim.Native.Nat.{ℕ, zero, _+_, _-_, _*_, _/_, _%_, _^_, _≤_, _<_}
 use native.Mathlib.Nat.{eq-or-lt-of-le, zero-mul}
 use native.Mathlib.Omega.{arith}
-use borrow.Author.Tests.{not-true, not-false}
 use lib.ListN.{getD, set}
 use Rattle.base.specs.Ranges.{Within}
 use Rattle.base.proofs.BoolLaws.{first-false}
@@ -14,21 +13,19 @@ use Rattle.policy_image.specs.declared.counts.Counts.{Counts}
 use Rattle.policy_image.specs.Policy.{policyOf}
 use Rattle.context.specs.declared.Context.{Context}
 use Rattle.context.specs.Codes.{eventOf}
-use Rattle.context.specs.Ranges.{ContextInRange}
-use Rattle.context.specs.inner.Places.{contextCount, contextAtIndex, firstPlace, OfType}
+use Rattle.context.specs.inner.Places.{contextCount, contextAtIndex, pairCount, firstPlace, OfType}
 use Rattle.access.specs.Authorization.{flow}
-use Rattle.goal_model.specs.Images.{meetsρμ}
 use Rattle.plan_tables.specs.inner.Tables.{typeEntries}
 use Rattle.plan.specs.inner.Entries.{eventSetsAt}
-use Rattle.plan.specs.inner.Plan.{special, Ready, PolicyPlan}
-use Rattle.context.proofs.TypeLaws.{type-is, start-next, of-below}
+use Rattle.context.proofs.TypeLaws.{start-next, of-below}
+use Rattle.search_constraints.specs.inner.Asked.{pairAt}
 use Rattle.search_steps.specs.declared.nearest.Asker.{Asker}
 use Rattle.search_steps.specs.declared.nearest.Offer.{Offer}
 use Rattle.search_steps.specs.inner.Nearest.{keptOf, stepsEnd, NearestOf}
-use Rattle.search_steps.specs.inner.Steps.{specialBy, heldBy, Offering, NextOffer, Facing}
-use Rattle.search_steps.specs.inner.Sweeps.{sweepAt, Sweeps}
-use Rattle.search_steps.proofs.FlowLaws.{no-flow}
-use Rattle.search_steps.proofs.OfferLaws.{next-law, special-is, held-is}
+use Rattle.search_steps.specs.inner.Steps.{NextOffer}
+use Rattle.search_steps.specs.inner.Pairs.{pairsEnd, inPairs}
+use Rattle.search_steps.proofs.NearestLaws.{kept-few}
+use Rattle.search_steps.proofs.OfferLaws.{next-law}
 use Rattle.search_graph.specs.declared.arrival.Arrival.{Arrival}
 use Rattle.search_graph.specs.declared.arrival.Arrival.the-variants.{Enter, Dropped, Broken}
 use Rattle.search_graph.specs.declared.task.Task.{Task}
@@ -40,11 +37,12 @@ use Rattle.search_graph.specs.inner.Arrivals.{Lands, Arriving}
 use Rattle.search_graph.specs.inner.Tasks.{statesIn, Given, modelBy, watchBy, graphOf, Stands, AskedStep, Faced}
 use Rattle.search_graph.specs.inner.Blocks.{Asks, Ahead, FirstStep}
 use Rattle.search_graph.proofs.SearchLaws.{enter, take-up, turn-chain, chain-bound, end-turn}
-use Rattle.search_graph.proofs.LevelLaws.{step-on, step-past, few-types, range-at, chain-open, edge-free, edge-flow, not-target, swept-to, dropped, enter-below, entered, seen, broken}
+use Rattle.search_graph.proofs.LevelLaws.{step-on, step-past, few-types, range-at, chain-open, edge-free, edge-flow, swept-to, dropped, enter-below, entered, seen, broken}
 use Rattle.search_memory.specs.declared.turn.Node.{Node}
-use Rattle.search_memory.specs.inner.Memory.{AskerOf, TakenUp, FirstFrom, Remembered, AllSettled, Memory}
+use Rattle.search_memory.specs.inner.Opens.{slotOf, openKey, openAt, SlotOpened, PairsTaken}
+use Rattle.search_memory.specs.inner.Memory.{AskerOf, TakenUp, FirstFrom, Remembered, Memory}
 use Rattle.search_memory.proofs.StandLaws.{asks-from}
-use Rattle.search_memory.proofs.MemoryLaws.{passed, edge-like, memory-swept, memory-spent}
+use Rattle.search_memory.proofs.MemoryLaws.{passed, edge-like, memory-opened, memory-swept, memory-spent}
 use Rattle.search_memory.proofs.ShutLaws.{first-step-law}
 
 -- what a search holds: the links back, the queue, what it remembers, the ends of the queue and of the level, and the level's number
@@ -53,17 +51,18 @@ pub record Search : Type 0 where
   pub queue : List ℕ
   pub swept : List ℕ
   pub spent : List ℕ
+  pub opens : List ℕ
   pub head : ℕ
   pub tail : ℕ
   pub stop : ℕ
   pub depth : ℕ
 
--- .. after more is swept, and after a node is entered
-abbrev pub sweptTo : Search → List ℕ → Search
-sweptTo z swept = record { back = z .back; queue = z .queue; swept = swept; spent = z .spent; head = z .head; tail = z .tail; stop = z .stop; depth = z .depth }
+-- .. after more is swept, or looked up, and after a node is entered
+abbrev pub sweptTo : Search → List ℕ → List ℕ → Search
+sweptTo z swept opens = record { back = z .back; queue = z .queue; swept = swept; spent = z .spent; opens = opens; head = z .head; tail = z .tail; stop = z .stop; depth = z .depth }
 
 abbrev pub enteredTo : Search → List ℕ → List ℕ → ℕ → Search
-enteredTo z back queue tail = record { back = back; queue = queue; swept = z .swept; spent = z .spent; head = z .head; tail = tail; stop = z .stop; depth = z .depth }
+enteredTo z back queue tail = record { back = back; queue = queue; swept = z .swept; spent = z .spent; opens = z .opens; head = z .head; tail = tail; stop = z .stop; depth = z .depth }
 
 -- in the turn of u, the edges by events before e, and by e to nodes before w, are done
 abbrev pub Done : List ℕ → List ℕ → Task → Search → ℕ → ℕ → ℕ → Type 0
@@ -72,7 +71,7 @@ Done s plan t z u e w = Turn (graphOf s plan t) (z .back) (z .queue) (z .head) (
 -- what is known in the turn of u, the node v that is taken up
 pub record InTurn (s plan : List ℕ) (t : Task) (z : Search) (u : ℕ) (v : Node) : Type 0 where
   pub given : Given s plan t
-  pub memory : Memory s plan t (z .back) (z .swept) (z .spent)
+  pub memory : Memory s plan t (z .back) (z .swept) (z .spent) (z .opens)
   pub stands : Stands t u (v .x) (v .asker .state)
   pub asker : AskerOf (t .mode) (z .spent) (v .x) (v .asker .state) (v .asker)
 
@@ -92,13 +91,21 @@ pub record Inner (s plan : List ℕ) (t : Task) (z : Search) (u : ℕ) (v : Node
   pub high : y ≤ firstPlace (t .counts) (o .step % 4096 + 1)
   pub turn : Done s plan t z u (o .step / 4096) (y * statesIn t)
 
+-- the pairs of a set, to which the step of the offer flows; of the others of its type none is left, or it does not flow there
+pub record Todo (s plan : List ℕ) (t : Task) (opens : List ℕ) (v : Node) (o : Offer) (pairs : List ℕ) : Type 0 where
+  pub key : getD opens (slotOf (t .counts .types) (o .step % 4096) (keptOf (v .asker) (eventSetsAt plan (o .step / 4096)))) 0 ≡ openKey (o .step % 4096) (keptOf (v .asker) (eventSetsAt plan (o .step / 4096)))
+  pub flows : (j : ℕ) → j < pairsEnd → inPairs pairs j ≡ true → (j < pairCount (t .counts)) × (flow (policyOf s) (eventOf (o .step / 4096)) (v .x) (pairAt (t .counts) (o .step % 4096) j) ≡ true)
+  pub rest : (j : ℕ) → j < pairCount (t .counts) → inPairs pairs j ≡ false
+      → (openAt opens (slotOf (t .counts .types) (o .step % 4096) (keptOf (v .asker) (eventSetsAt plan (o .step / 4096)))) j ≡ false)
+      ⊎ (flow (policyOf s) (eventOf (o .step / 4096)) (v .x) (pairAt (t .counts) (o .step % 4096) j) ≡ false)
+
 -- the node at the head of the queue, whose level is the one under way or the next
 pub node-below : {G : Graph} {back queue : List ℕ} {head tail stop depth : ℕ} → Inv G back queue head tail stop depth → head < tail → getD queue head 0 < G .k
 node-below i h =
     ⊎-elim (λ q. chain-bound (turn-chain (take-up (enter i q h) h))) (λ k. chain-bound (turn-chain (take-up i k))) (eq-or-lt-of-le (i .head-stop))
 
 -- ---- a turn begins
-module _ {s plan : List ℕ} {t : Task} {z : Search} {u : ℕ} {v : Node} (A : Given s plan t) (N : Memory s plan t (z .back) (z .swept) (z .spent)) (U : TakenUp plan t (z .spent) u v) where
+module _ {s plan : List ℕ} {t : Task} {z : Search} {u : ℕ} {v : Node} (A : Given s plan t) (N : Memory s plan t (z .back) (z .swept) (z .spent) (z .opens)) (U : TakenUp plan t (z .spent) u v) where
   within-begin : InTurn s plan t z u v
   within-begin = record { given = A; memory = N; stands = U .stands; asker = U .asker }
 
@@ -143,19 +150,26 @@ module _ {s plan : List ℕ} {t : Task} {z : Search} {u : ℕ} {v : Node} {o : O
     middle-end = end-turn (I .turn) (omega arith)
 
     pub middle-spent : {asks : Bool} {spent′ : List ℕ} → Asks (policyOf s) (t .counts) plan (v .x) asks → Remembered (z .spent) spent′ (v .x .ty) (v .asker .state) asks
-        → Memory s plan t (z .back) (z .swept) spent′
+        → Memory s plan t (z .back) (z .swept) spent′ (z .opens)
     middle-spent C R =
         let w = I .within in
         memory-spent (w .given) (w .memory) (w .stands) (chain-bound (turn-chain (I .turn))) (w .asker) (I .turn) h C R
 
-  pub inner-begin : Middle s plan t z u v o → o .step < stepsEnd → Inner s plan t z u v o (firstPlace (t .counts) (o .step % 4096))
-  inner-begin I h =
+  pub inner-begin : {opens′ r : List ℕ} → Middle s plan t z u v o → o .step < stepsEnd → SlotOpened (t .counts) plan (z .opens) opens′ (o .step % 4096) (keptOf (v .asker) (eventSetsAt plan (o .step / 4096))) r
+      → Inner s plan t (sweptTo z (z .swept) opens′) u v o (firstPlace (t .counts) (o .step % 4096))
+  inner-begin I h P =
+      let w = I .within in
       record {
-        within = I .within;
+        within = record {
+          given = w .given;
+          memory = memory-opened (w .given) (other-type (w .given) (I .ahead h)) (kept-few (v .asker) (eventSetsAt plan (o .step / 4096)) (w .asker .few)) P (w .memory);
+          stands = w .stands;
+          asker = w .asker;
+        };
         below = h;
         ahead = I .ahead h;
         low = omega arith;
-        high = omega (arith, start-next (I .within .given .readable .sets .counts .countable) (o .step % 4096));
+        high = omega (arith, start-next (w .given .readable .sets .counts .countable) (o .step % 4096));
         turn = I .turn;
       }
 
@@ -169,26 +183,19 @@ module _ {s plan : List ℕ} {t : Task} {z : Search} {u : ℕ} {v : Node} {o : O
     node-in : u < graphOf s plan t .k
     node-in = chain-bound (turn-chain (I .turn))
 
-    pub inner-sweep : Sweeps (t .counts) plan (sweepAt (t .counts) plan (o .step))
-    inner-sweep = record { sets = refl; type = other-type A (I .ahead); start = refl; end = refl }
-
-    conditions : specialBy plan (o .step / 4096) ≡ special (policyOf s) (eventOf (o .step / 4096))
-    conditions = special-is (A .planned .policy) (event-few A (I .ahead))
-
     -- ---- after all contexts of the type
     module _ (h : firstPlace (t .counts) (o .step % 4096 + 1) ≤ y) where
       all-done : Done s plan t z u (o .step / 4096) (firstPlace (t .counts) (o .step % 4096 + 1) * statesIn t)
       all-done = subst (λ (k : ℕ). Done s plan t z u (o .step / 4096) (k * statesIn t)) (let q : y ≡ firstPlace (t .counts) (o .step % 4096 + 1) = omega (arith, I .high) in q) (I .turn)
 
-      pub inner-swept : {settled : Bool} {swept′ : List ℕ}
-          → (settled ≡ true → (specialBy plan (o .step / 4096) ≡ false) ⊎ AllSettled plan t (z .back) (v .asker .state) (eventSetsAt plan (o .step / 4096)) (firstPlace (t .counts) (o .step % 4096)) (firstPlace (t .counts) (o .step % 4096 + 1)))
-          → Remembered (z .swept) swept′ (o .step % 4096) (keptOf (v .asker) (eventSetsAt plan (o .step / 4096))) settled → Memory s plan t (z .back) swept′ (z .spent)
-      inner-swept D R =
-          memory-swept A (I .within .memory) S node-in (I .within .asker) (I .ahead) all-done (λ d. ⊎-elim (λ f. inl (sym conditions ∙ f)) (λ F. inr (F s A)) (D d)) R
+      pub inner-swept : {pairs opens′ swept′ : List ℕ} {settled : Bool} → Todo s plan t (z .opens) v o pairs
+          → PairsTaken (t .counts) (z .opens) opens′ (o .step % 4096) (keptOf (v .asker) (eventSetsAt plan (o .step / 4096))) pairs settled
+          → Remembered (z .swept) swept′ (o .step % 4096) (keptOf (v .asker) (eventSetsAt plan (o .step / 4096))) settled → Memory s plan t (z .back) swept′ (z .spent) opens′
+      inner-swept T P R = memory-swept A (I .within .memory) S node-in (I .within .asker) (I .ahead) all-done (T .key) (λ j l b. T .flows j l b .1) P R
 
-      pub inner-end : {swept′ : List ℕ} {r : Offer} → Memory s plan t (z .back) swept′ (z .spent) → NearestOf plan swept′ (v .asker) (v .x .ty) (o .step + 1) r
-          → Middle s plan t (sweptTo z swept′) u v r
-      inner-end {swept′} {r} N O₀ =
+      pub inner-end : {swept′ opens′ : List ℕ} {r : Offer} → Memory s plan t (z .back) swept′ (z .spent) opens′ → NearestOf plan swept′ (v .asker) (v .x .ty) (o .step + 1) r
+          → Middle s plan t (sweptTo z swept′ opens′) u v r
+      inner-end {swept′} {opens′} {r} N O₀ =
           record {
             within = record { given = A; memory = N; stands = S; asker = I .within .asker };
             high = O .high;
@@ -222,36 +229,9 @@ module _ {s plan : List ℕ} {t : Task} {z : Search} {u : ℕ} {v : Node} {o : O
       pub inner-fits : y + 1 < 2 ^ 32
       inner-fits = omega (arith, inner-place, A .readable .sets .counts .countable .few)
 
-      held : {b : Bool} → b ≡ heldBy (t .counts) plan (o .step % 4096) y → b ≡ meetsρμ (policyOf s) (contextAtIndex (t .counts) y)
-      held q = q ∙ held-is (A .planned .policy) inner-type
-
-      -- a context that meets ρ and μ may be asked whether it is a target
-      pub inner-target : {b : Bool} → b ≡ heldBy (t .counts) plan (o .step % 4096) y → not b ≡ false
-          → Ready s (t .counts) × PolicyPlan s (t .counts) plan × ContextInRange (t .counts) (v .x) × (y < contextCount (t .counts))
-          × Facing (policyOf s) plan (v .x) (o .step / 4096) (contextAtIndex (t .counts) y .ty) (o .entry) (specialBy plan (o .step / 4096))
-          × (meetsρμ (policyOf s) (contextAtIndex (t .counts) y) ≡ true)
-      inner-target {b} q k = (A .ready, A .planned .policy, S .range, inner-place, facing, sym (held q) ∙ not-false b k)
-        where
-          ty : contextAtIndex (t .counts) y .ty ≡ o .step % 4096
-          ty = type-is (A .readable .sets .counts .countable) (o .step % 4096) y (I .low) h
-
-          facing : Facing (policyOf s) plan (v .x) (o .step / 4096) (contextAtIndex (t .counts) y .ty) (o .entry) (specialBy plan (o .step / 4096))
-          facing =
-              record {
-                meets = I .ahead .meets;
-                offering = subst (λ (k : ℕ). Offering (policyOf s) plan (v .x .ty) (o .step / 4096) k (o .entry)) (sym ty) (I .ahead .offering);
-                conditions = conditions;
-              }
-
       -- the event goes on to the context
       asked : AskedStep (t .counts) plan (v .x) (o .step / 4096)
       asked = record { high = let k = event-few A (I .ahead) in omega arith; free = λ _. I .ahead .free }
-
-      pub inner-skip : {b : Bool} → b ≡ flow (policyOf s) (eventOf (o .step / 4096)) (v .x) (contextAtIndex (t .counts) y) → b ≡ false → Done s plan t z u (o .step / 4096) ((y + 1) * statesIn t)
-      inner-skip p f = not-target A S (I .turn) inner-place (sym p ∙ f)
-
-      pub inner-unheld : {b : Bool} → b ≡ heldBy (t .counts) plan (o .step % 4096) y → not b ≡ true → Done s plan t z u (o .step / 4096) ((y + 1) * statesIn t)
-      inner-unheld {b} q k = not-target A S (I .turn) inner-place (no-flow (policyOf s) (eventOf (o .step / 4096)) (v .x) (contextAtIndex (t .counts) y) (sym (held q) ∙ not-true b k))
 
       module _ {r : Arrival} (Z : Arriving plan t (v .asker .state) (eventSetsAt plan (o .step / 4096)) y r) where
         abbrev goes : ℕ
@@ -270,13 +250,13 @@ module _ {s plan : List ℕ} {t : Task} {z : Search} {u : ℕ} {v : Node} {o : O
         inner-dropped q = dropped A S (I .turn) inner-place (lands q)
 
         -- where the context is a target
-        module _ {b : Bool} (p : b ≡ flow (policyOf s) (eventOf (o .step / 4096)) (v .x) (contextAtIndex (t .counts) y)) (yes-b : b ≡ true) where
+        module _ (flows : flow (policyOf s) (eventOf (o .step / 4096)) (v .x) (contextAtIndex (t .counts) y) ≡ true) where
           faced : Faced (policyOf s) (t .counts) plan (v .x) (o .step / 4096) y
           faced =
               record {
                 high = let k = inner-place in omega arith;
                 free = λ _. not-excepted;
-                flows = λ _. sym p ∙ yes-b;
+                flows = λ _. flows;
               }
 
           few : o .step / 4096 < 1024
@@ -290,7 +270,7 @@ module _ {s plan : List ℕ} {t : Task} {z : Search} {u : ℕ} {v : Node} {o : O
           inner-broken q = broken A S (I .turn) inner-place few asked faced (lands q)
 
       -- the next context, with what is entered
-      pub inner-next : {back′ queue′ : List ℕ} {tail′ : ℕ} → Memory s plan t back′ (z .swept) (z .spent)
+      pub inner-next : {back′ queue′ : List ℕ} {tail′ : ℕ} → Memory s plan t back′ (z .swept) (z .spent) (z .opens)
           → Done s plan t (enteredTo z back′ queue′ tail′) u (o .step / 4096) ((y + 1) * statesIn t)
           → Inner s plan t (enteredTo z back′ queue′ tail′) u v o (y + 1)
       inner-next N k =

@@ -1,6 +1,6 @@
 -- What a search remembers stays true, and what it passes over by it leads to nodes that are entered.
 use mathlib.Core.Path.{_≡_, refl, sym, _∙_, ap, ap₂, subst}
-use mathlib.Core.Bool.{Bool, true, false}
+use mathlib.Core.Bool.{Bool, true, false, not, _&&_}
 use mathlib.Core.List.{List}
 use mathlib.Core.Logic.{_⊎_, inl, inr, ⊎-elim}
 use Prim.Native.Nat.{ℕ, _+_, _*_, _/_, _%_, _^_, _≤_, _<_}
@@ -13,26 +13,27 @@ use lib.Seq.{getD-set-same, getD-set-other}
 use Rattle.base.specs.Bits.{bit}
 use Rattle.base.proofs.BitLaws.{bit-or, bit-zero}
 use Rattle.base.proofs.Numbers.{split-eq, split-le, zeros}
-use Rattle.base.proofs.BoolLaws.{or-cases, or-left, first-false, clash}
+use Rattle.base.specs.Ranges.{Within}
+use Rattle.base.proofs.BoolLaws.{and-first, and-yes, or-cases, or-left, first-false, true-or-false, clash}
 use Rattle.policy_image.specs.declared.counts.Counts.{Counts}
 use Rattle.policy_image.specs.Policy.{policyOf}
 use Rattle.context.specs.declared.Context.{Context}
 use Rattle.context.specs.Codes.{eventOf}
 use Rattle.context.specs.inner.Places.{Countable, contextCount, contextAtIndex, firstPlace}
-use Rattle.context.proofs.PlaceLaws.{at-in-range}
 use Rattle.access.specs.Authorization.{flow}
 use Rattle.goal_image.specs.Goal.{γeChain}
 use Rattle.paths.specs.Model.{Model}
 use Rattle.goal_model.specs.Images.{meetsρμ}
 use Rattle.plan.specs.inner.Entries.{eventSetsAt}
 use Rattle.plan.specs.inner.Plan.{special}
-use Rattle.context.proofs.TypeLaws.{type-lt, type-le}
+use Rattle.context.proofs.TypeLaws.{type-le}
+use Rattle.search_constraints.specs.inner.Asked.{pairAt}
 use Rattle.search_steps.specs.declared.nearest.Asker.{Asker}
 use Rattle.search_steps.specs.declared.nearest.Offer.{Offer}
 use Rattle.search_steps.specs.inner.Nearest.{keptOf, PassedOver}
-use Rattle.search_steps.specs.inner.Steps.{Offering}
-use Rattle.search_steps.proofs.FlowLaws.{flow-class, flow-held, plain-same}
-use Rattle.search_steps.proofs.OfferLaws.{plain-flow}
+use Rattle.search_steps.specs.inner.Pairs.{inPairs}
+use Rattle.search_steps.proofs.NearestLaws.{kept-few}
+use Rattle.search_steps.proofs.FlowLaws.{flow-class, plain-same}
 use Rattle.search_graph.specs.declared.monitor.Mode.{Mode}
 use Rattle.search_graph.specs.declared.task.Task.{Task}
 use Rattle.search_graph.specs.inner.Graph.{Graph}
@@ -46,14 +47,17 @@ use Rattle.search_graph.proofs.SearchLaws.{clear-keep, turn-chain}
 use Rattle.search_graph.proofs.ModelLaws.{states-some}
 use Rattle.search_graph.proofs.ArrivalLaws.{by-of}
 use Rattle.search_graph.proofs.LevelLaws.{place-lt, place-le, whole, chain-open, edge-flow, edge-free, edge-freeE, edge-at}
-use Rattle.search_memory.specs.inner.Memory.{keptBy, Marks, Remembered, AskerOf, Settled, Memory}
+use Rattle.search_memory.specs.inner.Opens.{slotOf, openKey, openAt, SlotOpened, PairsTaken, nodePair}
+use Rattle.search_memory.specs.inner.Memory.{keptBy, Marks, Remembered, AskerOf, Opens, Memory}
 use Rattle.search_memory.proofs.KeptLaws.{kept, step-by-kept}
-use Rattle.search_memory.proofs.StandLaws.{state-small}
+use Rattle.search_memory.proofs.StandLaws.{state-small, stands-any, kept-small}
+use Rattle.search_memory.proofs.OpenLaws.{opens-begin, opens-keep, opens-opened, key-same, same-open, pair-is, pair-few}
 
 -- nothing is remembered at first
-pub memory-begin : (s plan : List ℕ) (t : Task) (back : List ℕ) → Memory s plan t back (replicate 256 0) (replicate 256 0)
+pub memory-begin : (s plan : List ℕ) (t : Task) (back : List ℕ) → Memory s plan t back (replicate 256 0) (replicate 256 0) (replicate 5120 0)
 memory-begin s plan t back =
     record {
+      left = opens-begin s plan t back;
       swept-size = length-replicate {A = ℕ} 256 0;
       spent-size = length-replicate {A = ℕ} 256 0;
       swept-clear = λ u e w lu lw ed b. absurd (clash b (empty (typeOf t w) _));
@@ -64,14 +68,27 @@ memory-begin s plan t back =
     empty t k = ap (λ (v : ℕ). bit v k) (zeros 256 t) ∙ bit-zero k
 
 -- a node is entered
-pub memory-keep : {s plan : List ℕ} {t : Task} {back swept spent : List ℕ} (v x : ℕ) → getD back v 0 ≡ 0
-    → Memory s plan t back swept spent → Memory s plan t (set back v x) swept spent
+pub memory-keep : {s plan : List ℕ} {t : Task} {back swept spent opens : List ℕ} (v x : ℕ) → getD back v 0 ≡ 0
+    → Memory s plan t back swept spent opens → Memory s plan t (set back v x) swept spent opens
 memory-keep v x z M =
     record {
+      left = opens-keep v x z (M .left);
       swept-size = M .swept-size;
       spent-size = M .spent-size;
       swept-clear = λ u e w lu lw ed b. clear-keep v x z (M .swept-clear u e w lu lw ed b);
       spent-clear = λ u e w lu lw ed p b. clear-keep v x z (M .spent-clear u e w lu lw ed p b);
+    }
+
+-- a slot is looked up
+pub memory-opened : {s plan : List ℕ} {t : Task} {back swept spent opens opens′ r : List ℕ} {o k : ℕ} → Given s plan t → Within 1 (t .counts .types) o → k < 64
+    → SlotOpened (t .counts) plan opens opens′ o k r → Memory s plan t back swept spent opens → Memory s plan t back swept spent opens′
+memory-opened A w lk P M =
+    record {
+      left = opens-opened A w lk (M .left) P;
+      swept-size = M .swept-size;
+      spent-size = M .spent-size;
+      swept-clear = M .swept-clear;
+      spent-clear = M .spent-clear;
     }
 
 -- a bit of a set after one is added
@@ -131,10 +148,6 @@ module _ {s plan : List ℕ} {t₀ : Task} (A : Given s plan t₀) where
   place-in : {v : ℕ} → v < G .k → placeOf K v < contextCount n
   place-in h = place-lt (states-some t₀) h
 
-  stands-any : (u : ℕ) → u < G .k → Stands t₀ u (contextAtIndex n (placeOf K u)) (stateOf K u)
-  stands-any u h =
-      record { below = place-in h; place = refl; range = at-in-range n (placeOf K u) (C₀ .roles) (C₀ .users) (place-in h); at = refl }
-
   -- an event that flows is one of a class of the policy
   event-in : (e : ℕ) (x y : Context) → flow (policyOf s) (eventOf e) x y ≡ true → e / 32 < 32
   event-in e x y f = let w = flow-class {s = s} (eventOf e) x y (A .ready .sound) f .high in omega (arith, A .ready .sound .range .classes .high)
@@ -152,11 +165,12 @@ module _ {s plan : List ℕ} {t₀ : Task} (A : Given s plan t₀) where
         edge-at A S e₀ (placeOf K w) (place-in lw) (whole K w ∙ ap (λ (i : ℕ). placeOf K w * K + i) st) (subst (λ (i : ℕ). i < K) st (state-lt w)) first free freeE f
         (λ z. subst (λ (i : ℕ). T (W .bad i)) st (ed .kept z))
 
-  -- ---- what is passed over
-  module _ {back swept spent : List ℕ} (N : Memory s plan t₀ back swept spent) {u state : ℕ} {x : Context} (S : Stands t₀ u x state) (lu : u < G .k) {a : Asker} (Q : AskerOf m spent x state a) where
-    kept-is : (by : ℕ) → keptOf a by ≡ kept m (stateOf K u) by
-    kept-is by = ap₂ (λ (i j : ℕ). bitAnd i (bitOr j (by / 2 ^ 7))) (Q .state-is ∙ S .at) (Q .keeps-are)
+  -- what an event keeps of the asker's state
+  pub kept-is : {spent : List ℕ} {u state : ℕ} {x : Context} {a : Asker} → Stands t₀ u x state → AskerOf m spent x state a → (by : ℕ) → keptOf a by ≡ kept m (stateOf K u) by
+  kept-is S Q by = ap₂ (λ (i j : ℕ). bitAnd i (bitOr j (by / 2 ^ 7))) (Q .state-is ∙ S .at) (Q .keeps-are)
 
+  -- ---- what is passed over
+  module _ {back swept spent opens : List ℕ} (N : Memory s plan t₀ back swept spent opens) {u state : ℕ} {x : Context} (S : Stands t₀ u x state) (lu : u < G .k) {a : Asker} (Q : AskerOf m spent x state a) where
     own-type : x .ty ≡ typeOf t₀ u
     own-type = ap (λ (z : Context). z .ty) (S .place)
 
@@ -164,7 +178,7 @@ module _ {s plan : List ℕ} {t₀ : Task} (A : Given s plan t₀) where
     passed {i} {w} lw ed (inl c) =
         ⊎-elim
         (λ (b : barred plan i ≡ true). absurd (clash b (edge-freeE A S ed)))
-        (λ b. N .swept-clear u i w lu lw ed (ap (bit (getD swept (typeOf t₀ w) 0)) (sym (kept-is (eventSetsAt plan i))) ∙ b))
+        (λ b. N .swept-clear u i w lu lw ed (ap (bit (getD swept (typeOf t₀ w) 0)) (sym (kept-is S Q (eventSetsAt plan i))) ∙ b))
         (or-cases (barred plan i) (bit (getD swept (typeOf t₀ w) 0) (keptOf a (eventSetsAt plan i))) c)
     passed {i} {w} lw ed (inr c) =
         N .spent-clear u i w lu lw ed (sym (A .planned .policy .tables .special-at (i / 32) (i % 32) (event-in i x (contextAtIndex n (placeOf K w)) (edge-flow A S lw ed))) ∙ c .1)
@@ -185,6 +199,12 @@ module _ {s plan : List ℕ} {t₀ : Task} (A : Given s plan t₀) where
       abbrev e₀ : ℕ
       e₀ = o .step / 4096
 
+      abbrev kept₀ : ℕ
+      kept₀ = keptOf a (eventSetsAt plan e₀)
+
+      abbrev slot : ℕ
+      slot = slotOf (n .types) (o .step % 4096) kept₀
+
       not-excepted : barred plan e₀ ≡ false
       not-excepted = first-false (barred plan e₀) (bit (getD swept (o .step % 4096) 0) (keptOf a (eventSetsAt plan e₀))) (O .unclosed)
 
@@ -194,70 +214,93 @@ module _ {s plan : List ℕ} {t₀ : Task} (A : Given s plan t₀) where
           step-by-kept m (stateOf K u′) state (codeOf n K w) (state-small (A .readable) u′) (subst (λ (i : ℕ). i < 64) (Q .state-is) (Q .few)) (by-at e) (by-at e₀)
           (sym key ∙ ap₂ (λ (i j : ℕ). bitAnd i (bitOr j (eventSetsAt plan e₀ / 2 ^ 7))) (Q .state-is) (Q .keeps-are))
 
-      arrival-held : (u′ e w : ℕ) → u′ < G .k → w < G .k → G .Edge u′ e w → meetsρμ (policyOf s) (contextAtIndex n (placeOf K w)) ≡ true
-      arrival-held u′ e w lu′ lw ed = flow-held (policyOf s) (eventOf e) (contextAtIndex n (placeOf K u′)) (contextAtIndex n (placeOf K w)) (edge-flow A (stands-any u′ lu′) lw ed) .1
-
-      -- by an event that is not special it is one from u
-      swept-edge : special (policyOf s) (eventOf e₀) ≡ false → (u′ e w : ℕ) → u′ < G .k → w < G .k → G .Edge u′ e w → typeOf t₀ w ≡ o .step % 4096
-          → keptOf a (eventSetsAt plan e₀) ≡ keptBy m plan (stateOf K u′) e → Clear G back w
-      swept-edge plain u′ e w lu′ lw ed ty key =
-          let y : Context = contextAtIndex n (placeOf K w) in
-          let O′ : Offering (policyOf s) plan (x .ty) e₀ (y .ty) (o .entry) = subst (λ (i : ℕ). Offering (policyOf s) plan (x .ty) e₀ i (o .entry)) (sym ty) (O .offering) in
-          let f₀ : flow (policyOf s) (eventOf e₀) x y ≡ true = plain-flow x y (O .meets) (arrival-held u′ e w lu′ lw ed) O′ plain in
-          t .targets w (below w ty) (edge-from S (chain-open A (turn-chain t)) (O .free) u′ e e₀ w lw ed not-excepted f₀ (kept-step u′ e w key))
+      -- an edge to a context that the event flows to from u is one from u
+      target-clear : (u′ e w : ℕ) → w < G .k → G .Edge u′ e w → typeOf t₀ w ≡ o .step % 4096 → keptOf a (eventSetsAt plan e₀) ≡ keptBy m plan (stateOf K u′) e
+          → flow (policyOf s) (eventOf e₀) x (contextAtIndex n (placeOf K w)) ≡ true → Clear G back w
+      target-clear u′ e w lw ed ty key f =
+          t .targets w below (edge-from S (chain-open A (turn-chain t)) (O .free) u′ e e₀ w lw ed not-excepted f (kept-step u′ e w key))
         where
-          below : (w : ℕ) → typeOf t₀ w ≡ o .step % 4096 → w < firstPlace n (o .step % 4096 + 1) * K
-          below w ty =
+          below : w < firstPlace n (o .step % 4096 + 1) * K
+          below =
               ⊎-elim
               (λ (h : firstPlace n (o .step % 4096 + 1) * K ≤ w). absurd (let z = type-le (C₀) (o .step % 4096 + 1) (placeOf K w) (place-le (states-some t₀) h) in omega arith))
               (λ h. h)
               (split-le (firstPlace n (o .step % 4096 + 1) * K) w)
 
-      -- where all that could be entered is entered, it leads there
-      settled-edge : Settled s plan t₀ back state (eventSetsAt plan e₀) (firstPlace n (o .step % 4096)) (firstPlace n (o .step % 4096 + 1)) → (u′ e w : ℕ) → u′ < G .k → w < G .k → G .Edge u′ e w
-          → typeOf t₀ w ≡ o .step % 4096 → keptOf a (eventSetsAt plan e₀) ≡ keptBy m plan (stateOf K u′) e → Clear G back w
-      settled-edge F u′ e w lu′ lw ed ty key =
-          F .all e₀ w refl from to (arrival-held u′ e w lu′ lw ed) (ed .state ∙ kept-step u′ e w key) (ed .kept)
-        where
-          from : firstPlace n (o .step % 4096) ≤ placeOf K w
-          from =
-              ⊎-elim (λ h. h) (λ (h : placeOf K w < firstPlace n (o .step % 4096)). absurd (let z = type-lt (C₀) (o .step % 4096) (placeOf K w) h in omega arith))
-              (split-le (firstPlace n (o .step % 4096)) (placeOf K w))
+      -- the pairs that the step leads to are taken out of what is left
+      module _ {opens′ pairs : List ℕ} {settled : Bool} (key : getD opens slot 0 ≡ openKey (o .step % 4096) kept₀)
+          (flows : (j : ℕ) → j < 256 → inPairs pairs j ≡ true → flow (policyOf s) (eventOf e₀) x (pairAt n (o .step % 4096) j) ≡ true)
+          (P : PairsTaken n opens opens′ (o .step % 4096) kept₀ pairs settled) where
+        left : (j : ℕ) → j < 256 → openAt opens′ slot j ≡ (openAt opens slot j && not (inPairs pairs j))
+        left j h = P .words (j / 64) (omega arith) .at (j % 64)
 
-          to : placeOf K w < firstPlace n (o .step % 4096 + 1)
-          to =
-              ⊎-elim (λ (h : firstPlace n (o .step % 4096 + 1) ≤ placeOf K w). absurd (let z = type-le (C₀) (o .step % 4096 + 1) (placeOf K w) h in omega arith)) (λ h. h)
-              (split-le (firstPlace n (o .step % 4096 + 1)) (placeOf K w))
+        taken-clear : (u′ e w : ℕ) → u′ < G .k → w < G .k → G .Edge u′ e w → openKey (o .step % 4096) kept₀ ≡ openKey (typeOf t₀ w) (keptBy m plan (stateOf K u′) e) → openAt opens′ slot (nodePair t₀ w) ≡ false → Clear G back w
+        taken-clear u′ e w lu′ lw ed q f =
+            ⊎-elim
+            (λ (b : inPairs pairs (nodePair t₀ w) ≡ true).
+            target-clear u′ e w lw ed (sym (D .0)) (D .1)
+            (ap (λ (y : Context). flow (policyOf s) (eventOf e₀) x y) (sym (pair-is A lw) ∙ ap (λ (i : ℕ). pairAt n i (nodePair t₀ w)) (sym (D .0))) ∙ flows (nodePair t₀ w) (pair-few A lw) b))
+            (λ (b : inPairs pairs (nodePair t₀ w) ≡ false).
+            N .left .clear slot u′ e w few lu′ lw ed (key ∙ q)
+            (sym (and-yes (openAt opens slot (nodePair t₀ w)) (not (inPairs pairs (nodePair t₀ w))) (ap not b)) ∙ sym (left (nodePair t₀ w) (pair-few A lw)) ∙ f))
+            (true-or-false (inPairs pairs (nodePair t₀ w)))
+          where
+            few : slot < 1024
+            few = omega arith
 
-      pub memory-swept : {settled : Bool} {swept′ : List ℕ}
-          → (settled ≡ true → (special (policyOf s) (eventOf e₀) ≡ false) ⊎ Settled s plan t₀ back state (eventSetsAt plan e₀) (firstPlace n (o .step % 4096)) (firstPlace n (o .step % 4096 + 1)))
-          → Remembered swept swept′ (o .step % 4096) (keptOf a (eventSetsAt plan e₀)) settled → Memory s plan t₀ back swept′ spent
-      memory-swept D R =
-          record {
-            swept-size = R .size ∙ N .swept-size;
-            spent-size = N .spent-size;
-            spent-clear = N .spent-clear;
-            swept-clear = λ u′ e w lu′ lw ed b.
-                ⊎-elim (λ d. N .swept-clear u′ e w lu′ lw ed d)
-                (λ d. ⊎-elim (λ f. swept-edge f u′ e w lu′ lw ed (d .0) (d .2)) (λ F. settled-edge F u′ e w lu′ lw ed (d .0) (d .2)) (D (d .1)))
-                (R .only (typeOf t₀ w) (keptBy m plan (stateOf K u′) e) b);
-          }
+            D : (o .step % 4096 ≡ typeOf t₀ w) × (kept₀ ≡ keptBy m plan (stateOf K u′) e)
+            D = key-same (o .step % 4096) kept₀ (typeOf t₀ w) (keptBy m plan (stateOf K u′) e) (kept-few a (eventSetsAt plan e₀) (Q .few)) (kept-small A u′ e) q
+
+        opens-taken : Opens s plan t₀ back opens′
+        opens-taken =
+            record {
+              size = P .size;
+              held = λ i o′ k′ j li lk lj e b.
+                  ⊎-elim
+                  (λ (q : i ≡ slot).
+                  N .left .held slot o′ k′ j (omega arith) lk lj (sym (P .key) ∙ ap (λ (v : ℕ). getD opens′ v 0) (sym q) ∙ e)
+                  (and-first (openAt opens slot j) (not (inPairs pairs j)) (sym (left j lj) ∙ ap (λ (v : ℕ). openAt opens′ v j) (sym q) ∙ b)))
+                  (λ (d : i ≡ slot → ⊥). let Z = P .others i li d in N .left .held i o′ k′ j li lk lj (sym (Z .key) ∙ e) (sym (same-open j lj Z) ∙ b))
+                  (split-eq i slot);
+              clear = λ i u′ e w li lu′ lw ed q f.
+                  ⊎-elim
+                  (λ (z : i ≡ slot). taken-clear u′ e w lu′ lw ed (sym key ∙ sym (P .key) ∙ ap (λ (v : ℕ). getD opens′ v 0) (sym z) ∙ q) (ap (λ (v : ℕ). openAt opens′ v (nodePair t₀ w)) (sym z) ∙ f))
+                  (λ (d : i ≡ slot → ⊥). let Z = P .others i li d in N .left .clear i u′ e w li lu′ lw ed (sym (Z .key) ∙ q) (sym (same-open (nodePair t₀ w) (pair-few A lw) Z) ∙ f))
+                  (split-eq i slot);
+            }
+
+        -- .. and where none is left, the type is swept
+        pub memory-swept : {swept′ : List ℕ} → Remembered swept swept′ (o .step % 4096) kept₀ settled → Memory s plan t₀ back swept′ spent opens′
+        memory-swept R =
+            record {
+              left = opens-taken;
+              swept-size = R .size ∙ N .swept-size;
+              spent-size = N .spent-size;
+              spent-clear = N .spent-clear;
+              swept-clear = λ u′ e w lu′ lw ed b.
+                  ⊎-elim (λ d. N .swept-clear u′ e w lu′ lw ed d)
+                  (λ d.
+                  taken-clear u′ e w lu′ lw ed (ap₂ openKey (sym (d .0)) (d .2))
+                  (ap (λ (v : ℕ). bit v (nodePair t₀ w % 64)) (P .none (d .1) (nodePair t₀ w / 64) (let h = pair-few A lw in omega arith)) ∙ bit-zero (nodePair t₀ w % 64)))
+                  (R .only (typeOf t₀ w) (keptBy m plan (stateOf K u′) e) b);
+            }
 
     -- ---- the steps of a state are taken
     module _ {queue : List ℕ} {head tail stop depth at v : ℕ} (t : Turn G back queue head tail stop depth u (at / 4096) v) (end : 4194304 ≤ at) where
       spent-edge : excepted n plan x ≡ false → meetsρμ (policyOf s) x ≡ true → (u′ e w : ℕ) → u′ < G .k → w < G .k → G .Edge u′ e w → special (policyOf s) (eventOf e) ≡ false
           → typeOf t₀ u′ ≡ x .ty → state ≡ stateOf K u′ → Clear G back w
       spent-edge free meets u′ e w lu′ lw ed plain ty st =
-          let f = edge-flow A (stands-any u′ lu′) lw ed in
+          let f = edge-flow A (stands-any A u′ lu′) lw ed in
           let y : Context = contextAtIndex n (placeOf K w) in
           let f₀ : flow (policyOf s) (eventOf e) x y ≡ true = plain-same (policyOf s) (eventOf e) (contextAtIndex n (placeOf K u′)) x y plain ty meets f in
           let few : e < at / 4096 = (let h = event-in e (contextAtIndex n (placeOf K u′)) y f in omega arith) in
           t .events e w few lw
-          (edge-from S (chain-open A (turn-chain t)) free u′ e e w lw ed (edge-freeE A (stands-any u′ lu′) ed) f₀ (ap (λ (i : ℕ). W .step i e (codeOf n K w)) (sym st)))
+          (edge-from S (chain-open A (turn-chain t)) free u′ e e w lw ed (edge-freeE A (stands-any A u′ lu′) ed) f₀ (ap (λ (i : ℕ). W .step i e (codeOf n K w)) (sym st)))
 
-      pub memory-spent : {asks : Bool} {spent′ : List ℕ} → Asks (policyOf s) n plan x asks → Remembered spent spent′ (x .ty) state asks → Memory s plan t₀ back swept spent′
+      pub memory-spent : {asks : Bool} {spent′ : List ℕ} → Asks (policyOf s) n plan x asks → Remembered spent spent′ (x .ty) state asks → Memory s plan t₀ back swept spent′ opens
       memory-spent C R =
           record {
+            left = N .left;
             swept-size = N .swept-size;
             spent-size = R .size ∙ N .spent-size;
             swept-clear = N .swept-clear;

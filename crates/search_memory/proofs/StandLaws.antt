@@ -1,6 +1,6 @@
 -- Where a node stands, and who asks for its steps.
 use mathlib.Core.Path.{_≡_, refl, sym, _∙_, ap, subst}
-use mathlib.Core.Bool.{Bool}
+use mathlib.Core.Bool.{Bool, false}
 use mathlib.Core.List.{List}
 use Prim.Native.Nat.{ℕ, _*_, _/_, _%_, _<_}
 use native.Mathlib.Nat.{div-lt-iff-lt-mul, mod-lt, lt-of-lt-of-le}
@@ -12,7 +12,9 @@ use Rattle.context.specs.declared.Context.{Context}
 use Rattle.context.specs.inner.Places.{contextCount, contextAtIndex}
 use Rattle.context.proofs.PlaceLaws.{at-in-range}
 use Rattle.plan_tables.specs.inner.Tables.{typeEntries}
+use Rattle.plan.specs.inner.Entries.{eventSetsAt}
 use Rattle.context.proofs.TypeLaws.{own-place}
+use Rattle.search_steps.proofs.NearestLaws.{kept-few}
 use Rattle.search_graph.specs.declared.task.Task.{Task}
 use Rattle.search_graph.specs.inner.Nodes.{placeOf, stateOf}
 use Rattle.search_graph.specs.inner.Model.{asksBy}
@@ -20,8 +22,9 @@ use Rattle.search_graph.specs.inner.Tasks.{bitsIn, statesIn, States, Readable, 
 use Rattle.search_graph.specs.inner.Blocks.{Asks}
 use Rattle.search_graph.proofs.ModelLaws.{states-some, states-few}
 use Rattle.search_graph.proofs.ArrivalLaws.{asks-of}
+use Rattle.search_graph.proofs.LevelLaws.{place-lt}
 use Rattle.search_memory.specs.declared.turn.Node.{Node}
-use Rattle.search_memory.specs.inner.Memory.{keepsOf, TakenUp}
+use Rattle.search_memory.specs.inner.Memory.{keepsOf, keptBy, TakenUp}
 
 -- what does not change
 pub record Around (plan : List ℕ) (t : Task) (states : ℕ) : Type 0 where
@@ -72,3 +75,15 @@ pub asks-from : {s plan : List ℕ} {t : Task} {spent : List ℕ} {u : ℕ} {v :
 asks-from {s} {plan} {t} {u = u} {v} A T =
     subst (λ (x : Context). Asks (policyOf s) (t .counts) plan x (v .asks)) (sym (T .stands .place))
     (asks-of (A .planned .policy) (own-place (A .readable .sets .counts .countable) (T .stands .below) (T .stands .place)) (T .asked))
+
+-- every node stands somewhere
+pub stands-any : {s plan : List ℕ} {t : Task} → Given s plan t → (u : ℕ) → u < contextCount (t .counts) * statesIn t → Stands t u (contextAtIndex (t .counts) (placeOf (statesIn t) u)) (stateOf (statesIn t) u)
+stands-any {t = t} A u h =
+    let C = A .readable .sets .counts .countable in
+    let k = place-lt (states-some t) h in
+    record { below = k; place = refl; range = at-in-range (t .counts) (placeOf (statesIn t) u) (C .roles) (C .users) k; at = refl }
+
+-- what an event keeps of a state is small
+pub kept-small : {s plan : List ℕ} {t : Task} → Given s plan t → (u e : ℕ) → keptBy (t .mode) plan (stateOf (statesIn t) u) e < 64
+kept-small {plan = plan} {t = t} A u e =
+    kept-few (record { state = stateOf (statesIn t) u; keeps = keepsOf (t .mode); spent = false }) (eventSetsAt plan e) (state-small (A .readable) u)

@@ -1,6 +1,6 @@
 // What a search remembers, so that it sweeps the contexts of a type once for each part of a state that a step depends on.
 pub mod first;
-pub mod settled;
+pub mod opens;
 pub mod turn;
 
 use plan_tables::TYPES;

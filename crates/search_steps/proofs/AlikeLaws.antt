@@ -10,6 +10,7 @@ use Rattle.policy_image.specs.Policy.{Policy}
 use Rattle.policy_image.specs.OfKind.{some, every}
 use Rattle.policy_links.proofs.KindLaws.{OfKind, some-yes, some-record, every-yes, every-record}
 use Rattle.context.specs.declared.Context.{Context}
+use Rattle.context.specs.declared.Event.{Event}
 use Rattle.context.specs.Codes.{eventOf}
 use Rattle.constraints.specs.Constraints.{constrains, constraintsHold}
 use Rattle.constraints.specs.Eval.{evalNode}
@@ -31,6 +32,14 @@ module _ (p : Policy) (k : ℕ) (f g : Record → Bool) (same : (i : ℕ) → Of
       (λ t. every-yes p k g (λ i o. sym (same i o) ∙ every-record p k f t i o))
       (λ t. every-yes p k f (λ i o. same i o ∙ every-record p k g t i o))
 
+-- events on which the same constraints are
+pub constraints-alike : (p : Policy) (e f : Event) → ((i : ℕ) → OfKind p 8 i → constrains (p .rec i) e ≡ constrains (p .rec i) f) → (x y : Context)
+    → constraintsHold p e x y ≡ constraintsHold p f x y
+unfolding constraintsHold
+constraints-alike p e f both x y =
+    every-same p 8 (λ r. not (constrains r e) || evalNode p x y (rootOf r)) (λ r. not (constrains r f) || evalNode p x y (rootOf r))
+    (λ i o. ap (λ (b : Bool). not b || evalNode p x y (rootOf (p .rec i))) (both i o))
+
 module _ {p : Policy} {plan : List ℕ} {e f : ℕ} (A : Alike p plan e f) where
   on-both : (i : ℕ) → OfKind p 8 i → constrains (p .rec i) (eventOf e) ≡ constrains (p .rec i) (eventOf f)
   on-both i o = A .constrained i (o .low) (o .high) (o .kind)
@@ -39,11 +48,5 @@ module _ {p : Policy} {plan : List ℕ} {e f : ℕ} (A : Alike p plan e f) where
   unfolding special
   special-same = ap₂ _||_ (some-same p 8 (λ r. constrains r (eventOf e)) (λ r. constrains r (eventOf f)) on-both) (A .transition)
 
-  constraints-same : (x y : Context) → constraintsHold p (eventOf e) x y ≡ constraintsHold p (eventOf f) x y
-  unfolding constraintsHold
-  constraints-same x y =
-      every-same p 8 (λ r. not (constrains r (eventOf e)) || evalNode p x y (rootOf r)) (λ r. not (constrains r (eventOf f)) || evalNode p x y (rootOf r))
-      (λ i o. ap (λ (b : Bool). not b || evalNode p x y (rootOf (p .rec i))) (on-both i o))
-
   pub conditions-same : (x y : Context) → conditions p (eventOf e) x y ≡ conditions p (eventOf f) x y
-  conditions-same x y = ap₂ _&&_ (constraints-same x y) (rule-same p (eventOf e) x y (eventOf f) (A .transition))
+  conditions-same x y = ap₂ _&&_ (constraints-alike p (eventOf e) (eventOf f) on-both x y) (rule-same p (eventOf e) x y (eventOf f) (A .transition))

@@ -2,3 +2,4 @@ pub mod FlowLaws
 pub mod NearestLaws
 pub mod OfferLaws
 pub mod AlikeLaws
+pub mod PairLaws

@@ -2,3 +2,4 @@
 pub mod Nearest
 pub mod Steps
 pub mod Sweeps
+pub mod Pairs

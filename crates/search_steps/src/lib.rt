@@ -2,5 +2,6 @@
 // flow alone.
 pub mod nearest;
 pub mod offers;
+pub mod pairs;
 pub mod sweep;
 pub mod targets;

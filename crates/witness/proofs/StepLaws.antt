@@ -22,12 +22,14 @@ use Rattle.context.specs.Codes.{eventOf}
 use Rattle.context.specs.Ranges.{ContextInRange}
 use Rattle.context.specs.inner.Places.{contextCount, contextAtIndex, OfType}
 use Rattle.context.proofs.PlaceLaws.{at-in-range}
+use Rattle.context.proofs.TypeLaws.{own-place}
 use Rattle.access.specs.Authorization.{flow}
 use Rattle.goal_image.specs.Goal.{γeChain}
 use Rattle.paths.specs.Model.{Model}
 use Rattle.goal_model.specs.Images.{meetsρμ}
 use Rattle.plan.specs.inner.Entries.{specialAt, eventSetsAt}
 use Rattle.plan.specs.inner.Plan.{special, PlanCounts}
+use Rattle.plan.specs.inner.Sets.{setsOf}
 use Rattle.search_steps.specs.declared.nearest.Asker.{Asker}
 use Rattle.search_steps.specs.declared.nearest.Offer.{Offer}
 use Rattle.search_steps.specs.inner.Nearest.{closed, PassedOver}
@@ -39,11 +41,13 @@ use Rattle.search_graph.specs.declared.arrival.Arrival.{Arrival}
 use Rattle.search_graph.specs.declared.arrival.Arrival.the-variants.{Enter, Dropped, Broken}
 use Rattle.search_graph.specs.inner.Nodes.{Watch, codeAt, placeOf}
 use Rattle.search_graph.specs.inner.Model.{barred}
-use Rattle.search_graph.specs.inner.Arrivals.{Lands, LandsOpen, LandsGood, LandsBad, Arriving}
+use Rattle.search_graph.specs.inner.Arrivals.{Arrived, Lands, LandsOpen, LandsGood, LandsBad}
 use Rattle.search_graph.specs.declared.task.Task.{Task}
 use Rattle.search_graph.specs.inner.Tasks.{bitsIn, statesIn, States, Given, modelBy, watchBy, graphOf, typeOf, Stands}
 use Rattle.search_memory.specs.inner.Memory.{keepsOf, AskerOf}
 use Rattle.witness.specs.inner.Links.{LeastBelow, LinkedNodes, OfferedBetween}
+use Rattle.search_graph.specs.inner.Watching.{Stepped}
+use Rattle.search_graph.proofs.ArrivalLaws.{arriving}
 use Rattle.search_graph.proofs.ModelLaws.{bounded, states-some, states-few}
 use Rattle.base.proofs.BoolLaws.{clash}
 use Rattle.search_memory.proofs.MemoryLaws.{memory-begin, edge-like, passed as remembered}
@@ -81,6 +85,10 @@ module _ {s plan : List ℕ} {t : Task} (A : Given s plan t) {u w states : ℕ} 
 
   pub to-below : w / states < contextCount n
   to-below = at-place w fixed (L .to)
+
+  -- w's place is one of its context's type
+  pub to-type : {y : Context} → y ≡ contextAtIndex n (w / states) → OfType n (y .ty) (w / states)
+  to-type = own-place (N₀ .countable) to-below
 
   place-w : placeOf K w ≡ w / states
   unfolding placeOf
@@ -159,9 +167,10 @@ module _ {s plan : List ℕ} {t : Task} (A : Given s plan t) {u w states : ℕ} 
     pub no-held : {b : Bool} {o : ℕ} → OfType n o (w / states) → b ≡ heldBy n plan o (w / states) → not b ≡ true → graphOf s plan t .Edge u e w → ⊥
     no-held {b} H p k = no-flow refl (sym (flow-laws.no-flow (policyOf s) (eventOf e) x (contextAtIndex n (w / states)) (sym (held-is (A .planned .policy) H) ∙ sym p ∙ not-true b k))) refl
 
-    module _ (r : Arrival) (Z : Arriving plan t (u % states) by (w / states) r) where
+    -- what arriving at w's place comes to: the sets there, the state after the step, and what landing there says
+    module _ {into i : ℕ} (S : into ≡ setsOf n plan (contextAtIndex n (w / states))) (after : Stepped (t .mode) (t .legs) (u % states) by into i) (r : Arrival) (Z : Arrived t into (w / states) i r) where
       lands : Lands M n W K (w / states) (W .step (u % states) e (codeAt n (w / states))) r
-      lands = Z .at s e E
+      lands = arriving r N₀ to-below S after Z .at s e E
 
       pub no-drop : r ≡ Dropped → graphOf s plan t .Edge u e w → ⊥
       no-drop k ed =

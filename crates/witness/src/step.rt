@@ -5,9 +5,11 @@ use context::Context;
 use goal_image::sets::EXCEPTED_EVENTS;
 use plan::regions::EVENT_SETS_START;
 use plan::regions::TYPE_CODES;
+use plan::sets::sets_at;
 use plan_tables::TYPES;
 use search_graph::arrival::Arrival;
-use search_graph::arrival::arrive;
+use search_graph::arrival::land;
+use search_graph::monitor::step_state;
 use search_graph::task::Task;
 use search_graph::task::states_in;
 use search_memory::keeps_of;
@@ -44,7 +46,10 @@ fn is_step(policy: &[u8], plan: &[u32], task: Task, u: u32, e: u32, entry: usize
     if !is_target(policy, counts, plan, x, e, entry, special, place) {
         return false;
     }
-    match arrive(plan, task, u % states, by, ty, place) {
+    // An arrival, by its parts: were `arrive` called from here too, the compiler would not put it inline into the search's innermost
+    // loop.
+    let into = sets_at(counts, plan, ty, place);
+    match land(task, into, place, step_state(task, u % states, by, into)) {
         Arrival::Enter(v) => v == w,
         Arrival::Dropped => false,
         Arrival::Broken(_) => false,

@@ -16,7 +16,7 @@ mod steps;
 mod steps_search;
 mod timing;
 
-use sizes::{Goals, Masks, Size};
+use sizes::{Goals, Masks, Order, Plain, Says, Size};
 
 const PROGRAM: Size = Size {
     types: 64,
@@ -26,12 +26,71 @@ const PROGRAM: Size = Size {
     allows: 1500,
     legs: 4,
     constraints: 0,
+    says: Says::SameUserOrRole1,
+    nested: 0,
+    crowd: None,
+    order: Order::Made,
     masks: Masks::OneBit,
     goal: Goals::Holds,
+    plain: Plain::Both,
 };
 const STATION: Size = Size { types: 255, classes: 8, allows: 3000, legs: 2, ..PROGRAM };
 const SIX_LEGS: Size = Size { legs: 6, ..STATION };
 const LARGEST: Size = Size { roles: 15, users: 15, classes: 31, ..SIX_LEGS };
+
+/// Few domains with many rules, as real policies have them.
+const CROWDED: Size =
+    Size { types: 255, classes: 18, allows: 3000, crowd: Some(10), legs: 2, masks: Masks::Few, order: Order::Random, ..PROGRAM };
+/// Every permission is constrained.
+const CONSTRAINED: Size = Size { allows: 1000, constraints: 4, says: Says::SameUser, nested: 4, masks: Masks::All, ..PROGRAM };
+
+/// The shapes of real policies: few domains, and constraints that let little through.
+fn shapes() -> Vec<(String, Size)> {
+    let few = Size { types: 130, crowd: Some(20), allows: 3750, ..CROWDED };
+    let mut all = Vec::new();
+    for (order, name) in [(Order::Random, "random"), (Order::Sorted, "sorted"), (Order::Reversed, "reversed")] {
+        all.push((format!("crowded, 10 of 255 types, {name}"), Size { order, ..CROWDED }));
+        all.push((format!("crowded, 20 of 130 types, {name}"), Size { order, ..few }));
+    }
+    for (types, size) in [("10 of 255", CROWDED), ("20 of 130", few)] {
+        all.push((format!("crowded, {types} types, two nodes"), Size { goal: Goals::OneNode, ..size }));
+    }
+    let many_users = Size { users: 15, classes: 2, constraints: 2, legs: 2, nested: 10, ..CONSTRAINED };
+    let both = Size { roles: 15, allows: 500, ..many_users };
+    for (says, name) in
+        [(Says::SameUser, "same user"), (Says::SameRole, "same role"), (Says::SameUserOrRole1, "same user or role 1")]
+    {
+        all.push((format!("{name}, 4 nested"), Size { says, ..CONSTRAINED }));
+        all.push((format!("{name}, 400 nested"), Size { says, nested: 400, plain: Plain::MemoryAlone, ..CONSTRAINED }));
+        all.push((format!("{name}, 4 roles, 15 users"), Size { says, ..many_users }));
+        all.push((format!("{name}, 15 roles, 15 users"), Size { says, ..both }));
+        all.push((
+            format!("{name}, station, 300 nested"),
+            Size { says, types: 255, allows: 1500, nested: 300, plain: Plain::MemoryAlone, ..both },
+        ));
+    }
+    all.push((
+        "same user, 1,500 nested".to_string(),
+        Size { classes: 1, constraints: 1, nested: 1500, plain: Plain::Neither, ..both },
+    ));
+    all
+}
+
+/// The slowest accepted images that were found, by size: one constraint on every permission, which tells every context from every other, so that
+/// nothing that is remembered of it helps; the records shared out between it and the allows.
+fn slowest() -> Vec<(String, Size)> {
+    let slow =
+        Size { classes: 1, constraints: 1, says: Says::SameUserOrRest, masks: Masks::All, plain: Plain::Neither, ..PROGRAM };
+    let pairs = Size { roles: 15, users: 15, legs: 2, ..slow };
+    [
+        ("slowest, program's limit", Size { allows: 1800, nested: 1700, ..slow }),
+        ("slowest, station", Size { types: 255, legs: 2, allows: 1800, nested: 800, ..slow }),
+        ("slowest, six legs", Size { types: 255, legs: 6, allows: 1800, nested: 800, ..slow }),
+        ("slowest, 15 roles, 15 users", Size { allows: 500, nested: 1500, ..pairs }),
+    ]
+    .map(|(name, size)| (name.to_string(), size))
+    .to_vec()
+}
 
 /// The sizes, from the limit of the goal program to the largest policy and goal, each with masks of one bit and of 32, and what else is to be measured.
 fn cases() -> Vec<(String, Size)> {
@@ -61,12 +120,19 @@ fn cases() -> Vec<(String, Size)> {
         let size = Size { roles, users, types: 128, allows: 1500, ..STATION };
         all.push((format!("growth, {} contexts", size.contexts()), size));
     }
+    all.extend(shapes());
     all
 }
 
-const USAGE: &str = "usage: ./bench [--list] [--once] [--question goal|steps|join|canonical] [--only TEXT].. [--leave-out TEXT]..
+/// Least steps are asked where both plain programs are.
+fn steps_cases() -> Vec<(String, Size)> {
+    cases().into_iter().filter(|(_, size)| size.plain == Plain::Both).collect()
+}
+
+const USAGE: &str =
+    "usage: ./bench [--list] [--once] [--question goal|steps|join|canonical|slowest] [--only TEXT].. [--leave-out TEXT]..
 TEXT is a part of a case's name; --list prints the names; --once asks each program once and times nothing; --question asks one
-of the four alone, the goal question, least steps, joins or canonical images.";
+of the five alone: the goal question, least steps, joins, canonical images, or the goal question on the slowest images found.";
 
 fn usage() -> ! {
     eprintln!("{USAGE}");
@@ -91,9 +157,17 @@ const GOALS: Table<Size> = Table {
     ask_once: goals::ask_once,
     note: goals::NOTE,
 };
+const SLOWEST: Table<Size> = Table {
+    question: "slowest",
+    cases: slowest,
+    print_head: goals::print_head,
+    measure: goals::measure,
+    ask_once: goals::ask_once,
+    note: goals::NOTE,
+};
 const STEPS: Table<Size> = Table {
     question: "steps",
-    cases,
+    cases: steps_cases,
     print_head: steps::print_head,
     measure: steps::measure,
     ask_once: steps::ask_once,
@@ -183,11 +257,12 @@ impl<C> Table<C> {
     }
 }
 
-/// The names of the cases: the first two questions have the same.
+/// The names of the cases: those of least steps are among those of the goal question.
 fn names() -> Vec<String> {
     let joins = joins::cases().into_iter().map(|(name, _)| name);
     let canonicals = canonicals::cases().into_iter().map(|(name, _)| name);
-    cases().into_iter().map(|(name, _)| name).chain(joins).chain(canonicals).collect()
+    let goals = cases().into_iter().chain(slowest()).map(|(name, _)| name);
+    goals.chain(joins).chain(canonicals).collect()
 }
 
 fn main() {
@@ -195,13 +270,19 @@ fn main() {
     if options.list {
         return names().iter().for_each(|name| println!("{name}"));
     }
-    let asked = [GOALS.is_asked(&options), STEPS.is_asked(&options), JOINS.is_asked(&options), CANONICALS.is_asked(&options)];
-    if asked == [false; 4] {
+    let asked = [&GOALS, &STEPS, &SLOWEST]
+        .map(|table| table.is_asked(&options))
+        .into_iter()
+        .chain([JOINS.is_asked(&options), CANONICALS.is_asked(&options)]);
+    let asked: Vec<bool> = asked.collect();
+    if !asked.contains(&true) {
         usage()
     }
     // every table is printed, also after one where answers differ
-    let runs: [&dyn Fn() -> bool; 4] =
-        [&|| GOALS.run(&options), &|| STEPS.run(&options), &|| JOINS.run(&options), &|| CANONICALS.run(&options)];
-    let differ = runs.iter().zip(asked).filter(|(run, asked)| *asked && !run()).count();
+    let runs: [&dyn Fn() -> bool; 5] =
+        [&|| GOALS.run(&options), &|| STEPS.run(&options), &|| SLOWEST.run(&options), &|| JOINS.run(&options), &|| {
+            CANONICALS.run(&options)
+        }];
+    let differ = runs.iter().zip(&asked).filter(|(run, asked)| **asked && !run()).count();
     std::process::exit((differ > 0) as i32);
 }

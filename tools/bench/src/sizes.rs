@@ -9,7 +9,30 @@ use second_search::policy::{Policy, Record};
 #[derive(Clone, Copy, PartialEq, Eq)]
 pub enum Masks {
     OneBit,
+    /// One to eight bits, as rules of real policies have.
+    Few,
     All,
+}
+
+/// What the constraints say; the node that says it stands under so many nots.
+#[derive(Clone, Copy, PartialEq, Eq)]
+pub enum Says {
+    /// The same user, or the acting role is the first: half of all pairs pass.
+    SameUserOrRole1,
+    SameUser,
+    SameRole,
+    /// The same user, or the same type and role: what tells every context from every other.
+    SameUserOrRest,
+}
+
+/// How the records of an image stand.
+#[derive(Clone, Copy, PartialEq, Eq)]
+pub enum Order {
+    /// As they are made: kind by kind, allows at random.
+    Made,
+    Random,
+    Sorted,
+    Reversed,
 }
 
 #[derive(Clone, Copy, PartialEq, Eq)]
@@ -18,6 +41,16 @@ pub enum Goals {
     Holds,
     /// Types in a line, with every other allow leading back: the only way to the end is all along it.
     LongPath,
+    /// The policy of `Holds`, asked from one context that nothing flows from: each search enters one node.
+    OneNode,
+}
+
+/// Which of the plain programs is asked. They evaluate a constraint anew for each pair of contexts, which takes minutes where it is long.
+#[derive(Clone, Copy, PartialEq, Eq)]
+pub enum Plain {
+    Both,
+    MemoryAlone,
+    Neither,
 }
 
 #[derive(Clone, Copy)]
@@ -29,12 +62,16 @@ pub struct Size {
     pub allows: u32,
     pub legs: usize,
     pub constraints: u32,
+    pub says: Says,
+    /// An even number of nots keeps what is said.
+    pub nested: u32,
+    /// How many types are domains, where that is fixed.
+    pub crowd: Option<u32>,
+    pub order: Order,
     pub masks: Masks,
     pub goal: Goals,
+    pub plain: Plain,
 }
-
-/// A constraint is two leaves and the node that joins them, and itself.
-const RECORDS_OF_A_CONSTRAINT: u32 = 4;
 
 impl Size {
     pub fn contexts(&self) -> usize {
@@ -43,22 +80,33 @@ impl Size {
     pub fn nodes(&self) -> usize {
         self.contexts() << self.legs
     }
+    /// A constraint is itself, what it says, and the nots above that.
+    fn records_of_a_constraint(&self) -> u32 {
+        let said = match self.says {
+            Says::SameUser | Says::SameRole => 1,
+            Says::SameUserOrRole1 => 3,
+            Says::SameUserOrRest => 5,
+        };
+        1 + said + self.nested
+    }
     fn frame_records(&self) -> u32 {
-        3 * self.classes + self.users * (self.roles - 1) + RECORDS_OF_A_CONSTRAINT * self.constraints
+        3 * self.classes + self.users * (self.roles - 1) + self.records_of_a_constraint() * self.constraints
     }
     fn domains(&self) -> u32 {
         let room = MOST_RECORDS as u32 - self.allows - self.frame_records();
-        (room / (1 + self.roles)).min(self.types - 1)
+        let most = (room / (1 + self.roles)).min(self.types - 1);
+        self.crowd.map_or(most, |domains| domains.min(most))
     }
     pub fn images(&self, seed: u64) -> (Vec<u8>, Vec<u8>) {
         let mut maker = Maker { size: *self, rng: Rng(seed), records: vec![] };
         maker.frame();
         let end = match self.goal {
-            Goals::Holds => maker.all_reached(),
+            Goals::Holds | Goals::OneNode => maker.all_reached(),
             Goals::LongPath => maker.line(),
         };
         let Size { types, roles, users, classes, .. } = *self;
         let goal = maker.goal(end).encode();
+        maker.arrange();
         (Policy { records: maker.records, ..Policy::new(types, roles, users, classes) }.encode(), goal)
     }
 }
@@ -98,13 +146,53 @@ impl Maker {
             self.add(3, c, 2, 0, !WRITES);
         }
         for k in 0..self.size.constraints {
-            // on one class each: the same user, or the first role
-            let at = self.records.len();
-            self.records.push(Record::node(6, 0, 0, 0));
-            self.records.push(Record::node(9, 1, 0, 0));
-            self.records.push(Record::node(3, 0, at + 1, at + 2));
-            self.records.push(Record::constraint(k % classes + 1, u32::MAX, at + 3));
+            // on one class each
+            let root = self.said();
+            self.records.push(Record::constraint(k % classes + 1, u32::MAX, root));
         }
+    }
+
+    /// The nodes of a constraint, and the number of their root.
+    fn said(&mut self) -> usize {
+        let at = self.records.len();
+        match self.size.says {
+            Says::SameUserOrRole1 => {
+                self.records.push(Record::node(6, 0, 0, 0));
+                self.records.push(Record::node(9, 1, 0, 0));
+                self.records.push(Record::node(3, 0, at + 1, at + 2));
+            }
+            Says::SameUserOrRest => {
+                self.records.push(Record::node(4, 0, 0, 0));
+                self.records.push(Record::node(5, 0, 0, 0));
+                self.records.push(Record::node(2, 0, at + 1, at + 2));
+                self.records.push(Record::node(6, 0, 0, 0));
+                self.records.push(Record::node(3, 0, at + 3, at + 4));
+            }
+            Says::SameUser => self.records.push(Record::node(6, 0, 0, 0)),
+            Says::SameRole => self.records.push(Record::node(5, 0, 0, 0)),
+        }
+        for _ in 0..self.size.nested {
+            let below = self.records.len();
+            self.records.push(Record::node(1, 0, below, 0));
+        }
+        self.records.len()
+    }
+
+    /// Puts the allow records into their order; the records of other kinds stay where they are.
+    fn arrange(&mut self) {
+        let places: Vec<usize> = (0..self.records.len()).filter(|&i| self.records[i].kind == 4).collect();
+        let mut allows: Vec<Record> = places.iter().map(|&i| self.records[i]).collect();
+        let key = |r: &Record| (r.a, r.b, r.c);
+        match self.size.order {
+            Order::Made => return,
+            Order::Random => (1..allows.len()).rev().for_each(|i| allows.swap(i, self.rng.range(0, i as u32) as usize)),
+            Order::Sorted => allows.sort_by_key(key),
+            Order::Reversed => {
+                allows.sort_by_key(key);
+                allows.reverse()
+            }
+        }
+        places.into_iter().zip(allows).for_each(|(i, r)| self.records[i] = r);
     }
 
     /// An allow that lets information go from one type to the other, where one of them is a domain; a class and permissions at
@@ -114,7 +202,11 @@ impl Maker {
         // permission 0 of class 1 is the transition, which asks for more
         let bit = 2 * self.rng.range(1, 15);
         let (source, target, bit) = if self.is_domain(from) { (from, to, bit) } else { (to, from, bit + 1) };
-        let mask = if self.size.masks == Masks::OneBit { 1 << bit } else { u32::MAX };
+        let mask = match self.size.masks {
+            Masks::OneBit => 1 << bit,
+            Masks::Few => (0..self.rng.range(0, 7)).fold(1 << bit, |mask, _| mask | 1 << self.rng.range(2, 31)),
+            Masks::All => u32::MAX,
+        };
         self.add(4, source, target, class, mask);
     }
     /// The first domain from the type on, or from the first type on where there is none.
@@ -167,15 +259,18 @@ impl Maker {
 
     fn goal(&mut self, end: u32) -> Goal {
         let Size { types, classes, legs, goal, .. } = self.size;
-        let mut items = vec![(0, Item::Sigma { t: 1, r: 0, u: 0 }), (legs, Item::Sigma { t: end, r: 0, u: 0 })];
+        let mut items = match goal {
+            Goals::OneNode => vec![(0, Item::Sigma { t: end, r: 1, u: 1 }), (legs, Item::Sigma { t: 1, r: 0, u: 0 })],
+            _ => vec![(0, Item::Sigma { t: 1, r: 0, u: 0 }), (legs, Item::Sigma { t: end, r: 0, u: 0 })],
+        };
         // with a long path the set before the end stays empty, so that the path breaks order, or events where there is one leg
-        let inner = if goal == Goals::Holds { legs } else { legs - 1 };
+        let inner = if goal == Goals::LongPath { legs - 1 } else { legs };
         for i in 1..inner {
             for _ in 0..types / 8 {
                 items.push((i, Item::Sigma { t: self.rng.range(1, types - 1), r: 0, u: 0 }));
             }
         }
-        for i in 0..if goal == Goals::Holds || legs > 1 { legs } else { 0 } {
+        for i in 0..if goal != Goals::LongPath || legs > 1 { legs } else { 0 } {
             for c in 1..=classes.min(8) {
                 items.push((GAMMA + i, Item::Gamma { c, mask: self.rng.next() as u32 | self.rng.next() as u32 }));
             }

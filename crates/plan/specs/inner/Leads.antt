@@ -1,36 +1,38 @@
 -- How the leading permissions of an entry are found. What they mean is said without these definitions (Plan.antt).
 use Prim.Native.Nat.{ℕ, _+_, _*_, _/_, _%_, _≤_, _<_}
 use mathlib.Core.Path.{_≡_}
-use mathlib.Core.Bool.{Bool, true, false, not, _&&_, _||_}
+use mathlib.Core.Bool.{true}
 use mathlib.Core.List.{List}
 use mathlib.Core.Logic.{_⊎_}
 use lib.Bits.{bitOr}
-use lib.Dec.{eqb}
-use lib.ListN.{getD}
+use lib.ListN.{length, getD}
 use Rattle.base.specs.Bits.{bit}
 use Rattle.policy_image.specs.Policy.{Policy}
 use Rattle.context.specs.inner.Coding.{transitionCode}
-use Rattle.plan.specs.inner.Entries.{keyAt, writesAt, readsAt, groupsAt, eventSetsAt}
+use Rattle.plan.specs.inner.Entries.{keyAt, writesAt, readsAt, eventSetsAt}
 use Rattle.plan.specs.inner.Plan.{Grouped, Alike}
-use Rattle.plan.specs.inner.Regions.{typeCodes}
+use Rattle.plan.specs.inner.Regions.{eventEntries, typeCodes}
 
--- whether the permission q is in the group of the event of its class and in the same sets, and is not process transition
-abbrev pub likes : List ℕ → ℕ → ℕ → Bool
-likes plan event q = bit (groupsAt plan event) q && (not (eqb (32 * (event / 32) + q) transitionCode) && eqb (eventSetsAt plan (32 * (event / 32) + q)) (eventSetsAt plan event))
+-- process transition is not in the mask of class c
+pub record NotTransition (c mask : ℕ) : Type 0 where
+  pub out : (q : ℕ) → q < 32 → bit mask q ≡ true → 32 * c + q ≡ transitionCode → ⊥
 
--- r has the bits of the mask, and bit q where yes
-pub record WithIf (mask q : ℕ) (yes : Bool) (r : ℕ) : Type 0 where
-  pub at : (i : ℕ) → bit r i ≡ (bit mask i || (yes && eqb q i))
+-- the permissions of class c in r are in just these sets
+pub record SameSets (plan : List ℕ) (c sets r : ℕ) : Type 0 where
+  pub at : (q : ℕ) → bit r q ≡ true → eventSetsAt plan (32 * c + q) ≡ sets
 
--- r has the permissions of that kind from the event's own to below n
-pub record SameSets (plan : List ℕ) (event n r : ℕ) : Type 0 where
-  pub low : (q : ℕ) → q < event % 32 → bit r q ≡ false
-  pub done : (q : ℕ) → event % 32 ≤ q → q < n → bit r q ≡ likes plan event q
-  pub rest : (q : ℕ) → n ≤ q → bit r q ≡ false
+-- any two permissions of class c in the mask are alike
+pub record AllAlike (plan : List ℕ) (c mask : ℕ) : Type 0 where
+  pub at : (p : Policy) → Grouped p plan → (q i : ℕ) → q < 32 → i < 32 → bit mask q ≡ true → bit mask i ≡ true → Alike p plan (32 * c + q) (32 * c + i)
 
--- the permissions in the entry of an event are like it
+-- l has an entry for each event, and the permissions in it are like that event
 pub record AlikeTable (plan l : List ℕ) : Type 0 where
+  pub size : length l ≡ eventEntries
   pub at : (p : Policy) → Grouped p plan → (c q i : ℕ) → c < 32 → q < 32 → i < 32 → bit (getD l (32 * c + q) 0) i ≡ true → Alike p plan (32 * c + q) (32 * c + i)
+
+-- .. and is such a table still as l′, where the permissions in the mask are alike
+pub record Shared (c mask : ℕ) (l l′ : List ℕ) : Type 0 where
+  pub table : (plan : List ℕ) → AllAlike plan c mask → AlikeTable plan l → AlikeTable plan l′
 
 -- a permission of r stands for q: q itself, or one below in whose entry q is
 pub record Led (alike : List ℕ) (class r q : ℕ) : Type 0 where

@@ -1,14 +1,21 @@
 -- How a plan is filled: region after region, each above those that are there.
 use Prim.Native.Nat.{ℕ, _+_, _/_, _≤_, _<_}
 use mathlib.Core.Path.{_≡_}
+use mathlib.Core.Bool.{Bool, _&&_, _||_}
 use mathlib.Core.List.{List}
+use lib.Dec.{eqb}
 use lib.ListN.{length, getD}
+use Rattle.base.specs.Bits.{bit}
 use Rattle.base.specs.Ranges.{Within}
 use Rattle.policy_image.specs.declared.counts.Counts.{Counts}
 use Rattle.policy_image.specs.Policy.{Policy}
 use Rattle.plan.specs.inner.Regions.{firstEntries, blockEntries, firstStart, typeSpecialStart, rolesStart, eventSetsStart, leadsStart, typeCodes}
 use Rattle.plan.specs.inner.Entries.{firstAt, keyAt, typeSpecialAt}
 use Rattle.plan.specs.inner.Plan.{OfferBlocks, SpecialOf, Grouped, Holding, Leads, GoalPlan}
+
+-- r has the bits of the mask, and bit q where yes
+pub record WithIf (mask q : ℕ) (yes : Bool) (r : ℕ) : Type 0 where
+  pub at : (i : ℕ) → bit r i ≡ (bit mask i || (yes && eqb q i))
 
 -- the sizes of the lists of an index
 pub record Lists (first keys writes reads : List ℕ) : Type 0 where

@@ -3,31 +3,33 @@ use mathlib.Core.Path.{_≡_}
 use mathlib.Core.Bool.{Bool, true, false}
 use mathlib.Core.List.{List}
 use mathlib.Core.Logic.{_⊎_}
-use Prim.Native.Nat.{ℕ, _/_, _^_, _≤_, _<_}
+use Prim.Native.Nat.{ℕ, _/_, _^_, _<_}
 use lib.Bits.{bitAnd, bitOr}
-use lib.Dec.{T}
 use lib.ListN.{length, getD}
 use Rattle.base.specs.Bits.{bit}
 use Rattle.policy_image.specs.Policy.{policyOf}
 use Rattle.context.specs.declared.Context.{Context}
 use Rattle.context.specs.Codes.{eventOf}
-use Rattle.context.specs.inner.Places.{contextAtIndex}
+use Rattle.context.specs.inner.Places.{pairCount}
 use Rattle.goal_model.specs.Images.{meetsρμ}
 use Rattle.plan_tables.specs.inner.Tables.{typeEntries}
 use Rattle.plan.specs.inner.Entries.{eventSetsAt}
 use Rattle.plan.specs.inner.Plan.{special}
+use Rattle.search_constraints.specs.inner.Asked.{pairAt}
 use Rattle.search_steps.specs.declared.nearest.Asker.{Asker}
 use Rattle.search_steps.specs.declared.nearest.Offer.{Offer}
 use Rattle.search_steps.specs.inner.Nearest.{NearestOf, stepsEnd, stateCodes, wholeState}
 use Rattle.search_steps.specs.inner.Steps.{Shut}
+use Rattle.search_steps.specs.inner.Pairs.{pairsEnd}
 use Rattle.search_graph.specs.declared.monitor.Mode.{Mode}
 use Rattle.search_graph.specs.declared.monitor.Mode.the-variants.{Order, Events, Any}
 use Rattle.search_graph.specs.declared.task.Task.{Task}
 use Rattle.search_graph.specs.inner.State.{Clear}
-use Rattle.search_graph.specs.inner.Nodes.{placeOf, stateOf, codeOf}
+use Rattle.search_graph.specs.inner.Nodes.{placeOf, stateOf}
 use Rattle.search_graph.specs.inner.Model.{asksBy}
-use Rattle.search_graph.specs.inner.Tasks.{statesIn, Given, modelBy, watchBy, graphOf, typeOf, Stands}
+use Rattle.search_graph.specs.inner.Tasks.{statesIn, graphOf, typeOf, Stands}
 use Rattle.search_memory.specs.declared.turn.Node.{Node}
+use Rattle.search_memory.specs.inner.Opens.{openSlots, openEntries, openKey, openAt, nodePair}
 
 -- the bits of a state that every event keeps
 abbrev pub keepsOf : Mode → ℕ
@@ -54,9 +56,19 @@ pub record Remembered (before after : List ℕ) (o k : ℕ) (yes : Bool) : Type 
   pub grown : Grown before after
   pub only : (t i : ℕ) → bit (getD after t 0) i ≡ true → (bit (getD before t 0) i ≡ true) ⊎ ((t ≡ o) × (yes ≡ true) × (k ≡ i))
 
+-- what is left meets ρ and μ; and an edge to what is not left, whose event keeps of the state what the slot is of, arrives at no end, and at a
+-- node that is visited
+pub record Opens (s plan : List ℕ) (t : Task) (back opens : List ℕ) : Type 0 where
+  pub size : length opens ≡ openEntries
+  pub held : (i o k j : ℕ) → i < openSlots → k < stateCodes → j < pairsEnd → getD opens i 0 ≡ openKey o k → openAt opens i j ≡ true
+      → (j < pairCount (t .counts)) × (meetsρμ (policyOf s) (pairAt (t .counts) o j) ≡ true)
+  pub clear : (i u e w : ℕ) → i < openSlots → u < graphOf s plan t .k → w < graphOf s plan t .k → graphOf s plan t .Edge u e w
+      → getD opens i 0 ≡ openKey (typeOf t w) (keptBy (t .mode) plan (stateOf (statesIn t) u) e) → openAt opens i (nodePair t w) ≡ false → Clear (graphOf s plan t) back w
+
 -- swept, by type of the target: an edge whose event keeps of the state what is in the set arrives at no end, and at a node that is visited.
--- spent, by type of the source: so does an edge from a state in the set, by an event that is not special
-pub record Memory (s plan : List ℕ) (t : Task) (back swept spent : List ℕ) : Type 0 where
+-- spent, by type of the source: so does an edge from a state in the set, by an event that is not special. opens, by slot: what is left of a type
+pub record Memory (s plan : List ℕ) (t : Task) (back swept spent opens : List ℕ) : Type 0 where
+  pub left : Opens s plan t back opens
   pub swept-size : length swept ≡ typeEntries
   pub spent-size : length spent ≡ typeEntries
   pub swept-clear : (u e w : ℕ) → u < graphOf s plan t .k → w < graphOf s plan t .k → graphOf s plan t .Edge u e w
@@ -96,16 +108,3 @@ pub record TakenUp (plan : List ℕ) (t : Task) (spent : List ℕ) (u : ℕ) (v 
 pub record FirstFrom (plan swept : List ℕ) (v : Node) (r : Offer) : Type 0 where
   pub none : v .asks ≡ false → r .step ≡ stepsEnd
   pub nearest : v .asks ≡ true → NearestOf plan swept (v .asker) (v .x .ty) 0 r
-
--- of the contexts at the places from lo to below hi that meet ρ and μ, a node in the state to which an event in the sets by leads from
--- the state is no end and is visited, if an edge may lead there at all
-pub record Settled (s plan : List ℕ) (t : Task) (back : List ℕ) (state by lo hi : ℕ) : Type 0 where
-  pub all : (e w : ℕ) → by ≡ eventSetsAt plan e → lo ≤ placeOf (statesIn t) w → placeOf (statesIn t) w < hi
-      → meetsρμ (policyOf s) (contextAtIndex (t .counts) (placeOf (statesIn t) w)) ≡ true
-      → stateOf (statesIn t) w ≡ watchBy s plan t .step state e (codeOf (t .counts) (statesIn t) w)
-      → (T (modelBy s plan t .σ (t .legs .count) (codeOf (t .counts) (statesIn t) w)) → T (watchBy s plan t .bad (stateOf (statesIn t) w)))
-      → Clear (graphOf s plan t) back w
-
--- .. whatever the policy
-abbrev pub AllSettled : List ℕ → Task → List ℕ → ℕ → ℕ → ℕ → ℕ → Type 0
-AllSettled plan t back state by lo hi = (s : List ℕ) → Given s plan t → Settled s plan t back state by lo hi

@@ -8,10 +8,10 @@ use borrow.Author.Needs.{needs}
 use borrow.Author.Tests.{not-true, not-false}
 use Rattle.base.proofs.ChainLaws.{Visit, left}
 use Rattle.base.proofs.BoolLaws.{and-true}
-use Rattle.goal_image.specs.Goal.{goalOf, goalLinks}
+use Rattle.goal_image.specs.Goal.{goalOf, goalLinks, isContextChain}
 use Rattle.goal_image.specs.Layout.{goalCount}
 use Rattle.goal_image.specs.declared.sets.Asked.{Asked}
-use Rattle.goal_image.specs.inner.Memberships.{isAsked, matchesAsked, askedIn}
+use Rattle.goal_image.specs.inner.Memberships.{matchesAsked, askedIn}
 use Rattle.goal_image.specs.inner.Sound.{SoundGoal}
 use Rattle.goal_image.proofs.Along.{along-start, along-step, along-less, along-end}
 use Rattle.goal_image.proofs.SetLaws.{set-iff, set-none}
@@ -24,9 +24,9 @@ Inv-loop goal h asked i₀ i = Visit (goalLinks (goalOf goal)) h (λ j. matchesA
 abbrev μ-loop : tie.MeasureT-loop
 μ-loop goal h asked i₀ i = left (goalCount goal) i
 
--- chain h is of the sort that is asked
-sort : (K : tie.Else1 Inv-loop μ-loop) → isAsked (K .before .before .before .args .asked) (K .before .before .before .args .h) ≡ true
-sort K = sym (K .before .is-asked .ensures) ∙ not-false (K .before .is-asked .result) (K .if1 .left)
+-- h is a σ chain
+sort : (K : tie.Else1 Inv-loop μ-loop) → isContextChain (K .before .before .before .args .h) ≡ true
+sort K = sym (K .before .is-context-chain .ensures) ∙ not-false (K .before .is-context-chain .result) (K .if1 .left)
 
 -- what is known where record i has been held to what is asked
 module _ (K : tie.After-matches Inv-loop μ-loop) where
@@ -53,7 +53,7 @@ module _ (K : tie.After-matches Inv-loop μ-loop) where
 
 returns : tie.Need-returns Inv-loop μ-loop
 returns c =
-    let t = c .before .is-asked in
+    let t = c .before .is-context-chain in
     let n = sym (t .ensures) ∙ not-true (t .result) (c .if1 .taken) in
     rw n
 
@@ -68,7 +68,7 @@ matches-requires c κs = let v = c .before .loop .inv .most in search needs
 returns-2 : tie.Need-returns-2 Inv-loop μ-loop
 returns-2 c =
     let K = c .before in
-    sym (and-true (isAsked (a K) (h K)) (askedIn (goalOf (g K)) (h K) (a K)) (sort (K .before .before .before .before))
+    sym (and-true (isContextChain (h K)) (askedIn (goalOf (g K)) (h K) (a K)) (sort (K .before .before .before .before))
     (set-iff (goalOf (g K)) (sound K .chains) (h K) (omega arith) (a K) .1 (i K, visit K .on (omega arith), sym (K .matches .ensures) ∙ c .if2 .taken)))
 
 next-at-requires : tie.Need-next-at-requires Inv-loop μ-loop

@@ -5,21 +5,21 @@ use mathlib.Core.Path.{sym, _∙_}
 use native.Mathlib.Omega.{arith}
 use borrow.Author.Needs.{needs}
 use Rattle.base.proofs.BoolLaws.{and-first}
-use Rattle.goal_image.specs.Goal.{goalOf}
-use Rattle.goal_image.specs.inner.Memberships.{isAsked, askedIn}
+use Rattle.goal_image.specs.Goal.{goalOf, isContextChain}
+use Rattle.goal_image.specs.inner.Memberships.{askedIn}
 use Rattle.goal_image.proofs.Gather.{Gathered, gathered-start, gathered-join, gathered-pass, gathered-end}
-use Rattle.goal_image.proofs.SortLaws.{asked-below}
+use Rattle.goal_image.proofs.SortLaws.{context-below}
 use Rattle.goal_image.proofs.sets.sets.Statement.{statement}
 use Rattle.goal_image.proofs.sets.sets.Tie as tie
 
 abbrev Inv-loop : tie.InvT-loop
-Inv-loop goal asked mask₀ h₀ mask h = (h ≤ 15) × Gathered (λ j. isAsked asked j && askedIn (goalOf goal) j asked) h mask
+Inv-loop goal asked mask₀ h₀ mask h = (h ≤ 15) × Gathered (λ j. isContextChain j && askedIn (goalOf goal) j asked) h mask
 
 abbrev μ-loop : tie.MeasureT-loop
 μ-loop goal asked mask₀ h₀ mask h = 15 - h
 
 loop-holds : tie.Need-loop-holds Inv-loop μ-loop
-loop-holds c = (omega arith, gathered-start _)
+loop-holds c = (omega arith, gathered-start _ 0 (λ j b. absurd (omega arith)))
 
 loop-again : tie.Need-loop-again Inv-loop μ-loop
 loop-again c =
@@ -33,9 +33,8 @@ loop-again c =
 
 returns : tie.Need-returns Inv-loop μ-loop
 returns c =
-    let a = c .before .before .before .args .asked in
     let l = c .before .loop in
-    record { at = gathered-end _ (l .h) (l .mask) (omega arith) (l .inv .1) (λ j t. asked-below a j (and-first (isAsked a j) _ t)) }
+    record { at = gathered-end _ (l .h) (l .mask) (omega arith) (l .inv .1) (λ j t. context-below j (and-first (isContextChain j) _ t)) }
 
 pub sets-spec : {M : Type 1} → statement M
 sets-spec = tie.close (tie.spec Inv-loop μ-loop loop-holds (λ c κs. search needs) (λ c. search needs) (λ c. search needs) (λ c. search needs) (λ c. search needs) loop-again returns)

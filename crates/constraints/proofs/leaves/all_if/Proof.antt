@@ -1,0 +1,12 @@
+use Rattle.constraints.proofs.WordLaws.{all-yes, all-no}
+use Rattle.constraints.proofs.leaves.all_if.Statement.{statement}
+use Rattle.constraints.proofs.leaves.all_if.Tie as tie
+
+returns : tie.Need-returns
+returns c = all-yes (c .if1 .taken)
+
+returns-2 : tie.Need-returns-2
+returns-2 c = all-no (c .if1 .left)
+
+pub all-if-spec : {M : Type 1} → statement M
+all-if-spec = tie.close (tie.spec returns returns-2)
