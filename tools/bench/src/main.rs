@@ -1,5 +1,5 @@
 //! `./bench`: the goal question, least steps, joins and canonical images through the static library, each against plain programs on the
-//! same images, in one run.
+//! same images, in one run; and where it is asked for, the slowest images that were found.
 mod canonical_plain;
 mod canonicals;
 mod drawn;
@@ -12,11 +12,12 @@ mod joins;
 mod memory_search;
 mod policy_plain;
 mod sizes;
+mod slowest;
 mod steps;
 mod steps_search;
 mod timing;
 
-use sizes::{Goals, Masks, Order, Plain, Says, Size};
+use sizes::{Goals, Masks, Order, Says, Size};
 
 const PROGRAM: Size = Size {
     types: 64,
@@ -32,7 +33,6 @@ const PROGRAM: Size = Size {
     order: Order::Made,
     masks: Masks::OneBit,
     goal: Goals::Holds,
-    plain: Plain::Both,
 };
 const STATION: Size = Size { types: 255, classes: 8, allows: 3000, legs: 2, ..PROGRAM };
 const SIX_LEGS: Size = Size { legs: 6, ..STATION };
@@ -61,35 +61,13 @@ fn shapes() -> Vec<(String, Size)> {
         [(Says::SameUser, "same user"), (Says::SameRole, "same role"), (Says::SameUserOrRole1, "same user or role 1")]
     {
         all.push((format!("{name}, 4 nested"), Size { says, ..CONSTRAINED }));
-        all.push((format!("{name}, 400 nested"), Size { says, nested: 400, plain: Plain::MemoryAlone, ..CONSTRAINED }));
+        all.push((format!("{name}, 400 nested"), Size { says, nested: 400, ..CONSTRAINED }));
         all.push((format!("{name}, 4 roles, 15 users"), Size { says, ..many_users }));
         all.push((format!("{name}, 15 roles, 15 users"), Size { says, ..both }));
-        all.push((
-            format!("{name}, station, 300 nested"),
-            Size { says, types: 255, allows: 1500, nested: 300, plain: Plain::MemoryAlone, ..both },
-        ));
+        all.push((format!("{name}, station, 300 nested"), Size { says, types: 255, allows: 1500, nested: 300, ..both }));
     }
-    all.push((
-        "same user, 1,500 nested".to_string(),
-        Size { classes: 1, constraints: 1, nested: 1500, plain: Plain::Neither, ..both },
-    ));
+    all.push(("same user, 1,500 nested".to_string(), Size { classes: 1, constraints: 1, nested: 1500, ..both }));
     all
-}
-
-/// The slowest accepted images that were found, by size: one constraint on every permission, which tells every context from every other, so that
-/// nothing that is remembered of it helps; the records shared out between it and the allows.
-fn slowest() -> Vec<(String, Size)> {
-    let slow =
-        Size { classes: 1, constraints: 1, says: Says::SameUserOrRest, masks: Masks::All, plain: Plain::Neither, ..PROGRAM };
-    let pairs = Size { roles: 15, users: 15, legs: 2, ..slow };
-    [
-        ("slowest, program's limit", Size { allows: 1800, nested: 1700, ..slow }),
-        ("slowest, station", Size { types: 255, legs: 2, allows: 1800, nested: 800, ..slow }),
-        ("slowest, six legs", Size { types: 255, legs: 6, allows: 1800, nested: 800, ..slow }),
-        ("slowest, 15 roles, 15 users", Size { allows: 500, nested: 1500, ..pairs }),
-    ]
-    .map(|(name, size)| (name.to_string(), size))
-    .to_vec()
 }
 
 /// The sizes, from the limit of the goal program to the largest policy and goal, each with masks of one bit and of 32, and what else is to be measured.
@@ -124,15 +102,16 @@ fn cases() -> Vec<(String, Size)> {
     all
 }
 
-/// Least steps are asked where both plain programs are.
+/// Those that least steps is asked of: for nested constraints it would take hours to find the two contexts that are asked about.
 fn steps_cases() -> Vec<(String, Size)> {
-    cases().into_iter().filter(|(_, size)| size.plain == Plain::Both).collect()
+    cases().into_iter().filter(|(_, size)| size.nested == 0).collect()
 }
 
 const USAGE: &str =
     "usage: ./bench [--list] [--once] [--question goal|steps|join|canonical|slowest] [--only TEXT].. [--leave-out TEXT]..
 TEXT is a part of a case's name; --list prints the names; --once asks each program once and times nothing; --question asks one
-of the five alone: the goal question, least steps, joins, canonical images, or the goal question on the slowest images found.";
+alone, the goal question, least steps, joins or canonical images, or the goal question on the slowest images that were found,
+which are asked for by name alone.";
 
 fn usage() -> ! {
     eprintln!("{USAGE}");
@@ -157,14 +136,6 @@ const GOALS: Table<Size> = Table {
     ask_once: goals::ask_once,
     note: goals::NOTE,
 };
-const SLOWEST: Table<Size> = Table {
-    question: "slowest",
-    cases: slowest,
-    print_head: goals::print_head,
-    measure: goals::measure,
-    ask_once: goals::ask_once,
-    note: goals::NOTE,
-};
 const STEPS: Table<Size> = Table {
     question: "steps",
     cases: steps_cases,
@@ -181,7 +152,6 @@ const JOINS: Table<joins::Sizes> = Table {
     ask_once: joins::ask_once,
     note: joins::NOTE,
 };
-
 const CANONICALS: Table<canonicals::Sizes> = Table {
     question: "canonical",
     cases: canonicals::cases,
@@ -189,6 +159,14 @@ const CANONICALS: Table<canonicals::Sizes> = Table {
     measure: canonicals::measure,
     ask_once: canonicals::ask_once,
     note: canonicals::NOTE,
+};
+const SLOWEST: Table<Size> = Table {
+    question: "slowest",
+    cases: slowest::cases,
+    print_head: slowest::print_head,
+    measure: slowest::measure,
+    ask_once: slowest::ask_once,
+    note: slowest::NOTE,
 };
 
 #[derive(Default)]
@@ -224,8 +202,9 @@ fn names_one(parts: &[String], name: &str) -> bool {
 }
 
 impl<C> Table<C> {
-    fn is_asked(&self, options: &Options) -> bool {
-        options.question.as_ref().is_none_or(|question| question == self.question)
+    /// The question is named; or none is, and it is one of those that are asked then.
+    fn is_asked(&self, options: &Options, unnamed: bool) -> bool {
+        options.question.as_ref().map_or(unnamed, |question| question == self.question)
     }
 
     /// The lines of the cases that are asked for; false where the answers to one differ.
@@ -242,7 +221,7 @@ impl<C> Table<C> {
         let mut agreed = true;
         for (name, size) in asked {
             match names_one(&options.left_out, &name) {
-                true => println!("{name:34} left out, as asked"),
+                true => println!("{name:40} left out, as asked"),
                 false if options.once => agreed &= (self.ask_once)(&name, &size),
                 false => agreed &= (self.measure)(&name, &size),
             }
@@ -257,12 +236,12 @@ impl<C> Table<C> {
     }
 }
 
-/// The names of the cases: those of least steps are among those of the goal question.
+/// The names of the cases: those of least steps are some of the goal question's.
 fn names() -> Vec<String> {
-    let joins = joins::cases().into_iter().map(|(name, _)| name);
-    let canonicals = canonicals::cases().into_iter().map(|(name, _)| name);
-    let goals = cases().into_iter().chain(slowest()).map(|(name, _)| name);
-    goals.chain(joins).chain(canonicals).collect()
+    fn of<C>(cases: Vec<(String, C)>) -> impl Iterator<Item = String> {
+        cases.into_iter().map(|(name, _)| name)
+    }
+    of(cases()).chain(of(joins::cases())).chain(of(canonicals::cases())).chain(of(slowest::cases())).collect()
 }
 
 fn main() {
@@ -270,19 +249,18 @@ fn main() {
     if options.list {
         return names().iter().for_each(|name| println!("{name}"));
     }
-    let asked = [&GOALS, &STEPS, &SLOWEST]
-        .map(|table| table.is_asked(&options))
-        .into_iter()
-        .chain([JOINS.is_asked(&options), CANONICALS.is_asked(&options)]);
-    let asked: Vec<bool> = asked.collect();
-    if !asked.contains(&true) {
+    type Run<'a> = (bool, &'a dyn Fn() -> bool);
+    let runs: [Run; 5] = [
+        (GOALS.is_asked(&options, true), &|| GOALS.run(&options)),
+        (STEPS.is_asked(&options, true), &|| STEPS.run(&options)),
+        (JOINS.is_asked(&options, true), &|| JOINS.run(&options)),
+        (CANONICALS.is_asked(&options, true), &|| CANONICALS.run(&options)),
+        (SLOWEST.is_asked(&options, false), &|| SLOWEST.run(&options)),
+    ];
+    if runs.iter().all(|(is_asked, _)| !is_asked) {
         usage()
     }
     // every table is printed, also after one where answers differ
-    let runs: [&dyn Fn() -> bool; 5] =
-        [&|| GOALS.run(&options), &|| STEPS.run(&options), &|| SLOWEST.run(&options), &|| JOINS.run(&options), &|| {
-            CANONICALS.run(&options)
-        }];
-    let differ = runs.iter().zip(&asked).filter(|(run, asked)| **asked && !run()).count();
+    let differ = runs.iter().filter(|(is_asked, run)| *is_asked && !run()).count();
     std::process::exit((differ > 0) as i32);
 }

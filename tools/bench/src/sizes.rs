@@ -21,8 +21,20 @@ pub enum Says {
     SameUserOrRole1,
     SameUser,
     SameRole,
-    /// The same user, or the same type and role: what tells every context from every other.
-    SameUserOrRest,
+    /// The same user, or the same type and role, and neither user is the last: every context is told from every other, and of every type
+    /// the last user's contexts are left to the end.
+    NotLastUser,
+}
+
+impl Says {
+    /// How many nodes say it.
+    fn nodes(self) -> u32 {
+        match self {
+            Says::SameUser | Says::SameRole => 1,
+            Says::SameUserOrRole1 => 3,
+            Says::NotLastUser => 10,
+        }
+    }
 }
 
 /// How the records of an image stand.
@@ -45,14 +57,6 @@ pub enum Goals {
     OneNode,
 }
 
-/// Which of the plain programs is asked. They evaluate a constraint anew for each pair of contexts, which takes minutes where it is long.
-#[derive(Clone, Copy, PartialEq, Eq)]
-pub enum Plain {
-    Both,
-    MemoryAlone,
-    Neither,
-}
-
 #[derive(Clone, Copy)]
 pub struct Size {
     pub types: u32,
@@ -70,7 +74,6 @@ pub struct Size {
     pub order: Order,
     pub masks: Masks,
     pub goal: Goals,
-    pub plain: Plain,
 }
 
 impl Size {
@@ -80,17 +83,22 @@ impl Size {
     pub fn nodes(&self) -> usize {
         self.contexts() << self.legs
     }
-    /// A constraint is itself, what it says, and the nots above that.
-    fn records_of_a_constraint(&self) -> u32 {
-        let said = match self.says {
-            Says::SameUser | Says::SameRole => 1,
-            Says::SameUserOrRole1 => 3,
-            Says::SameUserOrRest => 5,
-        };
-        1 + said + self.nested
+    /// The nodes of a constraint: what it says, and the nots above that.
+    fn nodes_of_a_constraint(&self) -> u32 {
+        self.says.nodes() + self.nested
     }
     fn frame_records(&self) -> u32 {
-        3 * self.classes + self.users * (self.roles - 1) + self.records_of_a_constraint() * self.constraints
+        3 * self.classes + self.users * (self.roles - 1) + (1 + self.nodes_of_a_constraint()) * self.constraints
+    }
+    /// About how many times a search without memory that enters so many nodes evaluates a node of an expression: from each of them for
+    /// every allow record of its type and every context of the other; for order once, and for events for each way to be in the γ sets.
+    pub fn evaluated(&self, entered: usize) -> f64 {
+        if self.constraints == 0 {
+            return 0.0;
+        }
+        let targets = 2.0 * self.allows as f64 / self.types as f64 * (self.roles * self.users) as f64;
+        let ways = (1.0 + 2f64.powi(self.legs as i32).min(32.0)) / 2.0;
+        entered as f64 * targets * ways * self.nodes_of_a_constraint() as f64
     }
     fn domains(&self) -> u32 {
         let room = MOST_RECORDS as u32 - self.allows - self.frame_records();
@@ -161,15 +169,20 @@ impl Maker {
                 self.records.push(Record::node(9, 1, 0, 0));
                 self.records.push(Record::node(3, 0, at + 1, at + 2));
             }
-            Says::SameUserOrRest => {
+            Says::SameUser => self.records.push(Record::node(6, 0, 0, 0)),
+            Says::SameRole => self.records.push(Record::node(5, 0, 0, 0)),
+            Says::NotLastUser => {
                 self.records.push(Record::node(4, 0, 0, 0));
                 self.records.push(Record::node(5, 0, 0, 0));
                 self.records.push(Record::node(2, 0, at + 1, at + 2));
                 self.records.push(Record::node(6, 0, 0, 0));
                 self.records.push(Record::node(3, 0, at + 3, at + 4));
+                self.records.push(Record::node(11, self.size.users, 0, 0));
+                self.records.push(Record::node(12, self.size.users, 0, 0));
+                self.records.push(Record::node(3, 0, at + 6, at + 7));
+                self.records.push(Record::node(1, 0, at + 8, 0));
+                self.records.push(Record::node(2, 0, at + 5, at + 9));
             }
-            Says::SameUser => self.records.push(Record::node(6, 0, 0, 0)),
-            Says::SameRole => self.records.push(Record::node(5, 0, 0, 0)),
         }
         for _ in 0..self.size.nested {
             let below = self.records.len();

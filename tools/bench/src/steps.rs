@@ -4,7 +4,7 @@
 use crate::goals::Ours as GoalQuestion;
 use crate::sizes::Size;
 use crate::steps_search::{farthest, run, run_with_memory};
-use crate::timing::least_times;
+use crate::timing::{least, timed};
 use flowgoal_calls::Steps;
 
 pub const NOTE: &str =
@@ -14,7 +14,7 @@ with the goal of the case of that name, and the ratio of least steps to it";
 
 pub fn print_head() {
     println!(
-        "{:34} {:14} {:>6} {:>9} {:>9} {:10} {:>10} {:>9} {:>10} {:>8} {:>10} {:>8} {:>10} {:>8}",
+        "{:40} {:14} {:>6} {:>9} {:>9} {:10} {:>10} {:>9} {:>10} {:>8} {:>10} {:>8} {:>10} {:>8}",
         "least steps: case",
         "T R U C",
         "allows",
@@ -41,8 +41,7 @@ struct Ours<'a> {
 }
 
 impl Ours<'_> {
-    fn new(policy: &[u8], contexts: usize) -> Ours<'_> {
-        let pair = farthest(policy);
+    fn new(policy: &[u8], pair: [[u32; 3]; 2], contexts: usize) -> Ours<'_> {
         Ours { policy, pair, work: [vec![0; contexts], vec![0; contexts]], path: vec![0; 2 * contexts + 1] }
     }
     fn ask(&mut self) -> Steps {
@@ -57,16 +56,26 @@ impl Ours<'_> {
     }
 }
 
-/// The answer and the contexts that a plain program took up, where all three programs agree.
-fn agree(name: &str, ours: &mut Ours) -> Option<(Steps, usize)> {
+/// What all three programs agree on: the answer, and the contexts that a plain program took up. With the seconds that each took.
+struct Agreed {
+    answer: Steps,
+    entered: usize,
+    proved: f64,
+    plain: f64,
+    memory: f64,
+}
+
+/// Each program is asked once.
+fn agree(name: &str, ours: &mut Ours) -> Option<Agreed> {
     let [x, y] = ours.pair;
-    let answer = ours.ask();
-    let (plain, memory) = (run(ours.policy, x, y), run_with_memory(ours.policy, x, y));
-    let plainly = plain.0.map_or(Steps::None, |m| Steps::Shown(m as u32));
-    if plainly == answer && memory == plain {
-        return Some((answer, plain.1));
+    let (answer, proved) = timed(|| ours.ask());
+    let (without, plain) = timed(|| run(ours.policy, x, y));
+    let (with_memory, memory) = timed(|| run_with_memory(ours.policy, x, y));
+    let plainly = without.0.map_or(Steps::None, |m| Steps::Shown(m as u32));
+    if plainly == answer && with_memory == without {
+        return Some(Agreed { answer, entered: without.1, proved, plain, memory });
     }
-    println!("{name}: least steps: the library says {answer}, the plain program {plain:?}, with memory {memory:?}");
+    println!("{name}: least steps: the library says {answer}, the plain program {without:?}, with memory {with_memory:?}");
     None
 }
 
@@ -74,33 +83,37 @@ fn agree(name: &str, ours: &mut Ours) -> Option<(Steps, usize)> {
 pub fn measure(name: &str, size: &Size) -> bool {
     let (policy, goal) = size.images(42);
     let contexts = size.contexts();
-    let mut ours = Ours::new(&policy, contexts);
-    let Some((answer, entered)) = agree(name, &mut ours) else { return false };
-    let [x, y] = ours.pair;
-    let mut checked = Ours::new(&policy, contexts);
+    let pair = farthest(&policy);
+    let mut ours = Ours::new(&policy, pair, contexts);
+    let Some(agreed) = agree(name, &mut ours) else { return false };
+    let Agreed { answer, entered, .. } = agreed;
+    let [x, y] = pair;
+    let mut checked = Ours::new(&policy, pair, contexts);
     // one entry too few is refused after every check of the policy, before the search
-    assert_eq!(checked.ask_with(contexts - 1), Steps::Refused(11));
+    let (refused, checks) = timed(|| checked.ask_with(contexts - 1));
+    assert_eq!(refused, Steps::Refused(11));
     let mut of_goal = GoalQuestion::new(size.nodes());
-    let [proved, checks, plain, memory, goal_question] = least_times([
-        &mut || {
+    let (_, goal_question) = timed(|| of_goal.ask(&policy, &goal));
+    let [proved, checks, plain, memory, goal_question] = least([
+        (agreed.proved, &mut || {
             std::hint::black_box(ours.ask());
-        },
-        &mut || {
+        }),
+        (checks, &mut || {
             std::hint::black_box(checked.ask_with(contexts - 1));
-        },
-        &mut || {
+        }),
+        (agreed.plain, &mut || {
             std::hint::black_box(run(&policy, x, y));
-        },
-        &mut || {
+        }),
+        (agreed.memory, &mut || {
             std::hint::black_box(run_with_memory(&policy, x, y));
-        },
-        &mut || {
+        }),
+        (goal_question, &mut || {
             std::hint::black_box(of_goal.ask(&policy, &goal));
-        },
+        }),
     ]);
     let Size { types, roles, users, classes, allows, .. } = size;
     println!(
-        "{name:34} {:14} {allows:6} {contexts:9} {entered:9} {:10} {:10.3} {:9.3} {:10.3} {:8.3} {:10.3} {:8.3} {:10.3} {:8.3}",
+        "{name:40} {:14} {allows:6} {contexts:9} {entered:9} {:10} {:10.3} {:9.3} {:10.3} {:8.3} {:10.3} {:8.3} {:10.3} {:8.3}",
         format!("{types} {roles} {users} {classes}"),
         answer.to_string(),
         proved * 1e3,
@@ -118,8 +131,8 @@ pub fn measure(name: &str, size: &Size) -> bool {
 /// Each program is asked once; false where the answers differ.
 pub fn ask_once(name: &str, size: &Size) -> bool {
     let (policy, _) = size.images(42);
-    let agreed = agree(name, &mut Ours::new(&policy, size.contexts()));
-    if let Some((answer, entered)) = &agreed {
+    let agreed = agree(name, &mut Ours::new(&policy, farthest(&policy), size.contexts()));
+    if let Some(Agreed { answer, entered, .. }) = &agreed {
         println!("{name}: least steps: {answer}, {entered} contexts entered");
     }
     agreed.is_some()

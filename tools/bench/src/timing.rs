@@ -5,6 +5,16 @@ use std::time::Instant;
 const ROUND_SECONDS: f64 = 0.2;
 const ROUNDS: usize = 5;
 
+/// A call that takes longer than this is made once.
+const LONG_SECONDS: f64 = 10.0 * ROUND_SECONDS;
+
+/// What a call gives, and the seconds that it takes.
+pub fn timed<R>(call: impl FnOnce() -> R) -> (R, f64) {
+    let start = Instant::now();
+    let result = call();
+    (result, start.elapsed().as_secs_f64())
+}
+
 /// The seconds that so many calls take, for each of them.
 fn round(call: &mut dyn FnMut(), calls: usize) -> f64 {
     let start = Instant::now();
@@ -12,30 +22,16 @@ fn round(call: &mut dyn FnMut(), calls: usize) -> f64 {
     start.elapsed().as_secs_f64() / calls as f64
 }
 
-/// What a call gives, and the seconds that it takes.
-pub fn timed<T>(call: impl FnOnce() -> T) -> (T, f64) {
-    let start = Instant::now();
-    let result = call();
-    (result, start.elapsed().as_secs_f64())
-}
-
 /// The least times of the calls: rounds of as many calls as fill a round, in turn, so that what else the machine does meets all.
 pub fn least_times<const N: usize>(calls: [&mut dyn FnMut(); N]) -> [f64; N] {
-    let first = [0.0; N];
-    least_times_after(first, calls)
+    least(calls.map(|call| (round(call, 1), call)))
 }
 
-/// The same, where some calls were timed once already: 0 for those that were not.
-pub fn least_times_after<const N: usize>(first: [f64; N], calls: [&mut dyn FnMut(); N]) -> [f64; N] {
-    let mut first = first.into_iter();
-    let mut timed = calls.map(|call| match first.next() {
-        Some(seconds) if seconds > 0.0 => (seconds, call),
-        _ => (round(call, 1), call),
-    });
+/// The same of calls that were made once already and took so long.
+pub fn least<const N: usize>(mut timed: [(f64, &mut dyn FnMut()); N]) -> [f64; N] {
     for _ in 0..ROUNDS {
         for (best, call) in &mut timed {
-            // a call that takes many rounds' time is not repeated
-            if *best < 10.0 * ROUND_SECONDS {
+            if *best < LONG_SECONDS {
                 let calls = (ROUND_SECONDS / *best).ceil().max(1.0) as usize;
                 *best = best.min(round(*call, calls));
             }
