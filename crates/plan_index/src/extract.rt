@@ -12,6 +12,7 @@ ghost use mathlib.Core.Path.{_≡_};
 ghost use Prim.Native.Nat.{_+_, _*_, _≤_, _<_};
 ghost use lib.ListN.{length};
 ghost use Rattle.policy_image.specs.Policy.{policyOf};
+ghost use Rattle.policy_image.specs.inner.Counting.{counting};
 ghost use Rattle.policy_image.specs.inner.Reading.{Bytes};
 ghost use Rattle.policy_check.specs.inner.Sound.{Sound};
 ghost use Rattle.plan_tables.specs.inner.Tables.{GammaMasks};
@@ -53,7 +54,7 @@ pub fn extract(
     masks: &mut [u32],
 ) -> usize
     requires { ⌜ Sound (now policy) × GammaMasks (policyOf (now policy)) (now perms) × (items ≤ length (now codes)) × (recordNumbers ≤ length (now masks)) ⌝ }
-    ensures { λ n. ⌜ Extracted (isCounted (now (counted .entry))) (policyOf (now (policy .entry))) (now (codes .exit)) (now (masks .exit)) n ⌝ }
+    ensures { λ n. ⌜ Extracted (counting (isCounted (now (counted .entry))) (policyOf (now (policy .entry)))) (now (codes .exit)) (now (masks .exit)) n ⌝ }
 {
     let mut n: usize = 0;
     let mut i = head_at(policy, ALLOWS);

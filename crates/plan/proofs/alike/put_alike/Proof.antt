@@ -2,8 +2,8 @@ use Rattle.base.proofs.LowestLaws.{less-without}
 use Rattle.plan.specs.inner.Leads.{NotTransition, AlikeTable}
 use Rattle.plan.proofs.LeadLaws.{transition-still, all-alike}
 use borrow.Author.Needs.{needs}
-use Rattle.plan.proofs.leads.put_alike.Statement.{statement}
-use Rattle.plan.proofs.leads.put_alike.Tie as tie
+use Rattle.plan.proofs.alike.put_alike.Statement.{statement}
+use Rattle.plan.proofs.alike.put_alike.Tie as tie
 
 abbrev Inv-loop : tie.InvT-loop
 Inv-loop plan class alike₀ left₀ alike left = NotTransition class left × AlikeTable plan alike

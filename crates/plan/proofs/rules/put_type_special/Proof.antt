@@ -5,8 +5,8 @@ use mathlib.Core.Path.{_≡_, refl}
 use Prim.Native.Nat.{_+_, _-_}
 use native.Mathlib.Omega.{arith}
 use borrow.Author.Needs.{needs}
-use Rattle.plan.proofs.make.put_type_special.Statement.{statement}
-use Rattle.plan.proofs.make.put_type_special.Tie as tie
+use Rattle.plan.proofs.rules.put_type_special.Statement.{statement}
+use Rattle.plan.proofs.rules.put_type_special.Tie as tie
 
 abbrev Inv-loop : tie.InvT-loop
 Inv-loop plan₀ types t₀ plan t = (length plan ≡ length plan₀) × SpecialBelow types plan₀ plan t

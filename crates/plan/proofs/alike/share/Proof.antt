@@ -7,8 +7,8 @@ use Rattle.base.proofs.LowestLaws.{less-without}
 use Rattle.plan.specs.inner.Leads.{Shared}
 use Rattle.plan.proofs.LeadLaws.{shared-more}
 use borrow.Author.Needs.{needs}
-use Rattle.plan.proofs.leads.share.Statement.{statement}
-use Rattle.plan.proofs.leads.share.Tie as tie
+use Rattle.plan.proofs.alike.share.Statement.{statement}
+use Rattle.plan.proofs.alike.share.Tie as tie
 
 abbrev Inv-loop : tie.InvT-loop
 Inv-loop class mask alike₀ left₀ alike left = ((q : ℕ) → bit left q ≡ true → bit mask q ≡ true) × Shared class mask alike₀ alike

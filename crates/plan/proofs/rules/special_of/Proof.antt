@@ -8,8 +8,8 @@ use mathlib.Core.Path.{ap}
 use Prim.Native.Nat.{ℕ, _-_, _≤_}
 use native.Mathlib.Omega.{arith}
 use borrow.Author.Needs.{needs}
-use Rattle.plan.proofs.make.special_of.Statement.{statement}
-use Rattle.plan.proofs.make.special_of.Tie as tie
+use Rattle.plan.proofs.rules.special_of.Statement.{statement}
+use Rattle.plan.proofs.rules.special_of.Tie as tie
 
 abbrev Inv-loop : tie.InvT-loop
 Inv-loop plan lo hi all₀ j₀ all j = (lo ≤ j) × SpecialOf plan lo j all

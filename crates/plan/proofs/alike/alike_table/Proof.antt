@@ -3,8 +3,8 @@ use Rattle.plan.specs.inner.Leads.{AlikeTable}
 use Rattle.plan.proofs.LeadLaws.{table-begin}
 use native.Mathlib.Omega.{arith}
 use borrow.Author.Needs.{needs}
-use Rattle.plan.proofs.leads.alike_table.Statement.{statement}
-use Rattle.plan.proofs.leads.alike_table.Tie as tie
+use Rattle.plan.proofs.alike.alike_table.Statement.{statement}
+use Rattle.plan.proofs.alike.alike_table.Tie as tie
 
 abbrev Inv-loop : tie.InvT-loop
 Inv-loop classes plan alike₀ class₀ alike class = AlikeTable plan alike

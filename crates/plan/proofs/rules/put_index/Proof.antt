@@ -1,15 +1,13 @@
--- The set that is handed over has every record number, so the index is that of α.
 use native.Mathlib.Omega.{arith}
 use borrow.Author.Needs.{needs}
-use Rattle.policy_image.specs.Policy.{policyOf}
-use Rattle.plan_index.proofs.CountingLaws.{all-counted, every-counted}
-use Rattle.plan.proofs.BlockLaws.{types-few, counted}
-use Rattle.plan.proofs.make.put_index.Statement.{statement}
-use Rattle.plan.proofs.make.put_index.Tie as tie
+use Rattle.plan_index.specs.inner.Counting.{isCounted}
+use Rattle.plan.proofs.BlockLaws.{types-few, last-few, counted}
+use Rattle.plan.proofs.rules.put_index.Statement.{statement}
+use Rattle.plan.proofs.rules.put_index.Tie as tie
 
 -- the way back from the call of `index` to the start, and from the first of its lists that is lent again to that call
 abbrev start : tie.After-reads → tie.Start
-start K = K .before .before .before .before .before .before .before
+start K = K .before .before .before .before .before .before
 
 abbrev lists : tie.After-put-blocks-arg → tie.After-reads2
 lists K = K .before .before .before .before .before
@@ -28,17 +26,23 @@ put-blocks-requires c κs =
     let L = lists c in
     let I = L .before .before .before .before in
     let a = start (I .before) in
-    let few = a .pre .0 .sound .exact .few in (
+    let few = last-few (a .pre .0) (isCounted (a .args .counted .now)) (I .index .ensures) in (
       a .pre .0,
-      all-counted _ (policyOf (a .args .policy .now)) (λ i l h. every-counted i (omega arith)) (I .index .ensures),
       record {
         first-size = L .before .before .before .first2 .given;
         keys-size = L .before .before .keys2 .given;
         writes-size = L .before .writes2 .given;
         reads-size = L .reads2 .given;
       },
+      omega (arith, few, L .before .before .keys2 .given),
       a .pre .1,
     )
+
+returns : tie.Need-returns
+returns c =
+    let B = c .before .before in
+    let I = lists (B .before) .before .before .before .before in
+    B .put-blocks .ensures .at (isCounted (start (I .before) .args .counted .now)) (I .index .ensures)
 
 pub put-index-spec : {M : Type 1} → statement M
 put-index-spec =
@@ -55,4 +59,4 @@ put-index-spec =
     (λ c. search needs)
     put-blocks-requires
     (λ c. search needs)
-    (λ c. c .before .before .put-blocks .ensures))
+    returns)

@@ -1,7 +1,7 @@
 use Rattle.plan.proofs.LeadLaws.{transition-out}
 use borrow.Author.Needs.{needs}
-use Rattle.plan.proofs.leads.not_transition.Statement.{statement}
-use Rattle.plan.proofs.leads.not_transition.Tie as tie
+use Rattle.plan.proofs.alike.not_transition.Statement.{statement}
+use Rattle.plan.proofs.alike.not_transition.Tie as tie
 
 returns : tie.Need-returns
 returns c = transition-out (c .before .before .if1 .taken) (c .before .with-bit .ensures) (c .without .ensures)

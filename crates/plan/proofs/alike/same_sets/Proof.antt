@@ -5,8 +5,8 @@ use Rattle.plan.specs.inner.Leads.{SameSets}
 use Rattle.plan.proofs.LeadLaws.{sets-begin, sets-next}
 use native.Mathlib.Omega.{arith}
 use borrow.Author.Needs.{needs}
-use Rattle.plan.proofs.leads.same_sets.Statement.{statement}
-use Rattle.plan.proofs.leads.same_sets.Tie as tie
+use Rattle.plan.proofs.alike.same_sets.Statement.{statement}
+use Rattle.plan.proofs.alike.same_sets.Tie as tie
 
 abbrev Inv-loop : tie.InvT-loop
 Inv-loop plan class sets first r₀ q₀ r q = (q ≤ 32) × SameSets plan class sets r
