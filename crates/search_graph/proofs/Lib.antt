@@ -4,5 +4,6 @@ pub mod ModelLaws
 pub mod WatchLaws
 pub mod ArrivalLaws
 pub mod LevelLaws
+pub mod StartLaws
 pub mod SeedLaws
 pub mod GivenLaws

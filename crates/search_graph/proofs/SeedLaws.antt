@@ -1,10 +1,11 @@
 -- The starts of a search: what the context at each place comes to, and how the code keeps what is known.
-use mathlib.Core.Path.{_≡_, sym, _∙_, ap, ap₂, subst}
+use mathlib.Core.Path.{_≡_, refl, sym, _∙_, ap, ap₂, subst}
 use mathlib.Core.Bool.{Bool, true, false, not}
 use mathlib.Core.List.{List, []}
 use mathlib.Core.Logic.{⊎-elim}
 use Prim.Native.Nat.{ℕ, _+_, _*_, _^_, _≤_, _<_}
 use native.Mathlib.Nat.{mul-le-mul-right, zero-mul, lt-of-lt-of-le}
+use native.Mathlib.Decide.{decLe}
 use native.Mathlib.Omega.{arith}
 use borrow.Author.Tests.{not-true, not-false}
 use lib.Arith.{digits-lt}
@@ -18,14 +19,14 @@ use Rattle.policy_image.specs.Policy.{policyOf}
 use Rattle.context.specs.declared.Context.{Context}
 use Rattle.context.specs.Codes.{contextOf}
 use Rattle.context.specs.Ranges.{ContextInRange}
-use Rattle.context.specs.inner.Places.{contextCount, contextAtIndex, OfType}
+use Rattle.context.specs.inner.Places.{contextCount, contextAtIndex, firstPlace, OfType}
 use Rattle.context.proofs.PlaceLaws.{at-in-range}
 use Rattle.paths.specs.Model.{Model}
 use Rattle.paths.specs.inner.Monitor.{Start}
 use Rattle.goal_model.specs.Images.{inRange, meetsρμ}
 use Rattle.plan.specs.inner.Plan.{PlanCounts}
 use Rattle.plan.specs.inner.Sets.{setsOf}
-use Rattle.context.proofs.TypeLaws.{of-below}
+use Rattle.context.proofs.TypeLaws.{of-below, start-le}
 use Rattle.search_steps.specs.inner.Steps.{heldBy}
 use Rattle.search_steps.proofs.OfferLaws.{held-is}
 use Rattle.search_graph.specs.declared.arrival.Arrival.{Arrival}
@@ -38,6 +39,7 @@ use Rattle.search_graph.specs.inner.Watching.{Started}
 use Rattle.search_graph.specs.inner.Arrivals.{Arrived, Lands}
 use Rattle.base.proofs.Numbers.{below-or}
 use Rattle.search_graph.specs.inner.Tasks.{statesIn, Readable, Given, modelBy, watchBy, graphOf}
+use Rattle.search_graph.specs.inner.Starts.{NoStart}
 use Rattle.search_graph.specs.inner.Seeds.{Cleared, Roomy, Begins, Beginning, SownNodes, SownStart}
 use Rattle.search_graph.proofs.SearchLaws.{seed-begin, seed-pass, seed-visit, seed-end}
 use Rattle.search_graph.proofs.NodeLaws.{place-of, state-of}
@@ -83,6 +85,11 @@ module _ {s plan : List ℕ} {t : Task} (A : Given s plan t) where
 
     pub no-held : {b : Bool} → b ≡ heldBy n plan o y → not b ≡ true → Begins M n W K y Dropped
     no-held {b} p k z = absurd (clash (to-true (M .held (codeAt n y)) (z .meets)) (sym held ∙ sym p ∙ not-true b k))
+
+    pub never-start : NoStart n plan o → Start M (codeAt n y) → ⊥
+    never-start Z z =
+        ⊎-elim (λ q. clash (to-true (M .σ 0 (codeAt n y)) (z .starts)) (sym (into-of s plan t N h refl 0) ∙ q))
+        (λ q. clash (to-true (M .held (codeAt n y)) (z .meets)) (sym held ∙ q)) (Z .at y H)
 
     pub start-of : {into : ℕ} {a b : Bool} → into ≡ setsOf n plan (contextAtIndex n y) → a ≡ bit into 0 → not a ≡ false → b ≡ heldBy n plan o y → not b ≡ false → Start M (codeAt n y)
     start-of {into} {a} {b} S p p′ r r′ =
@@ -145,6 +152,24 @@ module _ {s plan : List ℕ} {t : Task} {back queue : List ℕ} {tail y : ℕ} (
 
   abbrev K₀ : ℕ
   K₀ = statesIn t
+
+  -- places that are no starts are passed
+  pass-by : (b : ℕ) → y ≤ b → b ≤ contextCount n₀ → Cleared back (y * K₀) (contextCount n₀ * K₀) → ((z : ℕ) → y ≤ z → z < b → Start M₀ (codeAt n₀ z) → ⊥)
+      → SowingBy s plan t back queue tail b
+  pass-by b lo hi C k =
+      record {
+        given = S .given;
+        seeding = seed-pass (b * K₀) (S .seeding) (mul-le-mul-right K₀ lo) most (λ w l r. C .at w l (omega (arith, most)))
+            (λ w l r st. k (placeOf K₀ w) (place-le (states-some t) l) (place-lt (states-some t) r) (st .begins));
+        none = λ z r Z. none′ z r Z (decLe y z);
+      }
+    where
+      most : b * K₀ ≤ contextCount n₀ * K₀
+      most = mul-le-mul-right K₀ hi
+
+      none′ : (z : ℕ) → z < b → BadStart M₀ W₀ (codeAt n₀ z) → Dec (y ≤ z) → ⊥
+      none′ z r Z (yes l) = k z l r (Z .begins)
+      none′ z r Z (no l) = S .none z (omega arith) Z
 
   module _ (h : y < contextCount n₀) (C : Cleared back (y * K₀) (contextCount n₀ * K₀)) where
     block : (y + 1) * K₀ ≤ contextCount n₀ * K₀
@@ -300,6 +325,31 @@ module _ {plan : List ℕ} {t : Task} {count nodes : ℕ} {back queue : List ℕ
             by = λ s A. subst (λ (k : ℕ). SowingBy s plan t (set back v (k + 1)) (set queue tail v) (tail + 1) (y + 1)) (sym (S .nodes-are))
                 (enter-by (S .by s A) in-count (S .clear) (begun q s A));
           }
+
+  -- a type is passed over
+  pub sow-pass : {o b : ℕ} → OfType (t .counts) o y → NoStart (t .counts) plan o → b ≡ firstPlace (t .counts) (o + 1) → Sowing plan t count nodes back queue tail b
+  sow-pass {o} {b} H Z q =
+      record {
+        readable = S .readable;
+        contexts = S .contexts;
+        nodes-are = S .nodes-are;
+        few = S .few;
+        below = most;
+        full = omega (arith, S .full, more);
+        fits = S .fits;
+        clear = record { at = λ w lo hi. S .clear .at w (omega (arith, more)) hi };
+        by = λ s A. pass-by (S .by s A) b next most (S .clear)
+            (λ z lo hi. never-start A (record { type = H .type; low = omega (arith, H .low); high = omega (arith, q) }) Z);
+      }
+    where
+      next : y ≤ b
+      next = omega (arith, H .high)
+
+      most : b ≤ contextCount (t .counts)
+      most = rw q (start-le (S .readable .sets .counts .countable) (o + 1) (omega (arith, H .type .high)))
+
+      more : y * statesIn t ≤ b * statesIn t
+      more = mul-le-mul-right (statesIn t) next
 
   pub sow-end : count ≤ y → (s : List ℕ) → Given s plan t → SownNodes s plan t queue back tail
   sow-end h s A = end-by (S .by s A) (omega (arith, S .contexts))

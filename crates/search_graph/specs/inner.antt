@@ -7,4 +7,5 @@ pub mod Tasks
 pub mod Watching
 pub mod Arrivals
 pub mod Blocks
+pub mod Starts
 pub mod Seeds

@@ -3,4 +3,5 @@
 pub mod arrival;
 pub mod monitor;
 pub mod seed;
+pub mod starts;
 pub mod task;

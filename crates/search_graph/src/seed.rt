@@ -2,10 +2,13 @@
 use crate::arrival::Arrival;
 use crate::arrival::land;
 use crate::monitor::start_state;
+use crate::starts::may_start;
+use crate::starts::pairs_start;
 use crate::task::Task;
 use crate::task::states_in;
 use base::bits::has_bit;
 use context::Context;
+use context::places::first_place;
 use plan::sets::sets_at;
 use search_steps::targets::is_held;
 ghost use Prim.Native.Nat.{_≤_};
@@ -49,7 +52,7 @@ fn clear(back: &mut [u32], nodes: u32)
     }
 }
 
-// Puts the starts that are no ends into the queue.
+// Puts the starts that are no ends into the queue, by place. A type that has none is passed over.
 pub fn seed(plan: &[u32], task: Task, queue: &mut [u32], back: &mut [u32]) -> Seeded
     requires { ⌜ Readable (now plan) task × Roomy task (now queue) (now back) ⌝ }
     ensures { λ r. ⌜ AllSown (now (plan .entry)) task (now (queue .exit)) (now (back .exit)) r ⌝ }
@@ -58,10 +61,15 @@ pub fn seed(plan: &[u32], task: Task, queue: &mut [u32], back: &mut [u32]) -> Se
     let count = Context::count(counts);
     let nodes = count * states_in(task);
     clear(back, nodes);
+    let paired = pairs_start(counts, plan);
     let mut tail: usize = 0;
     let mut y: u32 = 0;
     while y < count {
         let ty = Context::at(y, counts).ty;
+        if !may_start(counts, plan, paired, ty) {
+            y = first_place(counts, ty + 1);
+            continue;
+        }
         match start_at(plan, task, ty, y) {
             Arrival::Broken(_) => {
                 return Seeded::Start(y);
