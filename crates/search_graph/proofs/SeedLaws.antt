@@ -15,7 +15,6 @@ use lib.Seq.{getD-set-same, getD-set-other}
 use Rattle.base.specs.Bits.{bit}
 use Rattle.policy_image.specs.declared.counts.Counts.{Counts}
 use Rattle.policy_image.specs.Layout.{countsOf}
-use Rattle.policy_image.specs.Policy.{policyOf}
 use Rattle.context.specs.declared.Context.{Context}
 use Rattle.context.specs.Codes.{contextOf}
 use Rattle.context.specs.Ranges.{ContextInRange}
@@ -24,7 +23,7 @@ use Rattle.context.proofs.PlaceLaws.{at-in-range}
 use Rattle.paths.specs.Model.{Model}
 use Rattle.paths.specs.inner.Monitor.{Start}
 use Rattle.goal_model.specs.Images.{inRange, meetsρμ}
-use Rattle.plan.specs.inner.Plan.{PlanCounts}
+use Rattle.plan.specs.inner.Plan.{PlanCounts, ruled}
 use Rattle.plan.specs.inner.Sets.{setsOf}
 use Rattle.context.proofs.TypeLaws.{of-below, start-le}
 use Rattle.search_steps.specs.inner.Steps.{heldBy}
@@ -78,7 +77,7 @@ module _ {s plan : List ℕ} {t : Task} (A : Given s plan t) where
     here = code-of-place N h
 
     held : heldBy n plan o y ≡ M .held (codeAt n y)
-    held = held-is (A .planned .policy) H ∙ ap (meetsρμ (policyOf s)) (sym here)
+    held = held-is (A .planned .policy) H ∙ ap (meetsρμ (ruled s plan)) (sym here)
 
     pub no-set : {into : ℕ} {b : Bool} → into ≡ setsOf n plan (contextAtIndex n y) → b ≡ bit into 0 → not b ≡ true → Begins M n W K y Dropped
     no-set {into} {b} S p k z = absurd (clash (to-true (M .σ 0 (codeAt n y)) (z .starts)) (sym (into-of s plan t N h S 0) ∙ sym p ∙ not-true b k))
