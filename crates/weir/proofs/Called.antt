@@ -28,7 +28,7 @@ use Rattle.bare_questions.proofs.BareLaws.{last, one-answer}
 use Rattle.goal_question.specs.declared.goal.Outcome.{Outcome}
 use Rattle.goal_question.specs.declared.goal.Outcome.the-variants as outcome
 use Rattle.goal_question.specs.GoalQuestion.{WorkFits, allQuestions, GoalPromise, outcomeNumber}
-use Rattle.goal_question.proofs.GoalLaws.{order-one, events-one, not-both, not-holds-order, not-holds-events, not-holds, least-one}
+use Rattle.goal_question.proofs.GoalLaws.{order-one, events-one, not-both, not-holds-order, not-holds-events, not-holds, least-one, either}
 use Rattle.goal_model.specs.cases.OwnGoals.{writeOnly}
 use Rattle.weir.specs.cases.Goals.{weirAllow41, empty, exceptType, endTypeOne, oneLeg, noStart}
 use Rattle.weir.specs.cases.Weir.{W5Slice}
@@ -42,43 +42,43 @@ use Rattle.weir.proofs.Theorem.{w12-first, w12-second, w5-slice}
 module _ (s g : List ℕ) (work1 work2 : ℕ) where
   pub refused-only : {k : ℕ} (before after : List ℕ) (r : Outcome) → RefusedWith (allQuestions s g work1 work2) k → GoalPromise s g work1 work2 before after r
       → (r ≡ outcome.Refused k) × (after ≡ before)
-  refused-only b a outcome.Holds h p = absurd (passed-not-refused (allQuestions s g work1 work2) _ (p .0) h)
-  refused-only b a (outcome.Order m) h p = absurd (passed-not-refused (allQuestions s g work1 work2) _ (p .0) h)
-  refused-only b a (outcome.Events m) h p = absurd (passed-not-refused (allQuestions s g work1 work2) _ (p .0) h)
+  refused-only b a outcome.Holds h p = absurd (passed-not-refused (allQuestions s g work1 work2) _ (p .0 .0) h)
+  refused-only b a (outcome.Order m) h p = absurd (passed-not-refused (allQuestions s g work1 work2) _ (p .0 .0) h)
+  refused-only b a (outcome.Events m) h p = absurd (passed-not-refused (allQuestions s g work1 work2) _ (p .0 .0) h)
   refused-only b a (outcome.Refused i) h p = (ap outcome.Refused (one-number (allQuestions s g work1 work2) i _ (p .0) h), p .1)
-  refused-only b a (outcome.NoRoom m) h p = absurd (passed-not-refused (allQuestions s g work1 work2) _ (p .0) h)
+  refused-only b a (outcome.NoRoom m) h p = absurd (passed-not-refused (allQuestions s g work1 work2) _ (either (p .0) .0) h)
 
   module _ (all : AllYes (allQuestions s g work1 work2)) where
     pub holds-only : (before after : List ℕ) (r : Outcome) → Holds (model s g) → GoalPromise s g work1 work2 before after r → (r ≡ outcome.Holds) × (after ≡ before)
-    holds-only b a outcome.Holds h p = (refl, p .2)
-    holds-only b a (outcome.Order m) h p = absurd (not-holds-order (model s g) m h (p .1))
-    holds-only b a (outcome.Events m) h p = absurd (not-holds-events (model s g) m h (p .1))
+    holds-only b a outcome.Holds h p = (refl, p .1)
+    holds-only b a (outcome.Order m) h p = absurd (not-holds-order (model s g) m h (p .0 .1))
+    holds-only b a (outcome.Events m) h p = absurd (not-holds-events (model s g) m h (p .0 .1))
     holds-only b a (outcome.Refused k) h p = absurd (passed-not-refused (allQuestions s g work1 work2) k all (p .0))
-    holds-only b a (outcome.NoRoom m) h p = absurd (not-holds (model s g) m h (p .1))
+    holds-only b a (outcome.NoRoom m) h p = absurd (not-holds (model s g) m h (either (p .0) .1))
 
     pub order-only : {m : ℕ} (before after : List ℕ) (r : Outcome) → OrderAt (model s g) m → 2 * m + 1 ≤ length before → GoalPromise s g work1 work2 before after r
         → r ≡ outcome.Order m
-    order-only b a outcome.Holds h room p = absurd (not-holds-order (model s g) _ (p .1) h)
-    order-only b a (outcome.Order i) h room p = ap outcome.Order (order-one (model s g) i _ (p .1) h)
-    order-only b a (outcome.Events i) h room p = absurd (not-both (model s g) _ i h (p .1))
+    order-only b a outcome.Holds h room p = absurd (not-holds-order (model s g) _ (p .0 .1) h)
+    order-only b a (outcome.Order i) h room p = ap outcome.Order (order-one (model s g) i _ (p .0 .1) h)
+    order-only b a (outcome.Events i) h room p = absurd (not-both (model s g) _ i h (p .0 .1))
     order-only b a (outcome.Refused k) h room p = absurd (passed-not-refused (allQuestions s g work1 work2) k all (p .0))
-    order-only {m} b a (outcome.NoRoom i) h room p = let e : i ≡ m = least-one (model s g) i m (p .1) (inl h) in absurd (omega (arith, p .2))
+    order-only {m} b a (outcome.NoRoom i) h room p = let e : i ≡ m = least-one (model s g) i m (either (p .0) .1) (inl h) in absurd (omega (arith, p .1))
 
     pub events-only : {m : ℕ} (before after : List ℕ) (r : Outcome) → EventsAt (model s g) m → 2 * m + 1 ≤ length before → GoalPromise s g work1 work2 before after r
         → r ≡ outcome.Events m
-    events-only b a outcome.Holds h room p = absurd (not-holds-events (model s g) _ (p .1) h)
-    events-only b a (outcome.Order i) h room p = absurd (not-both (model s g) i _ (p .1) h)
-    events-only b a (outcome.Events i) h room p = ap outcome.Events (events-one (model s g) i _ (p .1) h)
+    events-only b a outcome.Holds h room p = absurd (not-holds-events (model s g) _ (p .0 .1) h)
+    events-only b a (outcome.Order i) h room p = absurd (not-both (model s g) i _ (p .0 .1) h)
+    events-only b a (outcome.Events i) h room p = ap outcome.Events (events-one (model s g) i _ (p .0 .1) h)
     events-only b a (outcome.Refused k) h room p = absurd (passed-not-refused (allQuestions s g work1 work2) k all (p .0))
-    events-only {m} b a (outcome.NoRoom i) h room p = let e : i ≡ m = least-one (model s g) i m (p .1) (inr h) in absurd (omega (arith, p .2))
+    events-only {m} b a (outcome.NoRoom i) h room p = let e : i ≡ m = least-one (model s g) i m (either (p .0) .1) (inr h) in absurd (omega (arith, p .1))
 
     pub short-only : {m : ℕ} (before after : List ℕ) (r : Outcome) → OrderAt (model s g) m ⊎ EventsAt (model s g) m → length before < 2 * m + 1
         → GoalPromise s g work1 work2 before after r → (r ≡ outcome.NoRoom m) × (after ≡ before)
-    short-only {m} b a outcome.Holds h short p = absurd (not-holds (model s g) m (p .1) h)
-    short-only {m} b a (outcome.Order i) h short p = let e : i ≡ m = least-one (model s g) i m (inl (p .1)) h in absurd (omega (arith, p .2 .room))
-    short-only {m} b a (outcome.Events i) h short p = let e : i ≡ m = least-one (model s g) i m (inr (p .1)) h in absurd (omega (arith, p .2 .room))
+    short-only {m} b a outcome.Holds h short p = absurd (not-holds (model s g) m (p .0 .1) h)
+    short-only {m} b a (outcome.Order i) h short p = let e : i ≡ m = least-one (model s g) i m (inl (p .0 .1)) h in absurd (omega (arith, p .1 .room))
+    short-only {m} b a (outcome.Events i) h short p = let e : i ≡ m = least-one (model s g) i m (inr (p .0 .1)) h in absurd (omega (arith, p .1 .room))
     short-only b a (outcome.Refused k) h short p = absurd (passed-not-refused (allQuestions s g work1 work2) k all (p .0))
-    short-only {m} b a (outcome.NoRoom i) h short p = (ap outcome.NoRoom (least-one (model s g) i m (p .1) h), p .3)
+    short-only {m} b a (outcome.NoRoom i) h short p = (ap outcome.NoRoom (least-one (model s g) i m (either (p .0) .1) h), p .2)
 
 -- ---- the numbers that C gets
 pub refuses : {k : ℕ} (s g : List ℕ) (work1 work2 : ℕ) → RefusedWith (allQuestions s g work1 work2) k → Refuses s g work1 work2 k

@@ -1,6 +1,7 @@
 use native.Mathlib.Omega.{arith}
 use Rattle.plan.proofs.ContextLaws.{plan-counts}
-use Rattle.plan.proofs.PlanLaws.{policy-tops, planned}
+use Rattle.plan.proofs.PlanLaws.{policy-tops}
+use Rattle.search.specs.inner.Found.{unbounded}
 use Rattle.goal_question.proofs.ModelLaws.{same-model}
 use Rattle.goal_question.proofs.SizeLaws.{passed-sizes, searchable}
 use Rattle.goal_question.proofs.AnswerLaws.{promised}
@@ -8,29 +9,49 @@ use borrow.Author.Needs.{needs}
 use Rattle.goal_question.proofs.goal.answer.Statement.{statement}
 use Rattle.goal_question.proofs.goal.answer.Tie as tie
 
+-- the plan is made
+abbrev start : tie.After-make-plan → tie.Start
+start m = m .before .before .before .before .before .before .before
+
+abbrev made : tie.After-put-goal → tie.After-make-plan
+made p = p .before .before .before
+
+-- what is found by it
+abbrev put : tie.After-find-by → tie.After-put-goal
+put f = f .before .before .before .before .before
+
 make-plan-requires : tie.Need-make-plan-requires
 make-plan-requires c κs = (passed-sizes (c .before .before .before .before .before .before .pre) .ready, omega arith)
 
 put-goal-requires : tie.Need-put-goal-requires
 put-goal-requires c κs =
-    let Z = passed-sizes (c .before .before .before .before .before .before .before .before .before .pre) in
-    (Z .goal, plan-counts (Z .ready), policy-tops (Z .ready) (c .before .before .make-plan .ensures), omega arith)
+    let m = c .before .before in
+    let Z = passed-sizes (start m .pre) in
+    (Z .goal, plan-counts (Z .ready), policy-tops (Z .ready) (m .make-plan .ensures), omega arith)
 
-answer-by-requires : tie.Need-answer-by-requires
-answer-by-requires c κs =
-    let put-goal = c .before .before .before .before .before in
-    let make-plan = put-goal .before .before .before in
-    let s = make-plan .before .before .before .before .before .before .before in
-    let G = put-goal .put-goal .ensures in
-    searchable (s .pre) (planned (passed-sizes (s .pre) .ready) (omega arith) (make-plan .make-plan .ensures) (G .below) (G .leads) (G .goal .sets .lists .falls))
+find-by-requires : tie.Need-find-by-requires
+find-by-requires c κs =
+    let p = c .before .before .before .before in
+    searchable (start (made p) .pre) (made p .make-plan .ensures) (p .put-goal .ensures) (omega arith)
+
+show-by-requires : tie.Need-show-by-requires
+show-by-requires c κs =
+    let f = c .before .before .before .before .before .before .before .before in
+    let p = put f in
+    let S = searchable (start (made p) .pre) (made p .make-plan .ensures) (p .put-goal .ensures) (omega arith) in
+    (record { given = S .given; first = omega (arith, S .first); second = omega (arith, S .second) }, record { bound = unbounded; found = f .find-by .ensures })
 
 returns : tie.Need-returns
 returns c =
-    let answer-by = c .before .before .before .before .before .before in
-    let put-goal = answer-by .before .before .before .before .before .before in
-    let s = put-goal .before .before .before .before .before .before .before .before .before .before in
+    let r = c .before .before .before .before .before .before .before in
+    let f = r .before .before .before .before .before .before .before .before .before in
+    let p = put f in
+    let s = start (made p) in
     let R = passed-sizes (s .pre) .ready in
-    promised (same-model R (plan-counts R) (put-goal .put-goal .ensures .goal) (s .pre .legs)) (s .pre) _ _ (answer-by .answer-by .result) (answer-by .answer-by .ensures)
+    let G = p .put-goal .ensures in
+    rw (c .outcome-of .ensures)
+    (promised (searchable (s .pre) (made p .make-plan .ensures) G (omega arith)) (same-model R (plan-counts R) (G .goal) (s .pre .legs)) (s .pre) _ _
+    (f .find-by .result) (r .show-by .result) (f .find-by .ensures) (r .show-by .ensures))
 
 pub answer-spec : {M : Type 1} → statement M
-answer-spec = tie.close (tie.spec (λ c. search needs) make-plan-requires (λ c. search needs) put-goal-requires (λ c. search needs) answer-by-requires (λ c. search needs) (λ c. search needs) (λ c. search needs) returns)
+answer-spec = tie.close (tie.spec (λ c. search needs) make-plan-requires (λ c. search needs) put-goal-requires (λ c. search needs) find-by-requires (λ c. search needs) show-by-requires (λ c κs. search needs) (λ c. search needs) (λ c. search needs) (λ c. search needs) returns)
