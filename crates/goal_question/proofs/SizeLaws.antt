@@ -18,10 +18,7 @@ use Rattle.goal_image.specs.Questions.{goalQuestions}
 use Rattle.goal_image.specs.inner.Answer.{legsIn}
 use Rattle.goal_image.specs.inner.Sound.{SoundGoal}
 use Rattle.goal_image.proofs.AnswerLaws.{sound as goal-sound}
-use Rattle.plan.specs.inner.Plan.{Ready, PolicyPlan}
-use Rattle.plan.specs.inner.Put.{GoalPut}
-use Rattle.plan.specs.inner.Regions.{planEntries}
-use Rattle.plan.proofs.PlanLaws.{planned}
+use Rattle.plan.specs.inner.Plan.{Ready, Planned}
 use Rattle.search_graph.specs.inner.Tasks.{stateCount}
 use Rattle.search_graph.proofs.GivenLaws.{ready-of, given}
 use Rattle.goal_question.specs.GoalQuestion.{workLength, WorkFits}
@@ -59,11 +56,11 @@ module _ {s g : List ℕ} {n : Counts} {l : Legs} {work1 work2 : ℕ} (P : Passe
   work-fits : WorkFits s g work1 work2
   work-fits = passed-then (goalQuestions (countsOf s) g) eleven goal-part .0
 
-  pub searchable : {old plan : List ℕ} → PolicyPlan s n old → GoalPut g n old plan → planEntries ≤ length plan → Searchable s plan n l work1 work2
-  searchable L G size =
+  pub searchable : {plan : List ℕ} → Planned s n plan → Searchable s plan n l work1 work2
+  searchable L =
       let Z = passed-sizes in
       record {
-        given = given (Z .ready) (planned (Z .ready) size L (G .below) (G .leads) (G .goal .sets .lists .falls)) (Z .some-leg) (Z .few-legs);
+        given = given (Z .ready) L (Z .some-leg) (Z .few-legs);
         first = omega (arith, work-length s g (P .counts) (P .legs), work-fits .first);
         second = omega (arith, work-length s g (P .counts) (P .legs), work-fits .second);
       }

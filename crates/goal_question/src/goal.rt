@@ -9,6 +9,9 @@ use goal_image::check::check as check_goal;
 use plan::goal::put_goal;
 use plan::make::make_plan;
 use plan::regions::ENTRIES;
+use plan::regions::RECORD_WORDS;
+use plan::rules::put_rules;
+use plan_index::extract::ALL_BITS;
 use policy_check::check;
 use policy_check::refusal;
 use policy_image::counts::Checked;
@@ -96,6 +99,8 @@ fn answer(
     let mut plan = [0u32; ENTRIES];
     make_plan(policy, counts, &mut plan);
     put_goal(goal, counts, &mut plan);
+    let all = [ALL_BITS; RECORD_WORDS];
+    put_rules(policy, counts, &all, &mut plan);
     let found = find_by(policy, &plan, counts, legs, UNBOUNDED, work1, work2);
     outcome_of(
         found,

@@ -5,6 +5,9 @@ use goal_image::check::Legs;
 use plan::ends::put_ends;
 use plan::make::make_plan;
 use plan::regions::ENTRIES;
+use plan::regions::RECORD_WORDS;
+use plan::rules::put_rules;
+use plan_index::extract::ALL_BITS;
 use policy_check::check;
 use policy_check::refusal;
 use policy_image::counts::Checked;
@@ -83,6 +86,8 @@ fn answer(
     let mut plan = [0u32; ENTRIES];
     make_plan(policy, counts, &mut plan);
     put_ends(x, y, counts, &mut plan);
+    let all = [ALL_BITS; RECORD_WORDS];
+    put_rules(policy, counts, &all, &mut plan);
     let task = Task {
         counts: counts,
         legs: Legs {

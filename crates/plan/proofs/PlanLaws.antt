@@ -1,13 +1,13 @@
 -- The three parts of a plan, from what was put into it.
 use Prim.Native.Nat.{ℕ, _+_, _*_, _/_, _%_, _≤_, _<_}
 use mathlib.Core.Path.{_≡_, refl, sym, subst, ap, _∙_}
-use mathlib.Core.Bool.{Bool, true, _&&_}
+use mathlib.Core.Bool.{Bool, true, not, _||_}
 use mathlib.Core.List.{List}
 use mathlib.Core.Logic.{⊎-elim}
 use native.Mathlib.Omega.{arith}
 use borrow.Author.Tests.{le-ltb}
 use lib.Dec.{ltb}
-use lib.ListN.{length, getD}
+use lib.ListN.{length, getD, replicate}
 use Rattle.base.specs.Bits.{bit}
 use Rattle.base.specs.inner.Fill.{Filled}
 use Rattle.base.proofs.Numbers.{split-le}
@@ -18,7 +18,8 @@ use Rattle.policy_image.specs.OfKind.{some}
 use Rattle.policy_sources.specs.Sources.{domain}
 use Rattle.relations.specs.Relations.{ρ, μ, roleChange}
 use Rattle.plan_index.specs.inner.Codes.{recordNumbers, recordWords}
-use Rattle.plan_index.specs.inner.Counting.{isCounted}
+use Rattle.plan_index.specs.inner.Counting.{isCounted, allBits}
+use Rattle.plan_index.proofs.CountingLaws.{every-counted}
 use Rattle.plan_tables.specs.inner.Groups.{ConstraintGroups}
 use Rattle.plan.specs.inner.Regions.{eventEntries, changesStart, groupsStart, eventSetsStart, countedStart, firstStart, keysStart, typeSpecialStart, planEntries}
 use Rattle.plan.specs.inner.Entries.{countedAt, firstAt, keyAt, typeSpecialAt}
@@ -99,9 +100,9 @@ counted-at : (counted plan : List ℕ) → ((i : ℕ) → i < recordWords → ge
 counted-at counted plan S k =
     ⊎-elim
     (λ (h : recordNumbers ≤ k).
-    ap (λ (b : Bool). b && bit (getD plan (countedStart + k / 32) 0) (k % 32)) (le-ltb k recordNumbers h)
-    ∙ sym (ap (λ (b : Bool). b && bit (getD counted (k / 32) 0) (k % 32)) (le-ltb k recordNumbers h)))
-    (λ (h : k < recordNumbers). ap (λ (w : ℕ). ltb k recordNumbers && bit w (k % 32)) (S (k / 32) (omega arith)))
+    ap (λ (b : Bool). not b || bit (getD plan (countedStart + k / 32) 0) (k % 32)) (le-ltb k recordNumbers h)
+    ∙ sym (ap (λ (b : Bool). not b || bit (getD counted (k / 32) 0) (k % 32)) (le-ltb k recordNumbers h)))
+    (λ (h : k < recordNumbers). ap (λ (w : ℕ). not (ltb k recordNumbers) || bit w (k % 32)) (S (k / 32) (omega arith)))
     (split-le recordNumbers k)
 
 ruled-by : (s counted plan : List ℕ) → ((i : ℕ) → i < recordWords → getD plan (countedStart + i) 0 ≡ getD counted i 0) → ruled s plan ≡ counting (isCounted counted) (policyOf s)
@@ -159,3 +160,7 @@ module _ (s counted old p1 p2 p3 plan : List ℕ) {n : Counts} {types : ℕ} (R 
         same = is-ruled;
         below = below;
       }
+
+-- where all of them count it is that of the image
+pub all-ruled : {s old plan : List ℕ} {n : Counts} → RulesPut s (replicate recordWords allBits) n old plan → ruled s plan ≡ policyOf s
+all-ruled {s} P = P .same ∙ (λ j. counting (λ i. every-counted i j) (policyOf s))

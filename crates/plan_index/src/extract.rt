@@ -23,6 +23,9 @@ ghost use Rattle.plan_index.specs.inner.Items.{ItemsPut, Extracted};
 // How many words a set of record numbers has, a bit for each number.
 pub const RECORD_WORDS: usize = RECORD_NUMBERS / 32;
 
+// A word with every bit: in the set of such words every record counts.
+pub const ALL_BITS: u32 = 4294967295;
+
 // Whether record k counts.
 fn is_counted(counted: &[u32; RECORD_WORDS], k: usize) -> bool
     requires { ⌜ k < recordNumbers ⌝ }

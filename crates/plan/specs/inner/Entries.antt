@@ -1,6 +1,6 @@
 -- The entries of the regions of a plan.
 use Prim.Native.Nat.{ℕ, _+_, _/_, _%_}
-use mathlib.Core.Bool.{Bool, _&&_}
+use mathlib.Core.Bool.{Bool, not, _||_}
 use mathlib.Core.List.{List}
 use lib.Dec.{ltb}
 use lib.ListN.{getD}
@@ -52,9 +52,9 @@ recordUserAt plan k = getD plan (recordUsersStart + k) 0
 abbrev pub alikeAt : List ℕ → ℕ → ℕ
 alikeAt plan e = getD plan (alikeStart + e) 0
 
--- ---- the part of the rules: whether a record number is in the set
+-- ---- the part of the rules: whether a record number is in the set, as isCounted says of a list of its own
 abbrev pub countedAt : List ℕ → ℕ → Bool
-countedAt plan k = ltb k recordNumbers && bit (getD plan (countedStart + k / 32) 0) (k % 32)
+countedAt plan k = not (ltb k recordNumbers) || bit (getD plan (countedStart + k / 32) 0) (k % 32)
 
 abbrev pub firstAt : List ℕ → ℕ → ℕ
 firstAt plan type = getD plan (firstStart + type) 0
