@@ -7,6 +7,7 @@ pub mod goal;
 pub mod held;
 pub mod leads;
 pub mod make;
+pub mod meets;
 pub mod named;
 pub mod regions;
 pub mod rules;

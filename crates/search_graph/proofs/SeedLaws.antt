@@ -25,9 +25,9 @@ use Rattle.paths.specs.inner.Monitor.{Start}
 use Rattle.goal_model.specs.Images.{inRange, meetsρμ}
 use Rattle.plan.specs.inner.Plan.{PlanCounts, ruled}
 use Rattle.plan.specs.inner.Sets.{setsOf}
+use Rattle.plan.specs.inner.Meets.{heldBy}
 use Rattle.context.proofs.TypeLaws.{of-below, start-le}
-use Rattle.search_steps.specs.inner.Steps.{heldBy}
-use Rattle.search_steps.proofs.OfferLaws.{held-is}
+use Rattle.plan.proofs.MeetsLaws.{held-is}
 use Rattle.search_graph.specs.declared.arrival.Arrival.{Arrival}
 use Rattle.search_graph.specs.declared.arrival.Arrival.the-variants.{Enter, Dropped, Broken}
 use Rattle.search_graph.specs.declared.task.Task.{Task}

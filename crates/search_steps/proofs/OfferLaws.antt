@@ -3,7 +3,7 @@ use Prim.Native.Nat.{ℕ, _+_, _*_, _/_, _%_, _≤_, _<_}
 use mathlib.Core.Bool.{Bool, true, false, not, _&&_, _||_}
 use mathlib.Core.List.{List}
 use mathlib.Core.Logic.{_⊎_, inl, inr, ⊎-elim}
-use mathlib.Core.Path.{_≡_, refl, sym, ap, ap₂, subst, _∙_}
+use mathlib.Core.Path.{_≡_, sym, ap, ap₂, subst, _∙_}
 use native.Mathlib.Omega.{arith}
 use borrow.Author.Tests.{not-true, not-false}
 use lib.Bits.{bitOr}
@@ -20,7 +20,6 @@ use Rattle.context.specs.declared.Context.{Context}
 use Rattle.context.specs.declared.Event.{Event}
 use Rattle.context.specs.Codes.{eventAt, eventOf, isTransition}
 use Rattle.context.specs.Ranges.{ContextInRange}
-use Rattle.context.specs.inner.Places.{contextAtIndex, OfType}
 use Rattle.relations.specs.Relations.{α, writeLike, readLike}
 use Rattle.constraints.specs.Constraints.{constraintsHold}
 use Rattle.access.specs.Authorization.{flow}
@@ -28,12 +27,11 @@ use Rattle.access.proofs.RoleLaws.{mayBecome, rule-free, rule-asked}
 use Rattle.goal_model.specs.Images.{meetsρμ}
 use Rattle.plan.specs.inner.Plan.{Ready, special, EntryOf, OfferBlock, Alike, ruled, Leader, Leads, PolicyPlan, Planned}
 use Rattle.plan.specs.inner.Regions.{blockEntries, eventEntries}
-use Rattle.plan.proofs.ContextLaws.{meets-at}
 use Rattle.plan.specs.inner.Entries.{countedAt, specialAt, firstAt, keyAt, writesAt, readsAt, typeSpecialAt, leadsAt}
 use Rattle.search_steps.specs.declared.nearest.Asker.{Asker}
 use Rattle.search_steps.specs.declared.nearest.Offer.{Offer}
 use Rattle.search_steps.specs.inner.Nearest.{stepOf, closed, PassedOver, PassedAt, StepBlock, Nearest, NearestOf, StepBlockOf}
-use Rattle.search_steps.specs.inner.Steps.{specialBy, heldBy, Offering, NextOffer, FirstOffer}
+use Rattle.search_steps.specs.inner.Steps.{specialBy, Offering, NextOffer, FirstOffer}
 use Rattle.relations.proofs.CountedLaws.{gamma-counted}
 use Rattle.search_steps.proofs.FlowLaws.{alpha-defined, defined-class, flow-class, flow-held, flow-by, plain-conditions, conditions}
 use Rattle.search_steps.proofs.NearestLaws.{perm-of, all-passed, none-open}
@@ -295,12 +293,9 @@ none-special {plan} {swept} {t} {a} {start} {entry} B spent z₀ = none-open sta
         (λ (f : bit (specialAt plan (keyAt plan j / 4096 % 32)) q ≡ false). inr (unasked j q lq class f))
         (true-or-false (bit (specialAt plan (keyAt plan j / 4096 % 32)) q))
 
--- what the plan says of special events, of ρ and μ, the policy says
+-- what the plan says of special events the policy says
 pub special-is : {p : Policy} {n : Counts} {plan : List ℕ} {e : ℕ} → PolicyPlan p n plan → e < eventEntries → specialBy plan e ≡ special p (eventOf e)
 special-is {e = e} P h = P .tables .special-at (e / 32) (e % 32) (omega arith)
-
-pub held-is : {p : Policy} {n : Counts} {plan : List ℕ} {o place : ℕ} → PolicyPlan p n plan → OfType n o place → heldBy n plan o place ≡ meetsρμ p (contextAtIndex n place)
-held-is P H = meets-at P H refl
 
 -- ---- whether a step that an entry offers flows
 yes-then : (a b c d : Bool) → c ≡ true → d ≡ true → (a || b) ≡ true → ((a && c) || (b && d)) ≡ true

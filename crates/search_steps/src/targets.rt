@@ -3,11 +3,8 @@ use base::bits::has_bit;
 use constraints::constraints_hold;
 use context::Context;
 use context::Event;
-use context::places::first_place;
 use plan::regions::CHANGES_START;
-use plan::regions::HOLDERS_START;
 use plan::regions::READS_START;
-use plan::regions::ROLES_START;
 use plan::regions::SPECIAL_START;
 use plan::regions::WRITES_START;
 use policy_image::counts::Counts;
@@ -17,14 +14,14 @@ ghost use Prim.Native.Nat.{_≤_, _<_};
 ghost use lib.ListN.{length};
 ghost use Rattle.context.specs.Codes.{eventOf};
 ghost use Rattle.context.specs.Ranges.{ContextInRange};
-ghost use Rattle.context.specs.inner.Places.{contextCount, contextAtIndex, OfType};
+ghost use Rattle.context.specs.inner.Places.{contextCount, contextAtIndex};
 ghost use Rattle.access.specs.Authorization.{roleRule, flow};
 ghost use Rattle.constraints.specs.Constraints.{constraintsHold};
 ghost use Rattle.goal_model.specs.Images.{meetsρμ};
 ghost use Rattle.policy_check.specs.inner.Sound.{Sound};
-ghost use Rattle.plan.specs.inner.Plan.{Ready, PlanCounts, Planned, ruled};
+ghost use Rattle.plan.specs.inner.Plan.{Ready, Planned, ruled};
 ghost use Rattle.plan.specs.inner.Regions.{roleEntries, eventEntries, planEntries};
-ghost use Rattle.search_steps.specs.inner.Steps.{specialBy, heldBy, Conditions, Offering, Facing};
+ghost use Rattle.search_steps.specs.inner.Steps.{specialBy, Conditions, Offering, Facing};
 
 // Whether the event is one whose flow depends on more than types, ρ and μ.
 pub fn is_special(plan: &[u32], event: u32) -> bool
@@ -66,16 +63,6 @@ fn flows_by(policy: &[u8], plan: &[u32], event: u32, entry: usize, x: Context, y
     }
     let back = has_bit(plan[READS_START + entry], perm);
     may_act(policy, plan, event, back, y, x)
-}
-
-// Whether the context at the place, of the type, meets ρ and μ.
-pub fn is_held(counts: Counts, plan: &[u32], ty: u32, place: u32) -> bool
-    requires { ⌜ PlanCounts counts × (planEntries ≤ length (now plan)) × OfType counts ty place ⌝ }
-    ensures { λ r. ⌜ r ≡ heldBy counts (now (plan .entry)) ty place ⌝ }
-{
-    let own = ROLES_START + (ty as usize);
-    let pair = HOLDERS_START + ((place - first_place(counts, ty)) as usize);
-    plan[own] & plan[pair] != 0
 }
 
 // Whether the event flows from x to the context at the place, which meets ρ and μ, and to whose type the entry offers it.

@@ -29,13 +29,14 @@ use Rattle.goal_model.specs.Images.{meetsρμ}
 use Rattle.plan.specs.inner.Entries.{specialAt, eventSetsAt}
 use Rattle.plan.specs.inner.Plan.{special, PlanCounts, ruled}
 use Rattle.plan.specs.inner.Sets.{setsOf}
+use Rattle.plan.specs.inner.Meets.{heldBy}
 use Rattle.search_steps.specs.declared.nearest.Asker.{Asker}
 use Rattle.search_steps.specs.declared.nearest.Offer.{Offer}
 use Rattle.search_steps.specs.inner.Nearest.{closed, PassedOver}
-use Rattle.search_steps.specs.inner.Steps.{heldBy, Offering, ResumesFrom, Facing, NextOffer}
+use Rattle.search_steps.specs.inner.Steps.{Offering, ResumesFrom, Facing, NextOffer}
 use Rattle.search_steps.proofs.FlowLaws.{flow-held}
 use Rattle.search_steps.proofs.FlowLaws as flow-laws
-use Rattle.search_steps.proofs.OfferLaws.{held-is}
+use Rattle.plan.proofs.MeetsLaws.{held-is}
 use Rattle.search_graph.specs.declared.arrival.Arrival.{Arrival}
 use Rattle.search_graph.specs.declared.arrival.Arrival.the-variants.{Enter, Dropped, Broken}
 use Rattle.search_graph.specs.inner.Nodes.{Watch, codeAt, placeOf}

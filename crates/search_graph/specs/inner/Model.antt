@@ -17,7 +17,7 @@ use Rattle.paths.specs.Model.{Model}
 use Rattle.goal_model.specs.Images.{inRange, meetsρμ}
 use Rattle.plan.specs.inner.Entries.{eventSetsAt}
 use Rattle.plan.specs.inner.Sets.{setsOf}
-use Rattle.search_steps.specs.inner.Steps.{heldBy}
+use Rattle.plan.specs.inner.Meets.{heldBy}
 use Rattle.plan.specs.inner.Plan.{ruled}
 
 -- x is in σe, and the event e in γe, by the plan

@@ -3,7 +3,8 @@ use borrow.Author.Tests.{not-false}
 use native.Mathlib.Omega.{arith}
 use borrow.Author.Needs.{needs}
 use Rattle.search_graph.proofs.ArrivalLaws.{place-room}
-use Rattle.search_steps.proofs.OfferLaws.{event-few, special-is, held-is}
+use Rattle.plan.proofs.MeetsLaws.{held-is}
+use Rattle.search_steps.proofs.OfferLaws.{event-few, special-is}
 use Rattle.witness.proofs.StepLaws.{from-below, to-below, to-type, from-range, facing, no-event, no-held, no-flow, no-drop, no-break, decided}
 use Rattle.witness.proofs.step.is_step.Statement.{statement}
 use Rattle.witness.proofs.step.is_step.Tie as tie

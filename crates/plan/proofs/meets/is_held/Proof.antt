@@ -3,13 +3,13 @@ use mathlib.Core.Bool.{not}
 use mathlib.Core.Path.{ap}
 use lib.Bits.{bitAnd}
 use lib.Dec.{eqb}
 use Rattle.plan.specs.inner.Entries.{rolesAt, holdersAt}
 use Rattle.context.proofs.TypeLaws.{of-pair}
 use Rattle.plan.proofs.ContextLaws.{pairs-few}
 use native.Mathlib.Omega.{arith}
 use borrow.Author.Needs.{needs}
-use Rattle.search_steps.proofs.targets.is_held.Statement.{statement}
-use Rattle.search_steps.proofs.targets.is_held.Tie as tie
+use Rattle.plan.proofs.meets.is_held.Statement.{statement}
+use Rattle.plan.proofs.meets.is_held.Tie as tie
 
 shared-slice-read-result-2 : tie.Need-shared-slice-read-result-2
 shared-slice-read-result-2 c =
