@@ -71,11 +71,12 @@ extern "C" {
 
 /* A result is 256 * steps + 4 * number + answer. The number is that of the refusal, and 0 for every other answer. Steps are
  * those of a shortest path that breaks a goal, or leads from one context to another, and 0 where there is none to tell of. A
- * call that writes an image has in place of steps the length of that image, in bytes, and 0 where it is refused. */
+ * call that writes an image has in place of steps the length of that image, in bytes, and 0 where it is refused. Steps and length
+ * take 32 bits, and what stands from 2^40 on is no part of them. */
 #define FLOWGOAL_ANSWER(result) ((unsigned)((result) % 4))
 #define FLOWGOAL_NUMBER(result) ((unsigned)((result) / 4 % 64))
-#define FLOWGOAL_STEPS(result) ((uint64_t)((result) / 256))
-#define FLOWGOAL_LENGTH(result) ((size_t)((result) / 256))
+#define FLOWGOAL_STEPS(result) ((uint64_t)(uint32_t)((result) / 256))
+#define FLOWGOAL_LENGTH(result) ((size_t)(uint32_t)((result) / 256))
 
 /* The answers to the goal question. */
 #define FLOWGOAL_HOLDS 0

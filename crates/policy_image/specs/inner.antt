@@ -2,4 +2,5 @@
 pub mod Reading
 pub mod Answer
 pub mod Counting
+pub mod Sizes
 pub mod Writable

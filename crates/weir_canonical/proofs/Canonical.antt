@@ -10,6 +10,7 @@ use Rattle.base.specs.Questions.{AllYes, RefusedWith}
 use Rattle.base.proofs.Numbers.{split-le}
 use Rattle.base.proofs.QuestionLaws.{passed-not-refused, one-number}
 use Rattle.policy_image.specs.Policy.{policyOf}
+use Rattle.policy_image.specs.inner.Sizes.{headerSize, sizeOf}
 use Rattle.policy_image.proofs.EncodingLaws.{image-length}
 use Rattle.policy_check.specs.Questions.{policyQuestions}
 use Rattle.policy_facts.specs.Canonical.{canonicalOf}
@@ -36,6 +37,7 @@ of-canonical c P h = subst P (sym (c .written)) h
 -- ---- many records
 crowded-passed : {s : List ℕ} {records written : ℕ} → Crowded s records written → written ≤ 4095 → (output : ℕ) → 24 + 12 * written ≤ output
     → AllYes (canonicalQuestions s output)
+unfolding headerSize sizeOf
 crowded-passed {s} c h output room =
     let e = c .comes-to in
     let l = image-length (canonicalOf (policyOf s)) in
@@ -168,6 +170,7 @@ says-canonical {s} c = subst (SaysCanonical s) (c .written) (says-any s (c .acce
 
 -- an image that was written, written again
 written-again : {s image : List ℕ} → CanonicalIs s image → CanonicalIs image image
+unfolding headerSize sizeOf
 written-again {s} {image} c =
     let l = image-length (canonicalOf (policyOf s)) in
     let m = image-length (canonicalOf (policyOf image)) in
@@ -180,6 +183,7 @@ says-twice c = (says-canonical c, says-canonical (written-again c))
 
 -- THE TWELFTH THEOREM: the same of the call
 pub canonical-called : CanonicalCalled
+unfolding headerSize sizeOf
 canonical-called =
     record {
       weir-sorted = says-twice images.weir-sorted;
