@@ -194,7 +194,9 @@ uint64_t flowgoal_join(const uint8_t *maker, size_t maker_length, const uint8_t 
  * out, and flow with b = 3 is written as b = 1 and b = 2. Kinds 8 and 9 keep their order, and constraints and nodes name the same
  * nodes as before by their new numbers. So two policies have equal bytes exactly where their four counts, what their records of
  * kinds 1 to 7 say, permission by permission, and their lists of constraints and of nodes agree, a node being named by its place
- * in the list. Every question is answered of the image as of the policy, and the canonical image of the image is itself.
+ * in the list. flowgoal_authorized, flowgoal_flows, flowgoal_least_steps and flowgoal_check answer of the image as of the policy, and
+ * the canonical image of the image is itself. A join with the image may be refused with 15 where one with the policy is not, since flow
+ * with b = 3 is two records in it.
  *
  * The call refuses with 1 to 6 and 14 as flowgoal_authorized does, or with
  *   15  the image would have more than 4,095 records

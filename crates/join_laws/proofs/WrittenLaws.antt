@@ -72,6 +72,10 @@ module _ (s t : List ℕ) (B : AllBytes s) (D : AllBytes t) (a : AllYes (policyQ
       written-passes (joined p q) can-be-written (joined-counts-range p q (S .range) (T .range)) (joined-rises p q) (joined-chains p q)
       (joined-fields p q small (S .nodes) (T .nodes) (S .fields) (T .fields)) nodes (joined-sources p q (S .sources) (T .sources))
 
+  -- "The result's counts are the larger of each pair."
+  pub written-counts : joined (policyOf s) (policyOf t) .counts ≡ policyOf (joinedImage s t) .counts
+  written-counts = agrees .counts
+
   -- "Its relations are those of both record lists taken together"
   pub written-together : TakenTogether (policyOf (joinedImage s t)) (policyOf s) (policyOf t)
   written-together =

@@ -1,5 +1,6 @@
 // Where each region of a plan starts: the sum of the start and the size of the region before it. The twins of these constants are in
-// specs/inner/Regions.antt; what the entries mean is said in specs/inner/Plan.antt.
+// specs/inner/Regions.antt, with the functions that read an entry in specs/inner/Entries.antt. What the entries mean is said in
+// specs/inner/Plan.antt, and in specs/inner/Ends.antt where a question has two contexts and no goal.
 use plan_tables::CLASSES;
 use plan_tables::ROLES as ROLE_NUMBERS;
 use plan_tables::TYPES;
@@ -24,7 +25,7 @@ pub const RECORDS: usize = 256;
 // By class: the permissions on which there is a constraint, and process transition.
 pub const SPECIAL_START: usize = 0;
 
-// By role: the roles to which it may change.
+// By role: itself, and the roles to which it may change.
 pub const CHANGES_START: usize = SPECIAL_START + CLASSES;
 
 // By event: the permissions of its class that no constraint tells from it.

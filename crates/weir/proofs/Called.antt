@@ -8,12 +8,16 @@ use native.Mathlib.Omega.{arith}
 use lib.ListN.{length}
 use Rattle.base.specs.Numbers.{Numbered}
 use Rattle.base.specs.Questions.{Question, ask, AllYes, RefusedWith}
-use Rattle.base.proofs.QuestionLaws.{passed-not-refused, one-number, refused-first}
-use Rattle.policy_image.specs.Layout.{countsOf}
+use Rattle.base.proofs.QuestionLaws.{passed-not-refused, one-number, refused-first, refused-then}
+use Rattle.policy_image.specs.Layout.{countsOf, recordCount}
 use Rattle.policy_image.specs.Policy.{policyOf}
 use Rattle.policy_image.specs.cases.Weir.{weir, weirAllow31}
 use Rattle.policy_check.specs.Questions.{policyQuestions}
 use Rattle.policy_check.proofs.Cases.{w9-refused, w10-short, w10-empty, w11}
+use Rattle.policy_writing.specs.declared.answer.Writing.the-variants as writing
+use Rattle.policy_writing.specs.Writing.{writingNumber}
+use Rattle.policy_writing.proofs.WritingLaws.{one-writing}
+use Rattle.join.specs.Join.{joinedImage, joinQuestions, JoinPromise}
 use Rattle.context.specs.declared.Context.{Context}
 use Rattle.context.specs.declared.Event.{Event}
 use Rattle.access.specs.Authorization.{authorized, flow}
@@ -130,6 +134,24 @@ policy-refuses : {k : ℕ} (s : List ℕ) → RefusedWith (policyQuestions s) k 
 policy-refuses {k} s r g work1 work2 =
     refuses s g work1 work2 (refused-first (policyQuestions s) (goalQuestions (countsOf s) g ++ (ask 11 (WorkFits s g work1 work2) ∷ [])) k r)
 
+-- .. of the join, by the maker's questions, or by the board's where the maker's are passed
+abbrev joinRoom : List ℕ → List ℕ → List ℕ → List Question
+joinRoom s t before = ask 15 (recordCount s + recordCount t ≤ 4095) ∷ ask 16 (length (joinedImage s t) ≤ length before) ∷ []
+
+module _ (s t before after : List ℕ) (n k : ℕ) (N : Numbered writingNumber (JoinPromise s t before after) n) where
+  join-refuses : RefusedWith (joinQuestions s t (length before)) k → (n ≡ 4 * k + 3) × (after ≡ before)
+  join-refuses r =
+      let o = one-writing (joinQuestions s t (length before)) (joinedImage s t) before after before (N .answer) (writing.Refused k) (N .promised) (r, refl) in
+      (N .number ∙ ap writingNumber (o .0), o .1)
+
+  maker-refuses : RefusedWith (policyQuestions s) k → (n ≡ 4 * k + 3) × (after ≡ before)
+  maker-refuses r = join-refuses (refused-first (policyQuestions s) (policyQuestions t ++ joinRoom s t before) k r)
+
+  board-refuses : AllYes (policyQuestions s) → RefusedWith (policyQuestions t) k → (n ≡ 4 * k + 3) × (after ≡ before)
+  board-refuses a r =
+      join-refuses
+      (refused-then (policyQuestions s) (policyQuestions t ++ joinRoom s t before) k a (refused-first (policyQuestions t) (joinRoom s t before) k r))
+
 -- what is so of the numbers of all questions is so of that of a refusal
 abbrev pub AllNumbers : (ℕ → Type 0) → List Question → Type 0
 AllNumbers P [] = Unit
@@ -177,6 +199,8 @@ weir-called =
       w9-flows = λ x y e. bare-refuses weirAllow31 (w9-refused .it) x y e (flow (policyOf weirAllow31) e x y);
       w9-steps = λ x y work1 work2. refuses-steps weirAllow31 x y work1 work2 (steps-cases .fourteen-before-13 x y work1 work2);
       w9-check = policy-refuses weirAllow31 (w9-refused .it);
+      w9-join-maker = λ t before after n N. maker-refuses weirAllow31 t before after n 14 N (w9-refused .it);
+      w9-join-board = λ s before after n a N. board-refuses s weirAllow31 before after n 14 N a (w9-refused .it);
       w9-short-goal = λ g work1 work2 h. (goals.short (countsOf weirAllow31) g h .it, policy-refuses weirAllow31 (w9-refused .it) g work1 work2);
       w10 = λ s g work1 work2 h. policy-refuses s (w10-short s h .it) g work1 work2;
       w10-empty = empty-passed;

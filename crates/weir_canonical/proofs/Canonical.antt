@@ -11,8 +11,10 @@ use Rattle.base.proofs.Numbers.{split-le}
 use Rattle.base.proofs.QuestionLaws.{passed-not-refused, one-number}
 use Rattle.policy_image.specs.Policy.{policyOf}
 use Rattle.policy_image.specs.inner.Sizes.{headerSize, sizeOf}
+use Rattle.policy_image.specs.cases.Weir.{weirAllow31}
 use Rattle.policy_image.proofs.EncodingLaws.{image-length}
 use Rattle.policy_check.specs.Questions.{policyQuestions}
+use Rattle.policy_check.proofs.Cases.{w9-refused}
 use Rattle.policy_facts.specs.Canonical.{canonicalOf}
 use Rattle.policy_writing.specs.declared.answer.Writing.{Writing}
 use Rattle.policy_writing.specs.declared.answer.Writing.the-variants as writing
@@ -208,6 +210,7 @@ canonical-called =
       policy-first = λ s k r. refuses s k (canonical-cases .policy-first s k r);
       no-type-2 = refuses noType 2 (canonical-cases .no-type-2);
       leaning-14 = refuses leaning 14 (canonical-cases .leaning-14);
+      w9 = refuses weirAllow31 14 (canonical-cases .policy-first weirAllow31 14 (w9-refused .it));
       fifteen = λ s a h. refuses s 15 (canonical-cases .fifteen s a h);
       crowded-15 = refuses (crowded 1 oneFlow 4094) 15 (canonical-cases .crowded-15 .1);
       two-before-15 = refuses (crowded 0 oneFlow 4094) 2 (canonical-cases .two-before-15 .1);
