@@ -62,7 +62,7 @@ is-target-requires c κs =
     let states-in = at .before .before .before .before in
     let s = states-in .before .before .before .before in (
       s .pre .0 .ready,
-      s .pre .0 .planned .policy,
+      s .pre .0 .planned,
       from-range (s .pre .0) (s .pre .1) (states-in .states-in .ensures) (at .at .ensures),
       to-below (s .pre .0) (s .pre .1) (states-in .states-in .ensures),
       facing (s .pre .0) (s .pre .1) (states-in .states-in .ensures) (at .at .ensures) (s .pre .2) (c .is-special .ensures ∙ special-is (s .pre .0 .planned .policy) (event-few (s .pre .0 .ready .sound) (s .pre .2))),
