@@ -1,6 +1,6 @@
 -- The claims of request e, for all policies whose canonical image is written (specs/cases/Theorems.antt says what each of them is).
 use Prim.Native.Nat.{ℕ, _≤_}
-use mathlib.Core.Path.{_≡_, sym, ap, subst}
+use mathlib.Core.Path.{_≡_, refl, sym, ap, subst}
 use mathlib.Core.List.{List, [], _∷_}
 use mathlib.Core.Logic.{_↔_}
 use lib.ListN.{length}
@@ -52,7 +52,7 @@ module _ (s : List ℕ) (W : ImageWritten s) where
 
   -- "Every authorization answer survives the writing."
   pub relations-survive : SameRelations (policyOf s) (policyOf (canonicalImage s))
-  relations-survive = same-relations (same-facts says-same) (read-constraints s (W .bytes) accepted few)
+  relations-survive = same-relations (same-facts says-same) (λ i. refl) (λ i. refl) (read-constraints s (W .bytes) accepted few)
 
   pub answers-survive : SameAnswers s (canonicalImage s)
   answers-survive =

@@ -1,13 +1,16 @@
 -- Which allow records count is nothing to a relation that asks no allow record.
 use Prim.Native.Nat.{ℕ}
 use mathlib.Core.Path.{_≡_, refl}
-use mathlib.Core.Bool.{Bool}
+use mathlib.Core.Bool.{Bool, true, _&&_}
+use lib.Dec.{eqb}
+use Rattle.base.specs.Bits.{bit}
 use Rattle.policy_image.specs.Policy.{Policy}
 use Rattle.policy_image.specs.inner.Counting.{counting}
 use Rattle.policy_image.specs.OfKind.{some, every}
+use Rattle.policy_links.proofs.KindLaws.{counted-all}
 use Rattle.policy_sources.specs.Sources.{domain, AllowsFromDomains}
 use Rattle.context.specs.declared.Event.{Event}
-use Rattle.relations.specs.Relations.{Γ, writeLike, readLike, ρ, μ, roleChange}
+use Rattle.relations.specs.Relations.{Γ, writeLike, readLike, targetOf, allowed, ρ, μ, roleChange}
 
 module _ (f : ℕ → Bool) (p : Policy) where
   pub domain-counted : (t : ℕ) → domain (counting f p) t ≡ domain p t
@@ -41,3 +44,12 @@ module _ (f : ℕ → Bool) (p : Policy) where
   pub change-counted : (r1 r2 : ℕ) → roleChange (counting f p) r1 r2 ≡ roleChange p r1 r2
   unfolding roleChange some
   change-counted r1 r2 = refl
+
+-- every allow record counts, as in the policy of an image and in that of a list: then `allowed` asks nothing else of a record than its fields
+abbrev pub AllCount : Policy → Type 0
+AllCount p = (i : ℕ) → p .counted i ≡ true
+
+pub allowed-all : (p : Policy) → AllCount p → (t1 t2 : ℕ) (e : Event)
+    → allowed p t1 t2 e ≡ some p 4 (λ r. (eqb (r .a) t1 && (eqb (targetOf r) t2 && eqb (r .c) (e .class))) && bit (r .mask) (e .perm))
+unfolding allowed
+allowed-all p all t1 t2 e = counted-all p 4 (λ r. (eqb (r .a) t1 && (eqb (targetOf r) t2 && eqb (r .c) (e .class))) && bit (r .mask) (e .perm)) all
