@@ -13,6 +13,9 @@ use Rattle.paths.specs.inner.Monitor.{plain}
 use Rattle.paths.specs.inner.Least.{Least}
 use Rattle.plan.specs.inner.Plan.{Ready, ruled, Planned}
 use Rattle.plan.specs.inner.Ends.{EndsPlan}
+use Rattle.plan.specs.inner.Put.{RulesPut}
+use Rattle.plan.proofs.ContextLaws.{plan-counts}
+use Rattle.plan.proofs.EndsLaws.{ends-kept}
 use Rattle.search_graph.specs.declared.monitor.Mode.the-variants.{Any}
 use Rattle.search_graph.specs.declared.task.Task.{Task}
 use Rattle.search_graph.specs.inner.Model.{planModel}
@@ -26,13 +29,18 @@ use Rattle.witness.specs.declared.path.Showing.the-variants as showing
 use Rattle.witness.specs.inner.Shown.{FoundShown}
 use Rattle.least_steps.specs.LeastSteps.{FlowPath, SomeFlowPath, NoFlowPath, NoneShorter, StepsPromise}
 use Rattle.least_steps.specs.inner.Parts.{endsLegs, StepsPassed, stepsOf}
-use Rattle.least_steps.proofs.AskedLaws.{passed-ready}
+use Rattle.least_steps.proofs.AskedLaws.{passed-ready, passed-range}
 use Rattle.least_steps.proofs.PathLaws.{some-path, none-shorter, no-path, shown-path}
 
 -- a node for each context
 pub one-state : (n : Counts) → contextCount n * statesIn (taskFor n endsLegs Any) ≡ contextCount n
 unfolding stateCount
 one-state n = omega arith
+
+-- what is put of the rules leaves the ends
+pub ends-over : {s counted old plan : List ℕ} {x y : Context} {n : Counts} {work1 work2 : ℕ} → StepsPassed s x y n work1 work2 → RulesPut s counted n old plan → EndsPlan x y n old → EndsPlan x y n plan
+ends-over {old = old} {plan} P R E =
+    ends-kept old plan (passed-range P .first) (passed-range P .second) (plan-counts (passed-ready P)) (λ i h. R .below i (omega arith)) E
 
 -- where the questions are passed, and the ends are in a plan in which every allow record counts
 module _ {s plan : List ℕ} {x y : Context} {n : Counts} {work1 work2 : ℕ} (P : StepsPassed s x y n work1 work2) (L : Planned s n plan) (E : EndsPlan x y n plan)

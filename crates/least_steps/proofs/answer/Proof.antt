@@ -1,11 +1,9 @@
 use native.Mathlib.Omega.{arith}
 use Rattle.plan.proofs.ContextLaws.{plan-counts}
-use Rattle.plan.proofs.EndsLaws.{ends-kept}
 use Rattle.plan.proofs.PlanLaws.{prepared, all-ruled}
-use Rattle.plan.specs.inner.Ends.{EndsPlan}
 use Rattle.search.specs.inner.Found.{unbounded}
 use Rattle.least_steps.proofs.AskedLaws.{passed-ready, passed-range, passed-room}
-use Rattle.least_steps.proofs.AnswerLaws.{one-state, any-given, promised}
+use Rattle.least_steps.proofs.AnswerLaws.{one-state, ends-over, any-given, promised}
 use borrow.Author.Needs.{needs}
 use Rattle.least_steps.proofs.answer.Statement.{statement}
 use Rattle.least_steps.proofs.answer.Tie as tie
@@ -20,11 +18,6 @@ module _ (K : tie.After-put-rules) where
 
   abbrev start : tie.Start
   start = made .before .before .before .before .before .before
-
-  ends : EndsPlan (start .args .x) (start .args .y) (start .args .counts) _
-  ends =
-      let P = start .pre in
-      ends-kept _ _ (passed-range P .first) (passed-range P .second) (plan-counts (passed-ready P)) (λ i h. K .put-rules .ensures .below i (omega arith)) (put .put-ends .ensures .ends)
 
 make-plan-requires : tie.Need-make-plan-requires
 make-plan-requires c κs = (passed-ready (c .before .before .before .before .before .pre), omega arith)
@@ -46,7 +39,7 @@ search-requires : tie.Need-search-requires
 search-requires c κs =
     let K = c .before .before .before .before in
     let P = start K .pre in (
-      any-given P (K .put-rules .ensures .planned) (ends K) (all-ruled (K .put-rules .ensures)),
+      any-given P (K .put-rules .ensures .planned) (ends-over (start K .pre) (K .put-rules .ensures) (put K .put-ends .ensures .ends)) (all-ruled (K .put-rules .ensures)),
       record { queue-room = omega (arith, one-state (start K .args .counts), passed-room P .first); back-room = omega (arith, one-state (start K .args .counts), passed-room P .second) },
     )
 
@@ -55,7 +48,7 @@ show-found-requires c κs =
     let found = c .before .before .before .before .before .before .before in
     let K = found .before .before .before .before .before in
     let P = start K .pre in (
-      any-given P (K .put-rules .ensures .planned) (ends K) (all-ruled (K .put-rules .ensures)),
+      any-given P (K .put-rules .ensures .planned) (ends-over (start K .pre) (K .put-rules .ensures) (put K .put-ends .ensures .ends)) (all-ruled (K .put-rules .ensures)),
       record { bound = unbounded; found = found .search .ensures },
       omega (arith, one-state (start K .args .counts), passed-room P .second),
     )
@@ -66,7 +59,7 @@ returns c =
     let found = shown .before .before .before .before .before .before .before .before in
     let K = found .before .before .before .before .before in
     rw (c .steps-of .ensures)
-    (promised (start K .pre) (K .put-rules .ensures .planned) (ends K) (all-ruled (K .put-rules .ensures)) _ (found .search .result) (found .search .ensures) _ _ (shown .show-found .result) (shown .show-found .ensures))
+    (promised (start K .pre) (K .put-rules .ensures .planned) (ends-over (start K .pre) (K .put-rules .ensures) (put K .put-ends .ensures .ends)) (all-ruled (K .put-rules .ensures)) _ (found .search .result) (found .search .ensures) _ _ (shown .show-found .result) (shown .show-found .ensures))
 
 pub answer-spec : {M : Type 1} → statement M
-answer-spec = tie.close (tie.spec (λ c. search needs) make-plan-requires (λ c. search needs) put-ends-requires (λ c. search needs) (λ c. search needs) put-rules-requires (λ c. search needs) search-requires (λ c. search needs) show-found-requires (λ c κs. search needs) (λ c. search needs) (λ c. search needs) (λ c. search needs) returns)
+answer-spec = tie.close (tie.spec (λ c. search needs) make-plan-requires (λ c. search needs) put-ends-requires (λ c. search needs) put-rules-requires (λ c. search needs) search-requires (λ c. search needs) show-found-requires (λ c κs. search needs) (λ c. search needs) (λ c. search needs) (λ c. search needs) returns)

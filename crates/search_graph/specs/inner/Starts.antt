@@ -9,7 +9,7 @@ use Rattle.policy_image.specs.declared.counts.Counts.{Counts}
 use Rattle.context.specs.inner.Places.{contextAtIndex, pairCount, OfType}
 use Rattle.plan.specs.inner.Entries.{pairSetsAt}
 use Rattle.plan.specs.inner.Sets.{setsOf}
-use Rattle.search_steps.specs.inner.Steps.{heldBy}
+use Rattle.plan.specs.inner.Meets.{heldBy}
 
 -- where r is false no pair of a role and a user is in σ0 with every type
 pub record PairsStart (n : Counts) (plan : List ℕ) (r : Bool) : Type 0 where

@@ -69,4 +69,4 @@ returns c =
     (f .find-by .result) (r .show-by .result) (f .find-by .ensures) (r .show-by .ensures))
 
 pub answer-spec : {M : Type 1} → statement M
-answer-spec = tie.close (tie.spec (λ c. search needs) make-plan-requires (λ c. search needs) put-goal-requires (λ c. search needs) (λ c. search needs) put-rules-requires (λ c. search needs) find-by-requires (λ c. search needs) show-by-requires (λ c κs. search needs) (λ c. search needs) (λ c. search needs) (λ c. search needs) returns)
+answer-spec = tie.close (tie.spec (λ c. search needs) make-plan-requires (λ c. search needs) put-goal-requires (λ c. search needs) put-rules-requires (λ c. search needs) find-by-requires (λ c. search needs) show-by-requires (λ c κs. search needs) (λ c. search needs) (λ c. search needs) (λ c. search needs) returns)
