@@ -56,11 +56,16 @@ module _ {s g : List ℕ} {n : Counts} {l : Legs} {work1 work2 : ℕ} (P : Passe
   work-fits : WorkFits s g work1 work2
   work-fits = passed-then (goalQuestions (countsOf s) g) eleven goal-part .0
 
-  pub searchable : {plan : List ℕ} → Planned s n plan → Searchable s plan n l work1 work2
-  searchable L =
+  -- the second work slice has an entry for each node
+  pub work-room : contextCount n * stateCount (l .count) ≤ work2
+  work-room = omega (arith, work-length s g (P .counts) (P .legs), work-fits .second)
+
+  -- .. and those entries are enough
+  pub searchable : {plan : List ℕ} {k : ℕ} → Planned s n plan → contextCount n * stateCount (l .count) ≤ k → Searchable s plan n l work1 k
+  searchable L h =
       let Z = passed-sizes in
       record {
         given = given (Z .ready) L (Z .some-leg) (Z .few-legs);
         first = omega (arith, work-length s g (P .counts) (P .legs), work-fits .first);
-        second = omega (arith, work-length s g (P .counts) (P .legs), work-fits .second);
+        second = h;
       }

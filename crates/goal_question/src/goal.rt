@@ -18,6 +18,7 @@ use policy_image::counts::Checked;
 use policy_image::counts::Counts;
 use search::levels::UNBOUNDED;
 use search_graph::task::state_count;
+use search_graph::visits::clear;
 use witness::path::Showing;
 ghost use mathlib.Core.Path.{_≡_};
 ghost use Prim.Native.Nat.{_*_, _^_, _≤_, _<_};
@@ -83,7 +84,7 @@ fn outcome_of(found: Finding, showing: Showing) -> Outcome
     }
 }
 
-// The answer where all questions before 12 are passed: the plan is made once for all searches.
+// The answer where all questions before 12 are passed: the plan is made, and the entries of all nodes are cleared, once for all searches.
 fn answer(
     policy: &[u8],
     goal: &[u8],
@@ -101,10 +102,14 @@ fn answer(
     put_goal(goal, counts, &mut plan);
     let all = [ALL_BITS; RECORD_WORDS];
     put_rules(policy, counts, &all, &mut plan);
-    let found = find_by(policy, &plan, counts, legs, UNBOUNDED, work1, work2);
+    let nodes = (Context::count(counts) * state_count(legs.count)) as usize;
+    let back = &mut work2[..nodes];
+    clear(back);
+    let found = find_by(policy, &plan, counts, legs, UNBOUNDED, work1, back);
+    let finding = found.finding;
     outcome_of(
-        found,
-        show_by(policy, &plan, counts, legs, found, work1, work2, path),
+        finding,
+        show_by(policy, &plan, counts, legs, found, work1, back, path),
     )
 }
 

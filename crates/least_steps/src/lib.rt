@@ -16,6 +16,7 @@ use search::levels::UNBOUNDED;
 use search::search;
 use search_graph::monitor::Mode;
 use search_graph::task::Task;
+use search_graph::visits::clear;
 use witness::path::Showing;
 use witness::path::show_found;
 ghost use mathlib.Core.Path.{_≡_};
@@ -96,8 +97,11 @@ fn answer(
         },
         mode: Mode::Any,
     };
-    let found = search(policy, &plan, task, UNBOUNDED, work1, work2);
-    steps_of(show_found(policy, &plan, task, found, work2, path))
+    let nodes = Context::count(counts) as usize;
+    let back = &mut work2[..nodes];
+    clear(back);
+    let found = search(policy, &plan, task, UNBOUNDED, work1, back).found;
+    steps_of(show_found(policy, &plan, task, found, back, path))
 }
 
 // How few steps lead from x to y? The work slices are overwritten; of the path slice, just the entries of the path that is shown.

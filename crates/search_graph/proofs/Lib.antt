@@ -1,4 +1,5 @@
 pub mod SearchLaws
+pub mod VisitLaws
 pub mod NodeLaws
 pub mod ModelLaws
 pub mod WatchLaws

@@ -39,8 +39,9 @@ use Rattle.search_graph.specs.inner.Arrivals.{Arrived, Lands}
 use Rattle.base.proofs.Numbers.{below-or}
 use Rattle.search_graph.specs.inner.Tasks.{statesIn, Readable, Given, modelBy, watchBy, graphOf}
 use Rattle.search_graph.specs.inner.Starts.{NoStart}
-use Rattle.search_graph.specs.inner.Seeds.{Cleared, Roomy, Begins, Beginning, SownNodes, SownStart}
-use Rattle.search_graph.proofs.SearchLaws.{seed-begin, seed-pass, seed-visit, seed-end}
+use Rattle.search_graph.specs.inner.Visits.{Cleared}
+use Rattle.search_graph.specs.inner.Seeds.{Roomy, Begins, Beginning, SownNodes, SownStart}
+use Rattle.search_graph.proofs.SearchLaws.{seed-begin, seed-pass, seed-visit, seed-visited, seed-end}
 use Rattle.search_graph.proofs.NodeLaws.{place-of, state-of}
 use Rattle.search_graph.proofs.ModelLaws.{bounded, begin-below, states-some}
 use Rattle.base.proofs.BoolLaws.{clash, to-true, of-true}
@@ -128,11 +129,11 @@ pub record SowingBy (s plan : List ℕ) (t : Task) (back queue : List ℕ) (tail
   pub seeding : Seeding (graphOf s plan t) back queue tail (y * statesIn t)
   pub none : (z : ℕ) → z < y → BadStart (modelBy s plan t) (watchBy s plan t) (codeAt (t .counts) z) → ⊥
 
-begin-by : {s plan : List ℕ} {t : Task} {queue back : List ℕ} → Given s plan t → Roomy t queue back → {back′ : List ℕ} → length back′ ≡ length back → SowingBy s plan t back′ queue 0 0
-begin-by {s} {plan} {t} {queue} A R {back′} e =
+begin-by : {s plan : List ℕ} {t : Task} {queue back : List ℕ} → Given s plan t → Roomy t queue back → SowingBy s plan t back queue 0 0
+begin-by {s} {plan} {t} {queue} {back} A R =
     record {
       given = A;
-      seeding = subst (λ (k : ℕ). Seeding (graphOf s plan t) back′ queue 0 k) (sym (zero-mul (statesIn t))) (seed-begin back′ queue (omega (arith, R .back-room)) (R .queue-room));
+      seeding = subst (λ (k : ℕ). Seeding (graphOf s plan t) back queue 0 k) (sym (zero-mul (statesIn t))) (seed-begin back queue (R .back-room) (R .queue-room));
       none = λ z h. absurd (omega arith);
     }
 
@@ -153,12 +154,12 @@ module _ {s plan : List ℕ} {t : Task} {back queue : List ℕ} {tail y : ℕ} (
   K₀ = statesIn t
 
   -- places that are no starts are passed
-  pass-by : (b : ℕ) → y ≤ b → b ≤ contextCount n₀ → Cleared back (y * K₀) (contextCount n₀ * K₀) → ((z : ℕ) → y ≤ z → z < b → Start M₀ (codeAt n₀ z) → ⊥)
+  pass-by : (b : ℕ) → y ≤ b → b ≤ contextCount n₀ → Cleared back (y * K₀) → ((z : ℕ) → y ≤ z → z < b → Start M₀ (codeAt n₀ z) → ⊥)
       → SowingBy s plan t back queue tail b
   pass-by b lo hi C k =
       record {
         given = S .given;
-        seeding = seed-pass (b * K₀) (S .seeding) (mul-le-mul-right K₀ lo) most (λ w l r. C .at w l (omega (arith, most)))
+        seeding = seed-pass (b * K₀) (S .seeding) (mul-le-mul-right K₀ lo) most (λ w l r. C .at w l)
             (λ w l r st. k (placeOf K₀ w) (place-le (states-some t) l) (place-lt (states-some t) r) (st .begins));
         none = λ z r Z. none′ z r Z (decLe y z);
       }
@@ -170,7 +171,7 @@ module _ {s plan : List ℕ} {t : Task} {back queue : List ℕ} {tail y : ℕ} (
       none′ z r Z (yes l) = k z l r (Z .begins)
       none′ z r Z (no l) = S .none z (omega arith) Z
 
-  module _ (h : y < contextCount n₀) (C : Cleared back (y * K₀) (contextCount n₀ * K₀)) where
+  module _ (h : y < contextCount n₀) (C : Cleared back (y * K₀)) where
     block : (y + 1) * K₀ ≤ contextCount n₀ * K₀
     block = let k : y + 1 ≤ contextCount n₀ = omega arith in mul-le-mul-right K₀ k
 
@@ -182,7 +183,7 @@ module _ {s plan : List ℕ} {t : Task} {back queue : List ℕ} {tail y : ℕ} (
         record {
           given = S .given;
           seeding = seed-pass ((y + 1) * K₀) (S .seeding) (omega (arith, next-block y K₀)) block
-              (λ w lo hi. C .at w lo (omega (arith, block)))
+              (λ w lo hi. C .at w lo)
               (λ w lo hi st. let z = starts-at A y w lo hi st in z .1 (N (z .0) .arrives));
           none = more-none (λ b. N (b .begins) .good (b .ends .verdict));
         }
@@ -220,33 +221,25 @@ module _ {s plan : List ℕ} {t : Task} {back queue : List ℕ} {tail y : ℕ} (
             given = S .given;
             seeding = seed-pass ((y + 1) * K₀)
                 (seed-visit
-                (seed-pass v (S .seeding) (omega (arith, node)) (omega (arith, sow-below)) (λ w lo hi. C .at w lo (omega (arith, sow-below)))
+                (seed-pass v (S .seeding) (omega (arith, node)) (omega (arith, sow-below)) (λ w lo hi. C .at w lo)
                 (λ w lo hi st. let q : w ≡ v = only w lo (omega (arith, inside)) st in omega arith))
                 sow-below start-at)
                 (omega (arith, inside)) block
-                (λ w lo hi. getD-set-other back v w (contextCount n₀ * K₀ + 1) 0 (λ q. omega arith) ∙ C .at w (omega (arith, node)) (omega (arith, block)))
+                (λ w lo hi. getD-set-other back v w (contextCount n₀ * K₀ + 1) 0 (λ q. omega arith) ∙ C .at w (omega (arith, node)))
                 (λ w lo hi st. let q : w ≡ v = only w (omega (arith, node)) hi st in omega arith);
             none = more-none (λ b. O .1 .outside (b .ends .arrives));
           }
 
-    broken-by : {v : ℕ} → Begins M₀ n₀ W₀ K₀ y (Broken v) → SownStart s plan t y
-    broken-by Z = record { below = h; bad = record { begins = Z .0; ends = Z .1 .ends } }
+    broken-by : {v : ℕ} → Begins M₀ n₀ W₀ K₀ y (Broken v) → SownStart s plan t queue back y tail
+    broken-by Z = record { visited = seed-visited (S .seeding) C; below = h; bad = record { begins = Z .0; ends = Z .1 .ends } }
 
-  end-by : contextCount n₀ ≤ y → SownNodes s plan t queue back tail
-  end-by h = record { inv = seed-end (S .seeding) (mul-le-mul-right K₀ h); none = none }
+  end-by : contextCount n₀ ≤ y → Cleared back (y * K₀) → SownNodes s plan t queue back tail
+  end-by h C = record { inv = seed-end (S .seeding) (mul-le-mul-right K₀ h) C; none = none }
     where
       none : (x : ℕ) → BadStart M₀ W₀ x → ⊥
       none x b =
           let (z, l, q) = B A .placed x (b .begins .context-at) in
           S .none z (omega arith) (subst (BadStart M₀ W₀) (sym q) b)
-
--- ---- clearing
-pub clear-more : {back : List ℕ} {v : ℕ} → Cleared back 0 v → v < length back → Cleared (set back v 0) 0 (v + 1)
-clear-more {back} {v} C h =
-    record {
-      at = λ w lo hi. ⊎-elim (λ (q : w ≡ v). rw q (getD-set-same back v 0 0 h))
-          (λ (k : w < v). getD-set-other back v w 0 0 (λ q. omega arith) ∙ C .at w lo k) (below-or hi);
-    }
 
 -- .. whatever the policy
 pub record Sowing (plan : List ℕ) (t : Task) (count nodes : ℕ) (back queue : List ℕ) (tail y : ℕ) : Type 0 where
@@ -257,12 +250,12 @@ pub record Sowing (plan : List ℕ) (t : Task) (count nodes : ℕ) (back queue :
   pub below : y ≤ contextCount (t .counts)
   pub full : tail ≤ y * statesIn t
   pub fits : tail ≤ nodes
-  pub clear : Cleared back (y * statesIn t) (contextCount (t .counts) * statesIn t)
+  pub clear : Cleared back (y * statesIn t)
   pub by : (s : List ℕ) → Given s plan t → SowingBy s plan t back queue tail y
 
 pub sow-begin : {plan : List ℕ} {t : Task} {count nodes : ℕ} {back queue : List ℕ} → Readable plan t → count ≡ contextCount (t .counts) → nodes ≡ contextCount (t .counts) * statesIn t
-    → Roomy t queue back → {back′ : List ℕ} → length back′ ≡ length back → Cleared back′ 0 nodes → Sowing plan t count nodes back′ queue 0 0
-sow-begin R q p room e C =
+    → Roomy t queue back → Sowing plan t count nodes back queue 0 0
+sow-begin R q p room =
     record {
       readable = R;
       contexts = q;
@@ -271,8 +264,8 @@ sow-begin R q p room e C =
       below = omega arith;
       full = omega arith;
       fits = omega arith;
-      clear = record { at = λ v lo hi. C .at v (omega arith) (omega (arith, p)) };
-      by = λ s A. begin-by A room e;
+      clear = record { at = λ v lo. room .fresh .at v (omega arith) };
+      by = λ s A. begin-by A room;
     }
 
 module _ {plan : List ℕ} {t : Task} {count nodes : ℕ} {back queue : List ℕ} {tail y : ℕ} (S : Sowing plan t count nodes back queue tail y) where
@@ -294,11 +287,11 @@ module _ {plan : List ℕ} {t : Task} {count nodes : ℕ} {back queue : List ℕ
           below = omega (arith, S .contexts);
           full = omega (arith, S .full, next-block y (statesIn t));
           fits = S .fits;
-          clear = record { at = λ w lo hi. S .clear .at w (omega (arith, next-block y (statesIn t))) hi };
+          clear = record { at = λ w lo. S .clear .at w (omega (arith, next-block y (statesIn t))) };
           by = λ s A. skip-by (S .by s A) in-count (S .clear) (begun q s A);
         }
 
-    pub sow-broken : {v : ℕ} → r ≡ Broken v → (s : List ℕ) → Given s plan t → SownStart s plan t y
+    pub sow-broken : {v : ℕ} → r ≡ Broken v → (s : List ℕ) → Given s plan t → SownStart s plan t queue back y tail
     sow-broken q s A = broken-by (S .by s A) in-count (S .clear) (begun q s A)
 
     module _ {v : ℕ} (q : r ≡ Enter v) where
@@ -319,7 +312,7 @@ module _ {plan : List ℕ} {t : Task} {count nodes : ℕ} {back queue : List ℕ
             full = omega (arith, S .full, Z .low v q, Z .high v q);
             fits = omega (arith, sow-room, S .nodes-are);
             clear = record {
-              at = λ w lo hi. getD-set-other back v w (nodes + 1) 0 (λ z. omega (arith, Z .high v q)) ∙ S .clear .at w (omega (arith, next-block y (statesIn t))) hi;
+              at = λ w lo. getD-set-other back v w (nodes + 1) 0 (λ z. omega (arith, Z .high v q)) ∙ S .clear .at w (omega (arith, next-block y (statesIn t)));
             };
             by = λ s A. subst (λ (k : ℕ). SowingBy s plan t (set back v (k + 1)) (set queue tail v) (tail + 1) (y + 1)) (sym (S .nodes-are))
                 (enter-by (S .by s A) in-count (S .clear) (begun q s A));
@@ -336,7 +329,7 @@ module _ {plan : List ℕ} {t : Task} {count nodes : ℕ} {back queue : List ℕ
         below = most;
         full = omega (arith, S .full, more);
         fits = S .fits;
-        clear = record { at = λ w lo hi. S .clear .at w (omega (arith, more)) hi };
+        clear = record { at = λ w lo. S .clear .at w (omega (arith, more)) };
         by = λ s A. pass-by (S .by s A) b next most (S .clear)
             (λ z lo hi. never-start A (record { type = H .type; low = omega (arith, H .low); high = omega (arith, q) }) Z);
       }
@@ -351,7 +344,7 @@ module _ {plan : List ℕ} {t : Task} {count nodes : ℕ} {back queue : List ℕ
       more = mul-le-mul-right (statesIn t) next
 
   pub sow-end : count ≤ y → (s : List ℕ) → Given s plan t → SownNodes s plan t queue back tail
-  sow-end h s A = end-by (S .by s A) (omega (arith, S .contexts))
+  sow-end h s A = end-by (S .by s A) (omega (arith, S .contexts)) (S .clear)
 
 -- the node of a start is among those of its context
 module _ {plan : List ℕ} {t : Task} {o y state into : ℕ} (R : Readable plan t) (H : OfType (t .counts) o y) (S : into ≡ setsOf (t .counts) plan (contextAtIndex (t .counts) y))

@@ -11,16 +11,14 @@ use context::Context;
 use context::places::first_place;
 use plan::meets::is_held;
 use plan::sets::sets_at;
-ghost use Prim.Native.Nat.{_≤_};
-ghost use lib.ListN.{length};
 ghost use Rattle.context.specs.inner.Places.{OfType};
-ghost use Rattle.search_graph.specs.inner.Seeds.{Cleared, Roomy, Beginning, AllSown};
+ghost use Rattle.search_graph.specs.inner.Seeds.{Roomy, Beginning, AllSown};
 ghost use Rattle.search_graph.specs.inner.Tasks.{Readable};
 
-// How many nodes are in the queue, in rising order; or the place of the first start that is a bad end.
+// How many nodes are in the queue, in rising order; or the place of the first start that is a bad end, and how many were put there before it.
 pub enum Seeded {
     Nodes(usize),
-    Start(u32),
+    Start(u32, usize),
 }
 
 // What the context at place y, of the type, comes to as a start: where it is none, it is dropped.
@@ -39,19 +37,6 @@ fn start_at(plan: &[u32], task: Task, ty: u32, y: u32) -> Arrival
     land(task, into, y, start_state(task, into))
 }
 
-// No node is visited.
-fn clear(back: &mut [u32], nodes: u32)
-    requires { ⌜ nodes ≤ length (now back) ⌝ }
-    ensures { λ _. ⌜ Cleared (now (back .exit)) 0 nodes ⌝ }
-{
-    let mut v = 0;
-    while v < nodes {
-        let at = v as usize;
-        back[at] = 0;
-        v += 1;
-    }
-}
-
 // Puts the starts that are no ends into the queue, by place. A type that has none is passed over.
 pub fn seed(plan: &[u32], task: Task, queue: &mut [u32], back: &mut [u32]) -> Seeded
     requires { ⌜ Readable (now plan) task × Roomy task (now queue) (now back) ⌝ }
@@ -60,7 +45,6 @@ pub fn seed(plan: &[u32], task: Task, queue: &mut [u32], back: &mut [u32]) -> Se
     let counts = task.counts;
     let count = Context::count(counts);
     let nodes = count * states_in(task);
-    clear(back, nodes);
     let paired = pairs_start(counts, plan);
     let mut tail: usize = 0;
     let mut y: u32 = 0;
@@ -72,7 +56,7 @@ pub fn seed(plan: &[u32], task: Task, queue: &mut [u32], back: &mut [u32]) -> Se
         }
         match start_at(plan, task, ty, y) {
             Arrival::Broken(_) => {
-                return Seeded::Start(y);
+                return Seeded::Start(y, tail);
             }
             Arrival::Dropped => {}
             Arrival::Enter(v) => {

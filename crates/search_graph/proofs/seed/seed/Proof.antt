@@ -19,7 +19,7 @@ abbrev μ-loop : tie.MeasureT-loop
 μ-loop plan task queue₀ back₀ counts count nodes paired tail₀ y₀ queue back tail y = count - y
 
 -- the place is one of its type
-of-type : (c : tie.After-at Inv-loop μ-loop) → OfType (c .before .before .before .before .before .before .before .before .before .before .before .before .before .before .args .task .counts) (c .at .result .ty) (c .before .before .loop .y)
+of-type : (c : tie.After-at Inv-loop μ-loop) → OfType (c .before .before .before .before .before .before .before .before .before .before .args .task .counts) (c .at .result .ty) (c .before .before .loop .y)
 of-type c = let i = c .before .before .loop .inv .2 in own-place (i .readable .sets .counts .countable) (omega (arith, i .contexts)) (c .at .ensures)
 
 count-requires : tie.Need-count-requires Inv-loop μ-loop
@@ -31,18 +31,15 @@ states-in-requires c κs = c .before .before .before .before .before .pre .0 .fe
 mul-nodes : tie.Need-mul-nodes Inv-loop μ-loop
 mul-nodes c = omega (arith, nodes-of (c .before .count .ensures) (c .states-in .ensures), c .before .before .before .before .before .before .pre .0 .nodes)
 
-clear-requires : tie.Need-clear-requires Inv-loop μ-loop
-clear-requires c κs = omega (arith, nodes-of (c .before .before .count .ensures) (c .before .states-in .ensures), c .before .before .before .before .before .before .before .pre .1 .back-room)
-
 pairs-start-requires : tie.Need-pairs-start-requires Inv-loop μ-loop
-pairs-start-requires c κs = c .before .before .before .before .before .before .before .before .before .before .pre .0 .sets
+pairs-start-requires c κs = c .before .before .before .before .before .before .pre .0 .sets
 
 loop-holds : tie.Need-loop-holds Inv-loop μ-loop
 loop-holds c =
-    let states-in = c .before .before .before .before .before in
+    let states-in = c .before in
     let count = states-in .before in
     let p = count .before .before .before .before .before .pre in
-    (refl, refl, sow-begin (p .0) (count .count .ensures) (nodes-of (count .count .ensures) (states-in .states-in .ensures)) (p .1) (omega arith) (c .before .before .before .clear .ensures))
+    (refl, refl, sow-begin (p .0) (count .count .ensures) (nodes-of (count .count .ensures) (states-in .states-in .ensures)) (p .1))
 
 at-requires : tie.Need-at-requires Inv-loop μ-loop
 at-requires c κs = let i = c .before .loop .inv .2 in (i .readable .sets .counts .countable, omega (arith, i .contexts))
@@ -124,4 +121,4 @@ returns-2 : tie.Need-returns-2 Inv-loop μ-loop
 returns-2 c = sow-end (c .before .loop .inv .2) (c .loop-test .left)
 
 pub seed-spec : {M : Type 1} → statement M
-seed-spec = tie.close (tie.spec Inv-loop μ-loop count-requires states-in-requires mul-nodes clear-requires pairs-start-requires loop-holds at-requires may-start-requires add-first-place first-place-requires loop-less loop-again start-at-requires (λ c. search needs) same-length same-length-2 returns (λ c. search needs) (λ c. search needs) cast-at add-back mul-back slice-write-back mul-queue slice-write-queue add-tail add-y loop-less-2 loop-again-2 same-length-3 same-length-4 returns-2)
+seed-spec = tie.close (tie.spec Inv-loop μ-loop count-requires states-in-requires mul-nodes pairs-start-requires loop-holds at-requires may-start-requires add-first-place first-place-requires loop-less loop-again start-at-requires (λ c. search needs) same-length same-length-2 returns (λ c. search needs) (λ c. search needs) cast-at add-back mul-back slice-write-back mul-queue slice-write-queue add-tail add-y loop-less-2 loop-again-2 same-length-3 same-length-4 returns-2)
