@@ -71,11 +71,12 @@ extern "C" {
 
 /* A result is 256 * steps + 4 * number + answer. The number is that of the refusal, and 0 for every other answer. Steps are
  * those of a shortest path that breaks a goal, or leads from one context to another, and 0 where there is none to tell of. A
- * call that writes an image has in place of steps the length of that image, in bytes, and 0 where it is refused. */
+ * call that writes an image has in place of steps the length of that image, in bytes, and 0 where it is refused. Steps and length
+ * take 32 bits, and what stands from 2^40 on is no part of them. */
 #define FLOWGOAL_ANSWER(result) ((unsigned)((result) % 4))
 #define FLOWGOAL_NUMBER(result) ((unsigned)((result) / 4 % 64))
-#define FLOWGOAL_STEPS(result) ((uint64_t)((result) / 256))
-#define FLOWGOAL_LENGTH(result) ((size_t)((result) / 256))
+#define FLOWGOAL_STEPS(result) ((uint64_t)(uint32_t)((result) / 256))
+#define FLOWGOAL_LENGTH(result) ((size_t)(uint32_t)((result) / 256))
 
 /* The answers to the goal question. */
 #define FLOWGOAL_HOLDS 0
@@ -193,7 +194,9 @@ uint64_t flowgoal_join(const uint8_t *maker, size_t maker_length, const uint8_t 
  * out, and flow with b = 3 is written as b = 1 and b = 2. Kinds 8 and 9 keep their order, and constraints and nodes name the same
  * nodes as before by their new numbers. So two policies have equal bytes exactly where their four counts, what their records of
  * kinds 1 to 7 say, permission by permission, and their lists of constraints and of nodes agree, a node being named by its place
- * in the list. Every question is answered of the image as of the policy, and the canonical image of the image is itself.
+ * in the list. flowgoal_authorized, flowgoal_flows, flowgoal_least_steps and flowgoal_check answer of the image as of the policy, and
+ * the canonical image of the image is itself. A join with the image may be refused with 15 where one with the policy is not, since flow
+ * with b = 3 is two records in it.
  *
  * The call refuses with 1 to 6 and 14 as flowgoal_authorized does, or with
  *   15  the image would have more than 4,095 records

@@ -23,7 +23,8 @@ struct fields {
     unsigned number, answer;
 };
 
-/* The specification: 256m + 4k + answer, where a call that writes an image has its length for m. */
+/* The specification: 256m + 4k + answer, where a call that writes an image has its length for m. An m takes 32 bits, and what
+ * stands above them is no part of it. */
 static void fields(void)
 {
     static const struct fields cases[] = {
@@ -44,8 +45,11 @@ static void fields(void)
         {12585984, 49164, 0, 0},                     /* written, 4,095 records */
         {940031746, 3671999, 0, 2},                  /* as many steps as the largest search has nodes, but one */
         {1024, 4, 0, 0},                             /* the lowest bit but one of the steps */
-        {UINT64_MAX, 72057594037927935u, 63, 3},     /* every bit */
-        {UINT64_C(1) << 63, 36028797018963968u, 0, 0}, /* the highest */
+        {UINT64_C(1) << 39, 2147483648u, 0, 0},      /* the highest bit of the steps */
+        {(UINT64_C(1) << 40) + 257, 1, 0, 1},        /* order or shown, 1 step, and the lowest bit above the steps */
+        {(UINT64_C(255) << 40) + 6144, 24, 0, 0},    /* written, no record, and eight bits above the length */
+        {UINT64_MAX, 4294967295u, 63, 3},            /* every bit */
+        {UINT64_C(1) << 63, 0, 0, 0},                /* the highest */
         {128, 0, 32, 0},                             /* the highest of the number */
     };
     for (size_t i = 0; i < sizeof cases / sizeof *cases; i++) {
@@ -77,8 +81,8 @@ static void lengths(void)
     expect("FLOWGOAL_PATH_ENTRIES", FLOWGOAL_PATH_ENTRIES(3), 7);
     expect("FLOWGOAL_PATH_ENTRIES of the goal program", FLOWGOAL_PATH_ENTRIES(2048), 4097);
     expect("FLOWGOAL_PATH_ENTRIES of a sum, twice", 2 * FLOWGOAL_PATH_ENTRIES(1 + 2), 14);
-    expect("FLOWGOAL_PATH_ENTRIES of the steps of a result", FLOWGOAL_PATH_ENTRIES(FLOWGOAL_STEPS(UINT64_C(1) << 42)),
-           34359738369u);
+    expect("FLOWGOAL_PATH_ENTRIES of the steps of a result", FLOWGOAL_PATH_ENTRIES(FLOWGOAL_STEPS(UINT64_C(1) << 39)),
+           4294967297u);
 }
 
 /* The specification: 24 + 12 x 4,095 and 34 + 8 x 255 bytes. The stack is what README tells the caller: 640 KiB. */

@@ -1,18 +1,19 @@
 -- Where the rows of the facts, and the constraints and nodes, stand in the canonical policy.
-use Prim.Native.Nat.{ℕ, zero, suc, _+_, _*_, _-_, _/_, _%_, _≤_, _<_}
+use Prim.Native.Nat.{ℕ, zero, suc, _+_, _-_, _≤_, _<_}
 use mathlib.Core.Path.{_≡_, refl, sym, ap, ap₂, subst, _∙_}
 use mathlib.Core.List.{List, map}
 use mathlib.Core.Logic.{⊎-elim}
 use native.Mathlib.Omega.{arith}
 use lib.ListN.{length, getD, length-map, List·getD-append, List·getD-map}
 use Rattle.base.specs.Bytes.{byteAt}
-use Rattle.base.specs.inner.Fill.{Filled}
 use Rattle.base.proofs.FillLaws.{fill-map}
 use Rattle.base.proofs.Numbers.{split-eq}
 use Rattle.policy_image.specs.declared.records.Record.{Record}
 use Rattle.policy_image.specs.Policy.{Policy}
 use Rattle.policy_image.specs.Encoding.{recordBytes, imageOf}
+use Rattle.policy_image.specs.inner.Sizes.{headerSize}
 use Rattle.policy_image.proofs.EncodingLaws.{record-at}
+use Rattle.policy_image.proofs.SizeLaws.{size-split}
 use Rattle.policy_lists.specs.Lists.{recordsUpto, ofKindIn, kindList, noRecord, recordIn, linkIn, withNext}
 use Rattle.policy_lists.specs.Joined.{nodesUpto, kindsUpto, renumbered}
 use Rattle.policy_lists.specs.inner.Places.{nextUpto}
@@ -27,7 +28,8 @@ use Rattle.policy_runs.specs.declared.Run.{Run}
 use Rattle.policy_runs.specs.inner.Runs.{manyUpto, runPlace, runRecord}
 use Rattle.policy_runs.proofs.RunImageLaws.{RunIn, RecordsTo}
 use Rattle.policy_runs.proofs.ImageWriteLaws.{EndTable}
-use Rattle.canonical.specs.inner.Rows.{factRow, rowByte}
+use Rattle.canonical.specs.inner.Rows.{factRow, rowBytes}
+use Rattle.canonical.proofs.RowLaws.{row-at, RowsTo}
 
 -- how many records there are of a kind rests on the kinds alone
 pub kinds-count : (f g : ℕ → Record) → ((i : ℕ) → f i .kind ≡ g i .kind) → (k n : ℕ)
@@ -75,16 +77,18 @@ module _ (p : Policy) where
     row-is zero a b = let z : ⊥ = omega arith in absurd z
     row-is (suc i) a b = row-next i b
 
-    pub rows-put : {old new : List ℕ} → Filled (λ x v. v ≡ rowByte (factRow keys masks ends) x) old new 24 0 (12 * m) → RecordsTo (canonicalOf p) (ending lists 7) old new
+    pub rows-put : {old new : List ℕ} → RowsTo (factRow keys masks ends) m m old new → RecordsTo (canonicalOf p) (ending lists 7) old new
     rows-put {old} {new} F =
         let n = table-length T in
         let r = endings-rise lists 7 9 (omega arith) in
         subst (λ (y : ℕ). RecordsTo (canonicalOf p) y old new) (sym n)
         (fill-map
         (λ x v h q.
-        let y : ℕ = x / 12 in
-        q ∙ ap (λ (r : Record). byteAt (recordBytes r) (x % 12)) (row-next y (omega arith))
-        ∙ sym (record-at (canonicalOf p) y (x % 12) (omega arith) (omega arith)) ∙ ap (byteAt (imageOf (canonicalOf p))) (let e : 24 + (12 * y + x % 12) ≡ 24 + x = omega arith in e))
+        let I = size-split m x h in
+        q ∙ ap (byteAt (rowBytes (factRow keys masks ends) m)) (I .same) ∙ row-at (factRow keys masks ends) m (I .before) (I .byte) (I .low) (I .within)
+        ∙ ap (λ (r : Record). byteAt (recordBytes r) (I .byte)) (row-next (I .before) (I .low))
+        ∙ sym (record-at (canonicalOf p) (I .before) (I .byte) (omega (arith, I .low, n, r)) (I .within))
+        ∙ ap (λ (i : ℕ). byteAt (imageOf (canonicalOf p)) (headerSize + i)) (sym (I .same)))
         F)
 
   -- ---- constraints and nodes: kind k + 1

@@ -1,6 +1,6 @@
 -- What is known of an image whose canonical image can be written: the tables are those of the canonical policy, its header, its rows and its
 -- two runs can be written, and make the whole image.
-use Prim.Native.Nat.{ℕ, zero, suc, _+_, _*_, _-_, _≤_, _<_}
+use Prim.Native.Nat.{ℕ, zero, suc, _+_, _-_, _≤_, _<_}
 use mathlib.Core.Path.{_≡_, refl, sym, ap, ap₂, subst, _∙_}
 use mathlib.Core.Bool.{Bool, cond}
 use mathlib.Core.List.{List, _++_}
@@ -14,11 +14,13 @@ use Rattle.base.specs.inner.Fill.{Filled}
 use Rattle.base.proofs.Numbers.{split-le}
 use Rattle.policy_image.specs.declared.counts.Counts.{Counts}
 use Rattle.policy_image.specs.declared.records.Record.{Record}
-use Rattle.policy_image.specs.Layout.{recordCount, countsOf, recordStart}
+use Rattle.policy_image.specs.Layout.{recordCount, countsOf}
 use Rattle.policy_image.specs.Policy.{Policy, policyOf}
 use Rattle.policy_image.specs.Encoding.{imageOf}
+use Rattle.policy_image.specs.inner.Sizes.{sizeOf, startOf, mostRecords}
 use Rattle.policy_image.specs.inner.Writable.{WritableRecord}
 use Rattle.policy_image.proofs.EncodingLaws.{image-writable}
+use Rattle.policy_image.proofs.SizeLaws.{size-le}
 use Rattle.policy_lists.specs.Lists.{recordsUpto, ofKindIn, kindList, withRecords}
 use Rattle.policy_lists.proofs.NodeLaws.{most-length, other-length}
 use Rattle.policy_lists.proofs.PlaceLaws.{ending, ending-next, endings-rise}
@@ -33,7 +35,7 @@ use Rattle.policy_runs.specs.inner.Tables.{sumUpto, Summed, FewOfEach}
 use Rattle.policy_runs.proofs.TableLaws.{addedUp}
 use Rattle.policy_runs.proofs.RunImageLaws.{RecordsTo, records-more}
 use Rattle.policy_runs.proofs.ImageWriteLaws.{WritableLists, EndTable, ends-most, run-fits}
-use Rattle.canonical.specs.inner.Rows.{keysOfKind, KeyCounts, FactKinds, factRow, rowByte, RowsFit}
+use Rattle.canonical.specs.inner.Rows.{keysOfKind, KeyCounts, FactKinds, factRow, RowsFit}
 use Rattle.canonical.specs.inner.Parts.{KeptKinds, Canonizable}
 use Rattle.canonical.proofs.PlacedLaws.{kinds-count, row-is, kept-end, kept-run}
 
@@ -67,7 +69,7 @@ module _ {s : List ℕ} {c : Counts} {keys masks : List ℕ} {m room : ℕ} (G :
   pub facts-are : m ≡ ends 7
   facts-are = sym (table-length (G .table))
 
-  pub few-facts : m ≤ 4095
+  pub few-facts : m ≤ mostRecords
   few-facts = let e = facts-are in omega (arith, e, ends-most writable-lists 7 (omega arith))
 
   pub fact-kinds : FactKinds keys m
@@ -139,7 +141,7 @@ module _ {s : List ℕ} {c : Counts} {keys masks : List ℕ} {m room : ℕ} (G :
         keyed = G .keyed;
         masked = G .masked;
         kinds = fact-kinds;
-        room = omega (arith, facts-are, r, G .room, long);
+        room = omega (arith, size-le (let n : m ≤ j .size = omega (arith, facts-are, r) in n), G .room, long);
         writable = λ i a b.
             subst WritableRecord (sym (row-is p (G .table) e E i a b))
             (writable-lists .writable .fields i (record { low = a; high = omega (arith, b, facts-are, r) }));
@@ -158,7 +160,7 @@ module _ {s : List ℕ} {c : Counts} {keys masks : List ℕ} {m room : ℕ} (G :
         (record { low = omega arith; high = omega arith }) (omega (arith, y, e, r, before)) (omega (arith, shift, n)) output nodes (omega (arith, G .room, long))
 
     pub kept-put : {old mid new : List ℕ} → RecordsTo j (ends k) old mid
-        → Filled (λ i v. v ≡ byteAt (runBytes p run (p .size)) i) mid new (recordStart (suc (run .before))) 0 (12 * length (kindList p (run .kind)))
+        → Filled (λ i v. v ≡ byteAt (runBytes p run (p .size)) i) mid new (startOf (suc (run .before))) 0 (sizeOf (length (kindList p (run .kind))))
         → RecordsTo j (ends (suc k)) old new
     kept-put {old} {mid} {new} F R =
         subst (λ (x : ℕ). RecordsTo j x old new) (ap₂ (λ (x y : ℕ). x + length (kindList p y)) before kind ∙ sym (kept-end p k low high))

@@ -9,12 +9,11 @@ use policy_check::check;
 use policy_check::refusal;
 use policy_image::counts::Checked;
 use policy_image::counts::Counts;
-use policy_image::counts::HEADER;
 use policy_image::counts::MOST_RECORDS;
-use policy_image::counts::RECORD;
 use policy_image::kinds::CONSTRAINT;
 use policy_image::kinds::CONSTRAINTS;
 use policy_image::kinds::NODE;
+use policy_image::sizes::image_size;
 use policy_runs::KINDS;
 use policy_runs::Run;
 use policy_runs::count_kinds;
@@ -26,11 +25,12 @@ use policy_runs::tables::heads_of;
 use policy_writing::answer::Writing;
 use policy_writing::put_header;
 use sorting::ITEMS;
-ghost use Prim.Native.Nat.{ℕ, _+_, _*_, _≤_};
+ghost use Prim.Native.Nat.{ℕ, _+_, _≤_};
 ghost use mathlib.Core.Path.{_≡_};
 ghost use mathlib.Core.List.{_++_};
 ghost use lib.ListN.{length, drop};
 ghost use Rattle.policy_image.specs.Policy.{policyOf};
+ghost use Rattle.policy_image.specs.inner.Sizes.{imageSize};
 ghost use Rattle.policy_lists.specs.Lists.{withRecords};
 ghost use Rattle.policy_facts.specs.Canonical.{canonicalOf};
 ghost use Rattle.canonical.specs.Canonical.{canonicalImage, CanonicalPromise};
@@ -69,7 +69,7 @@ fn write(
     facts: usize,
 )
     requires { ⌜ Canonizable (now policy) counts (now keys) (now masks) facts (length (now output)) ⌝ }
-    ensures { λ _. ⌜ now (output .exit) ≡ canonicalImage (now (policy .entry)) ++ drop (24 + 12 * canonicalOf (policyOf (now (policy .entry))) .size) (now (output .entry)) ⌝ }
+    ensures { λ _. ⌜ now (output .exit) ≡ canonicalImage (now (policy .entry)) ++ drop (imageSize (canonicalOf (policyOf (now (policy .entry))) .size)) (now (output .entry)) ⌝ }
 {
     let kept = kept_kinds(&count_kinds(policy, counts.records));
     let nodes = count_nodes(policy, counts.records);
@@ -109,7 +109,7 @@ pub fn canonical(policy: &[u8], output: &mut [u8]) -> Writing
     if MOST_RECORDS < records {
         return Writing::Refused(15);
     }
-    let bytes = HEADER + RECORD * records;
+    let bytes = image_size(records);
     if output.len() < bytes {
         return Writing::Refused(16);
     }

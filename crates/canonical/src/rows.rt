@@ -4,12 +4,14 @@ use policy_runs::KINDS;
 use policy_runs::next_upto;
 use policy_runs::with_next;
 use policy_writing::put_record;
-ghost use Prim.Native.Nat.{_*_, _≤_};
+ghost use Prim.Native.Nat.{_≤_};
 ghost use mathlib.Core.Path.{_≡_};
 ghost use lib.ListN.{length};
+ghost use Rattle.base.specs.Bytes.{byteAt};
 ghost use Rattle.base.specs.inner.Fill.{Filled};
+ghost use Rattle.policy_image.specs.inner.Sizes.{headerSize, sizeOf, mostRecords};
 ghost use Rattle.policy_facts.specs.inner.FactTable.{kindIn, tableRecord};
-ghost use Rattle.canonical.specs.inner.Rows.{FactKinds, KeyCounts, factRow, rowByte, RowsFit};
+ghost use Rattle.canonical.specs.inner.Rows.{FactKinds, KeyCounts, factRow, rowBytes, RowsFit};
 
 // The kind in a key.
 fn kind_in(key: u32) -> usize
@@ -37,7 +39,7 @@ fn record_of(key: u32, mask: u32) -> Record
 
 // How many of the first m keys there are of each kind.
 pub fn count_keys(keys: &[u32], m: usize) -> [usize; KINDS]
-    requires { ⌜ (m ≤ length (now keys)) × (m ≤ 4095) × FactKinds (now keys) m ⌝ }
+    requires { ⌜ (m ≤ length (now keys)) × (m ≤ mostRecords) × FactKinds (now keys) m ⌝ }
     ensures { λ r. ⌜ KeyCounts (now (keys .entry)) m r ⌝ }
 {
     let mut table = [0usize; KINDS];
@@ -53,7 +55,7 @@ pub fn count_keys(keys: &[u32], m: usize) -> [usize; KINDS]
 // Writes the first m rows, each linked to the next of its kind.
 pub fn put_rows(output: &mut [u8], keys: &[u32], masks: &[u32], m: usize, ends: &[usize; KINDS])
     requires { ⌜ RowsFit (now keys) (now masks) (now ends) m (length (now output)) ⌝ }
-    ensures { λ _. ⌜ Filled (λ j v. v ≡ rowByte (factRow (now (keys .entry)) (now (masks .entry)) (now (ends .entry))) j) (now (output .entry)) (now (output .exit)) 24 0 (12 * m) ⌝ }
+    ensures { λ _. ⌜ Filled (λ j v. v ≡ byteAt (rowBytes (factRow (now (keys .entry)) (now (masks .entry)) (now (ends .entry))) m) j) (now (output .entry)) (now (output .exit)) headerSize 0 (sizeOf m) ⌝ }
 {
     let mut done: usize = 0;
     while done < m {

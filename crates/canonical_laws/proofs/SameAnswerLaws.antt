@@ -3,7 +3,7 @@ use Prim.Native.Nat.{ℕ, suc, _*_, _^_, _≤_}
 use mathlib.Core.Path.{_≡_, refl, sym, subst, _∙_}
 use mathlib.Core.Bool.{Bool, _&&_}
 use mathlib.Core.List.{List, [], _∷_, _++_}
-use mathlib.Core.Logic.{_⊎_, _↔_, Iff·rfl}
+use mathlib.Core.Logic.{inl, inr, ⊎-elim, _↔_, Iff·rfl}
 use lib.Dec.{T}
 use Rattle.base.specs.Bits.{bit}
 use Rattle.base.specs.Questions.{Question, ask, AllYes}
@@ -29,7 +29,7 @@ use Rattle.goal_image.specs.Questions.{FieldsFit, goalQuestions}
 use Rattle.goal_model.specs.Images.{meetsρμ, model}
 use Rattle.goal_question.specs.declared.goal.Outcome.{Outcome}
 use Rattle.goal_question.specs.declared.goal.Outcome.the-variants as outcome
-use Rattle.goal_question.specs.GoalQuestion.{WorkFits, allQuestions, GoalPromise}
+use Rattle.goal_question.specs.GoalQuestion.{WorkFits, allQuestions, GoalSort, GoalPromise}
 use Rattle.least_steps.specs.declared.Steps.{Steps}
 use Rattle.least_steps.specs.declared.Steps.the-variants as steps
 use Rattle.least_steps.specs.LeastSteps.{FlowPath, SomeFlowPath, BothInRange, stepsLength, StepsFit, stepsQuestions, StepsPromise}
@@ -170,27 +170,31 @@ module _ {s t : List ℕ} (A : AnswersBy s t) where
     h .4,
   )
 
+  sort-same : (g : List ℕ) (work1 work2 : ℕ) (r : Outcome) → GoalSort s g work1 work2 r → GoalSort t g work1 work2 r
+  sort-same g work1 work2 outcome.Holds h = (goal-asked A g work1 work2 .yes (h .0), subst Holds (model-same A g) (h .1))
+  sort-same g work1 work2 (outcome.Order m) h = (goal-asked A g work1 work2 .yes (h .0), subst (λ (M : Model). OrderAt M m) (model-same A g) (h .1))
+  sort-same g work1 work2 (outcome.Events m) h = (goal-asked A g work1 work2 .yes (h .0), subst (λ (M : Model). EventsAt M m) (model-same A g) (h .1))
+  sort-same g work1 work2 (outcome.Refused k) h = goal-asked A g work1 work2 .no k h
+  sort-same g work1 work2 (outcome.NoRoom m) h = absurd h
+
   goal-same : (g : List ℕ) (work1 work2 : ℕ) (before after : List ℕ) (r : Outcome)
       → GoalPromise s g work1 work2 before after r → GoalPromise t g work1 work2 before after r
-  goal-same g work1 work2 before after outcome.Holds h = (goal-asked A g work1 work2 .yes (h .0), subst Holds (model-same A g) (h .1), h .2)
+  goal-same g work1 work2 before after outcome.Holds h = (sort-same g work1 work2 outcome.Holds (h .0), h .1)
   goal-same g work1 work2 before after (outcome.Order m) h = (
-    goal-asked A g work1 work2 .yes (h .0),
-    subst (λ (M : Model). OrderAt M m) (model-same A g) (h .1),
-    subst (λ (M : Model). Shows (IsPath M) m before after) (model-same A g) (h .2),
-    subst (λ (M : Model). BreaksOrder M m (contextsIn after)) (model-same A g) (h .3),
+    sort-same g work1 work2 (outcome.Order m) (h .0),
+    subst (λ (M : Model). Shows (IsPath M) m before after) (model-same A g) (h .1),
+    subst (λ (M : Model). BreaksOrder M m (contextsIn after)) (model-same A g) (h .2),
   )
   goal-same g work1 work2 before after (outcome.Events m) h = (
-    goal-asked A g work1 work2 .yes (h .0),
-    subst (λ (M : Model). EventsAt M m) (model-same A g) (h .1),
-    subst (λ (M : Model). Shows (IsPath M) m before after) (model-same A g) (h .2),
-    subst (λ (M : Model). BreaksEvents M m (contextsIn after) (eventsIn after)) (model-same A g) (h .3),
+    sort-same g work1 work2 (outcome.Events m) (h .0),
+    subst (λ (M : Model). Shows (IsPath M) m before after) (model-same A g) (h .1),
+    subst (λ (M : Model). BreaksEvents M m (contextsIn after) (eventsIn after)) (model-same A g) (h .2),
   )
-  goal-same g work1 work2 before after (outcome.Refused k) h = (goal-asked A g work1 work2 .no k (h .0), h .1)
+  goal-same g work1 work2 before after (outcome.Refused k) h = (sort-same g work1 work2 (outcome.Refused k) (h .0), h .1)
   goal-same g work1 work2 before after (outcome.NoRoom m) h = (
-    goal-asked A g work1 work2 .yes (h .0),
-    subst (λ (M : Model). OrderAt M m ⊎ EventsAt M m) (model-same A g) (h .1),
+    ⊎-elim (λ o. inl (sort-same g work1 work2 (outcome.Order m) o)) (λ e. inr (sort-same g work1 work2 (outcome.Events m) e)) (h .0),
+    h .1,
     h .2,
-    h .3,
   )
 
 pub same-answers : (s t : List ℕ) → AnswersBy s t → SameAnswers s t

@@ -1,6 +1,6 @@
 -- Policies with the same facts, whose constraints say the same, have the same relations; authorization and flow rest on these alone.
 use Prim.Native.Nat.{ℕ}
-use mathlib.Core.Path.{_≡_, refl}
+use mathlib.Core.Path.{_≡_, refl, sym, _∙_}
 use mathlib.Core.Bool.{not, _&&_, _||_}
 use mathlib.Core.Logic.{inl, inr}
 use native.Mathlib.Omega.{arith}
@@ -10,12 +10,13 @@ use Rattle.policy_facts.proofs.RelationLaws.{SameFacts, domain-same, class-same
 use Rattle.context.specs.declared.Context.{Context}
 use Rattle.context.specs.declared.Event.{Event}
 use Rattle.context.specs.Codes.{isTransition}
+use Rattle.relations.proofs.CountedLaws.{AllCount, allowed-all}
 use Rattle.relations.specs.Relations.{Γ, writeLike, readLike, allowed, α, ρ, μ, roleChange}
 use Rattle.constraints.specs.Constraints.{constraintsHold}
 use Rattle.access.specs.Authorization.{χ, roleRule, allHold, authorized, flow}
 use Rattle.canonical_laws.specs.cases.Theorems.{SameRelations}
 
-module _ {p q : Policy} (S : SameFacts p q) where
+module _ {p q : Policy} (S : SameFacts p q) (cp : AllCount p) (cq : AllCount q) where
   -- ---- the relations, each of the records of one kind
   same-gamma : (e : Event) → Γ p e ≡ Γ q e
   unfolding Γ
@@ -30,8 +31,7 @@ module _ {p q : Policy} (S : SameFacts p q) where
   same-reads e = flow-same S (e .class) 2 (e .perm) (inr refl)
 
   same-allows : (t1 t2 : ℕ) (e : Event) → allowed p t1 t2 e ≡ allowed q t1 t2 e
-  unfolding allowed
-  same-allows t1 t2 e = allow-same S t1 t2 (e .class) (e .perm)
+  same-allows t1 t2 e = allowed-all p cp t1 t2 e ∙ allow-same S t1 t2 (e .class) (e .perm) ∙ sym (allowed-all q cq t1 t2 e)
 
   same-changes : (r1 r2 : ℕ) → roleChange p r1 r2 ≡ roleChange q r1 r2
   unfolding roleChange

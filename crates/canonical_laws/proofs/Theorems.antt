@@ -1,10 +1,10 @@
 -- The claims of request e, for all policies whose canonical image is written (specs/cases/Theorems.antt says what each of them is).
 use Prim.Native.Nat.{ℕ, _≤_}
-use mathlib.Core.Path.{sym, ap, subst}
+use mathlib.Core.Path.{_≡_, refl, sym, ap, subst}
 use mathlib.Core.List.{List, [], _∷_}
+use mathlib.Core.Logic.{_↔_}
 use lib.ListN.{length}
 use Rattle.base.specs.Questions.{Question, ask, AllYes}
-use Rattle.base.specs.inner.AllBytes.{AllBytes}
 use Rattle.base.proofs.QuestionLaws.{passed-first, passed-then, passed-both}
 use Rattle.policy_image.specs.Policy.{Policy, policyOf}
 use Rattle.policy_image.specs.Encoding.{imageOf}
@@ -15,7 +15,7 @@ use Rattle.policy_facts.specs.cases.Same.{Same}
 use Rattle.policy_facts.proofs.RelationLaws.{same-facts}
 use Rattle.policy_facts.proofs.SameLaws.{same-sym, same-trans, same-canonical}
 use Rattle.canonical.specs.Canonical.{canonicalImage}
-use Rattle.canonical_laws.specs.cases.Theorems.{ImageWritten, EqualBytes, WritingTwice, SameRelations, SameAnswers}
+use Rattle.canonical_laws.specs.cases.Theorems.{ImageWritten, WritingTwice, SameRelations, SameAnswers, CanonicalClaims}
 use Rattle.canonical_laws.proofs.CanonicalWrittenLaws.{canonical-passes, read-same, read-constraints, read-canonical}
 use Rattle.canonical_laws.proofs.SameRelationLaws.{same-relations}
 use Rattle.canonical_laws.proofs.SameAnswerLaws.{same-answers}
@@ -25,7 +25,7 @@ abbrev roomQuestions : List ℕ → ℕ → List Question
 roomQuestions s output = ask 15 (canonicalOf (policyOf s) .size ≤ 4095) ∷ ask 16 (length (canonicalImage s) ≤ output) ∷ []
 
 -- ---- an image s whose canonical image is written
-module _ (s : List ℕ) (B : AllBytes s) (W : ImageWritten s) where
+module _ (s : List ℕ) (W : ImageWritten s) where
   accepted : AllYes (policyQuestions s)
   accepted = passed-first (policyQuestions s) (roomQuestions s (W .output)) (W .asked)
 
@@ -33,13 +33,13 @@ module _ (s : List ℕ) (B : AllBytes s) (W : ImageWritten s) where
   few = passed-then (policyQuestions s) (roomQuestions s (W .output)) (W .asked) .0
 
   says-same : Same (policyOf s) (policyOf (canonicalImage s))
-  says-same = read-same s B accepted few
+  says-same = read-same s (W .bytes) accepted few
 
   -- "Writing twice changes nothing."
   pub writing-twice : WritingTwice s
   writing-twice =
-      let passes = canonical-passes s B accepted few in
-      let again = read-canonical s B accepted few in
+      let passes = canonical-passes s (W .bytes) accepted few in
+      let again = read-canonical s (W .bytes) accepted few in
       record {
         accepted = passes;
         asked = λ output room.
@@ -52,7 +52,7 @@ module _ (s : List ℕ) (B : AllBytes s) (W : ImageWritten s) where
 
   -- "Every authorization answer survives the writing."
   pub relations-survive : SameRelations (policyOf s) (policyOf (canonicalImage s))
-  relations-survive = same-relations (same-facts says-same) (read-constraints s B accepted few)
+  relations-survive = same-relations (same-facts says-same) (λ i. refl) (λ i. refl) (read-constraints s (W .bytes) accepted few)
 
   pub answers-survive : SameAnswers s (canonicalImage s)
   answers-survive =
@@ -61,7 +61,7 @@ module _ (s : List ℕ) (B : AllBytes s) (W : ImageWritten s) where
       same-answers s (canonicalImage s)
       (record {
         first = accepted;
-        second = canonical-passes s B accepted few;
+        second = canonical-passes s (W .bytes) accepted few;
         counts = record { types = S .types; roles = S .roles; users = S .users; classes = S .classes };
         rho = R .rho;
         mu = R .mu;
@@ -71,10 +71,14 @@ module _ (s : List ℕ) (B : AllBytes s) (W : ImageWritten s) where
 
 -- ---- two of them
 -- "Two policies give equal bytes exactly when their counts, their facts .. and their lists of kinds 8 and 9 agree"
-pub equal-bytes : (s t : List ℕ) → AllBytes s → AllBytes t → ImageWritten s → ImageWritten t → EqualBytes s t
-equal-bytes s t B D W X =
-    let S = sound s (accepted s B W) in
-    let T = sound t (accepted t D X) in (
-      λ e. same-trans (says-same s B W) (subst (λ (i : List ℕ). Same (policyOf i) (policyOf t)) (sym e) (same-sym (says-same t D X))),
+pub equal-bytes : (s t : List ℕ) → ImageWritten s → ImageWritten t → (canonicalImage s ≡ canonicalImage t) ↔ Same (policyOf s) (policyOf t)
+equal-bytes s t W X =
+    let S = sound s (accepted s W) in
+    let T = sound t (accepted t X) in (
+      λ e. same-trans (says-same s W) (subst (λ (i : List ℕ). Same (policyOf i) (policyOf t)) (sym e) (same-sym (says-same t X))),
       λ e. ap imageOf (same-canonical (policyOf s) (policyOf t) (S .range) (T .range) (S .fields) (T .fields) e),
     )
+
+-- THE THEOREM
+pub canonical-claims : CanonicalClaims
+canonical-claims = record { equal-bytes = equal-bytes; twice = writing-twice; relations = relations-survive; answers = answers-survive }

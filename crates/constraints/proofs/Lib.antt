@@ -1,4 +1,5 @@
 pub mod EvalLaws
+pub mod CountedLaws
 pub mod OperatorLaws
 pub mod WordLaws
 pub mod LeafLaws

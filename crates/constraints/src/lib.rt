@@ -37,7 +37,7 @@ fn flipped(w: u64) -> u64
 }
 
 // The value of a node, of each pair that the leaves are of.
-// A tree of 4,095 nodes in a row has as many calls on the stack at once.
+// A constraint has 4,094 nodes at the most, beside its own record; in a row they are as many calls on the stack at once.
 fn eval(policy: &[u8], node: usize, leaves: &[u64; LEAVES]) -> u64
     requires { ⌜ Sound (now policy) × IsNode (policyOf (now policy)) node ⌝ }
     ensures { λ r. ⌜ NodeWord (policyOf (now (policy .entry))) (now (leaves .entry)) node r ⌝ }

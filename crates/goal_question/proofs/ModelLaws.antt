@@ -8,6 +8,7 @@ use lib.Dec.{T}
 use Rattle.base.specs.Bits.{bit}
 use Rattle.policy_image.specs.declared.counts.Counts.{Counts}
 use Rattle.policy_image.specs.Layout.{countsOf}
+use Rattle.policy_image.specs.Policy.{Policy, policyOf}
 use Rattle.context.specs.declared.Context.{Context}
 use Rattle.context.specs.declared.Event.{Event}
 use Rattle.context.specs.Codes.{contextOf, eventOf}
@@ -19,9 +20,10 @@ use Rattle.base.proofs.BoolLaws.{to-true}
 use Rattle.goal_image.specs.inner.Memberships.{ContextSets, EventSets}
 use Rattle.paths.specs.Model.{Model}
 use Rattle.paths.specs.inner.Agree.{Agree}
-use Rattle.goal_model.specs.Images.{model}
-use Rattle.plan.specs.inner.Entries.{eventSetsAt}
-use Rattle.plan.specs.inner.Plan.{Ready, PlanCounts, GoalPlan}
+use Rattle.access.specs.Authorization.{flow}
+use Rattle.goal_model.specs.Images.{meetsρμ, model}
+use Rattle.plan.specs.inner.Entries.{eventSetsAt, countedAt}
+use Rattle.plan.specs.inner.Plan.{Ready, PlanCounts, GoalPlan, ruled}
 use Rattle.plan.specs.inner.Sets.{setsOf}
 use Rattle.plan.proofs.SetLaws.{goal-sets}
 use Rattle.search_steps.proofs.FlowLaws.{flow-class}
@@ -38,7 +40,7 @@ by-set {g} {e} S i h =
     let k′ : 7 ≤ 7 + i = omega arith in
     S .at (7 + i) ∙ rw (lt-ltb (7 + i) 13 k, le-leb 7 (7 + i) k′)
 
-module _ {s g plan : List ℕ} {n : Counts} {l : Legs} (R : Ready s n) (C : PlanCounts n) (G : GoalPlan g n plan) (q : l ≡ legsIn (goalOf g)) where
+module _ {s g plan : List ℕ} {n : Counts} {l : Legs} (R : Ready s n) (C : PlanCounts n) (G : GoalPlan g n plan) (E : ruled s plan ≡ policyOf s) (q : l ≡ legsIn (goalOf g)) where
   abbrev M : Model
   M = planModel s plan n l
 
@@ -50,7 +52,7 @@ module _ {s g plan : List ℕ} {n : Counts} {l : Legs} (R : Ready s n) (C : Plan
 
   events : (x e y : ℕ) → T (M .flowBy x e y) → EventSets (goalOf g) (eventOf e) (eventSetsAt plan e)
   events x e y f =
-      let w = flow-class {s = s} (eventOf e) (contextOf x) (contextOf y) (R .sound) (to-true (M .flowBy x e y) f) in
+      let w = flow-class {s = s} (countedAt plan) (eventOf e) (contextOf x) (contextOf y) (R .sound) (to-true (M .flowBy x e y) f) in
       let a = w .low in
       let b = w .high in
       let c : n .classes ≡ countsOf s .classes = ap (λ (k : Counts). k .classes) (R .same) in
@@ -60,9 +62,9 @@ module _ {s g plan : List ℕ} {n : Counts} {l : Legs} (R : Ready s n) (C : Plan
   same-model =
       record {
         legs = ap (λ (k : Legs). k .count) q;
-        flows = λ x e y. refl;
+        flows = λ x e y. ap (λ (p : Policy). flow p (eventOf e) (contextOf x) (contextOf y)) E;
         contexts = λ x. refl;
-        held = λ x. refl;
+        held = λ x. ap (λ (p : Policy). meetsρμ p (contextOf x)) E;
         repeated = λ i h. ap (λ (k : Legs). bit (k .repeated) i) q;
         σ = λ i x h c. in-set (sets x c) i (let z = few in omega arith);
         σe = λ x c. sets x c .at 13;

@@ -3,6 +3,7 @@ use Prim.Native.Nat.{ℕ, _*_, _^_, _≤_, _<_}
 use mathlib.Core.List.{List, [], _∷_, _++_}
 use mathlib.Core.Path.{_≡_, ap, _∙_}
 use native.Mathlib.Omega.{arith}
+use lib.ListN.{length}
 use Rattle.base.specs.Questions.{Question, ask, AllYes}
 use Rattle.base.proofs.QuestionLaws.{passed-first, passed-then}
 use Rattle.policy_image.specs.declared.counts.Counts.{Counts}
@@ -21,7 +22,7 @@ use Rattle.plan.specs.inner.Plan.{Ready, Planned}
 use Rattle.search_graph.specs.inner.Tasks.{stateCount}
 use Rattle.search_graph.proofs.GivenLaws.{ready-of, given}
 use Rattle.goal_question.specs.GoalQuestion.{workLength, WorkFits}
-use Rattle.goal_question.specs.inner.Answers.{Searchable}
+use Rattle.goal_answer.specs.inner.Finding.{Searchable}
 use Rattle.goal_question.specs.inner.Parts.{Passed}
 
 -- what is known of the policy's counts and the goal's legs
@@ -55,11 +56,16 @@ module _ {s g : List ℕ} {n : Counts} {l : Legs} {work1 work2 : ℕ} (P : Passe
   work-fits : WorkFits s g work1 work2
   work-fits = passed-then (goalQuestions (countsOf s) g) eleven goal-part .0
 
-  pub searchable : {plan : List ℕ} → Planned s n plan → Searchable s plan n l work1 work2
-  searchable L =
+  -- the second work slice has an entry for each node
+  pub work-room : contextCount n * stateCount (l .count) ≤ work2
+  work-room = omega (arith, work-length s g (P .counts) (P .legs), work-fits .second)
+
+  -- .. and those entries are enough
+  pub searchable : {plan : List ℕ} {k : ℕ} → Planned s n plan → contextCount n * stateCount (l .count) ≤ k → Searchable s plan n l work1 k
+  searchable L h =
       let Z = passed-sizes in
       record {
         given = given (Z .ready) L (Z .some-leg) (Z .few-legs);
         first = omega (arith, work-length s g (P .counts) (P .legs), work-fits .first);
-        second = omega (arith, work-length s g (P .counts) (P .legs), work-fits .second);
+        second = h;
       }

@@ -22,32 +22,42 @@ use Rattle.goal_question.specs.declared.goal.Outcome.the-variants as out
 abbrev pub workLength : List ℕ → List ℕ → ℕ
 workLength s g = countsOf s .types * countsOf s .roles * countsOf s .users * 2 ^ legsOf g
 
--- Question 11: "Does each work slice have at least T × R × U × 2^n entries?"
-pub record WorkFits (s g : List ℕ) (work1 work2 : ℕ) : Type 0 where
-  pub first : workLength s g ≤ work1
-  pub second : workLength s g ≤ work2
+module _ (s g : List ℕ) (work1 work2 : ℕ) where
+  -- Question 11: "Does each work slice have at least T × R × U × 2^n entries?"
+  pub record WorkFits : Type 0 where
+    pub first : workLength s g ≤ work1
+    pub second : workLength s g ≤ work2
 
--- "Policy, before all else", "Goal, next", then 11
-abbrev pub allQuestions : List ℕ → List ℕ → ℕ → ℕ → List Question
-allQuestions s g work1 work2 = policyQuestions s ++ (goalQuestions (countsOf s) g ++ (ask 11 (WorkFits s g work1 work2) ∷ []))
+  -- "Policy, before all else", "Goal, next", then 11
+  abbrev pub allQuestions : List Question
+  allQuestions = policyQuestions s ++ (goalQuestions (countsOf s) g ++ (ask 11 WorkFits ∷ []))
 
--- what each case of the answer says, with the path slice before and after the call
-abbrev pub GoalPromise : List ℕ → List ℕ → ℕ → ℕ → List ℕ → List ℕ → Outcome → Type 0
--- "A goal holds exactly when no path breaks either"; all entries are unchanged
-GoalPromise s g work1 work2 before after outcome.Holds =
-    AllYes (allQuestions s g work1 work2) × Holds (model s g) × (after ≡ before)
--- "The answer is order when some path of m steps breaks order": m is the least, and the path shown breaks order
-GoalPromise s g work1 work2 before after (outcome.Order m) =
-    AllYes (allQuestions s g work1 work2) × OrderAt (model s g) m × Shows (IsPath (model s g)) m before after × BreaksOrder (model s g) m (contextsIn after)
--- "and else events"; the path shown breaks events
-GoalPromise s g work1 work2 before after (outcome.Events m) =
-    AllYes (allQuestions s g work1 work2) × EventsAt (model s g) m × Shows (IsPath (model s g)) m before after
-    × BreaksEvents (model s g) m (contextsIn after) (eventsIn after)
--- the number of the first question whose answer is no; "Any refusal leaves the path slice unchanged."
-GoalPromise s g work1 work2 before after (outcome.Refused k) = RefusedWith (allQuestions s g work1 work2) k × (after ≡ before)
--- Question 12: "If a path breaks the goal, has the path slice at least 2m + 1 entries for the least? 12, with m"
-GoalPromise s g work1 work2 before after (outcome.NoRoom m) =
-    AllYes (allQuestions s g work1 work2) × (OrderAt (model s g) m ⊎ EventsAt (model s g) m) × (length before < 2 * m + 1) × (after ≡ before)
+  -- the sort of an answer, whatever is shown of it
+  abbrev pub GoalSort : Outcome → Type 0
+  -- "A goal holds exactly when no path breaks either"
+  GoalSort outcome.Holds = AllYes allQuestions × Holds (model s g)
+  -- "The answer is order when some path of m steps breaks order": m is the least
+  GoalSort (outcome.Order m) = AllYes allQuestions × OrderAt (model s g) m
+  -- "and else events"
+  GoalSort (outcome.Events m) = AllYes allQuestions × EventsAt (model s g) m
+  -- the number of the first question whose answer is no
+  GoalSort (outcome.Refused k) = RefusedWith allQuestions k
+  -- 12 is asked of the path slice: it is no sort
+  GoalSort (outcome.NoRoom m) = ⊥
+
+  -- the sort of the answer, and what is shown of it: the path slice before and after the call
+  abbrev pub GoalPromise : List ℕ → List ℕ → Outcome → Type 0
+  -- all entries are unchanged
+  GoalPromise before after outcome.Holds = GoalSort outcome.Holds × (after ≡ before)
+  -- the path shown breaks order
+  GoalPromise before after (outcome.Order m) = GoalSort (outcome.Order m) × Shows (IsPath (model s g)) m before after × BreaksOrder (model s g) m (contextsIn after)
+  -- the path shown breaks events
+  GoalPromise before after (outcome.Events m) =
+      GoalSort (outcome.Events m) × Shows (IsPath (model s g)) m before after × BreaksEvents (model s g) m (contextsIn after) (eventsIn after)
+  -- "Any refusal leaves the path slice unchanged."
+  GoalPromise before after (outcome.Refused k) = GoalSort (outcome.Refused k) × (after ≡ before)
+  -- Question 12: "If a path breaks the goal, has the path slice at least 2m + 1 entries for the least? 12, with m"
+  GoalPromise before after (outcome.NoRoom m) = (GoalSort (outcome.Order m) ⊎ GoalSort (outcome.Events m)) × (length before < 2 * m + 1) × (after ≡ before)
 
 -- "a 64-bit number: 256m + 4 × number + answer (0 holds, 1 order, 2 events, 3 refused; unused parts 0)"
 abbrev pub outcomeNumber : Outcome → ℕ

@@ -1,24 +1,32 @@
 // The goal question: does a goal hold of a policy? Where it does not, a shortest path that breaks it is shown.
-use crate::answer::answer_by;
 use context::Context;
+use goal_answer::find::Finding;
+use goal_answer::find::find_by;
+use goal_answer::show::show_by;
 use goal_image::check::CheckedGoal;
 use goal_image::check::Legs;
 use goal_image::check::check as check_goal;
 use plan::goal::put_goal;
 use plan::make::make_plan;
 use plan::regions::ENTRIES;
+use plan::regions::RECORD_WORDS;
+use plan::rules::put_rules;
+use plan_index::extract::ALL_BITS;
 use policy_check::check;
 use policy_check::refusal;
 use policy_image::counts::Checked;
 use policy_image::counts::Counts;
+use search::levels::UNBOUNDED;
 use search_graph::task::state_count;
+use search_graph::visits::clear;
+use witness::path::Showing;
 ghost use mathlib.Core.Path.{_≡_};
 ghost use Prim.Native.Nat.{_*_, _^_, _≤_, _<_};
 ghost use lib.ListN.{length};
 ghost use Rattle.base.specs.inner.Decides.{Decides};
 ghost use Rattle.context.specs.inner.Places.{Countable, contextCount};
 ghost use Rattle.search_graph.specs.inner.Tasks.{stateCount};
-ghost use Rattle.goal_question.specs.inner.Parts.{Passed, goalRefusalOf};
+ghost use Rattle.goal_question.specs.inner.Parts.{Passed, goalRefusalOf, pathOutcome, outcomeOf};
 ghost use Rattle.goal_question.specs.GoalQuestion.{GoalPromise, outcomeNumber};
 
 // The answer to the goal question: m is a number of steps.
@@ -54,7 +62,29 @@ fn work_fits(counts: Counts, legs: u32, entries: usize) -> bool
     nodes as usize <= entries
 }
 
-// The answer where all questions before 12 are passed: the plan is made once for all searches.
+// The outcome where a path of m steps is shown of what is found.
+fn path_outcome(found: Finding, m: u32) -> Outcome
+    ensures { λ r. ⌜ r ≡ pathOutcome found m ⌝ }
+{
+    match found {
+        Finding::Nothing => Outcome::Holds,
+        Finding::Order(_) => Outcome::Order(m),
+        Finding::Events(_) => Outcome::Events(m),
+    }
+}
+
+// The outcome, by what is found and what is shown of it.
+fn outcome_of(found: Finding, showing: Showing) -> Outcome
+    ensures { λ r. ⌜ r ≡ outcomeOf found showing ⌝ }
+{
+    match showing {
+        Showing::Nothing => Outcome::Holds,
+        Showing::NoRoom(m) => Outcome::NoRoom(m),
+        Showing::Path(m) => path_outcome(found, m),
+    }
+}
+
+// The answer where all questions before 12 are passed: the plan is made, and the entries of all nodes are cleared, once for all searches.
 fn answer(
     policy: &[u8],
     goal: &[u8],
@@ -70,7 +100,17 @@ fn answer(
     let mut plan = [0u32; ENTRIES];
     make_plan(policy, counts, &mut plan);
     put_goal(goal, counts, &mut plan);
-    answer_by(policy, &plan, counts, legs, work1, work2, path)
+    let all = [ALL_BITS; RECORD_WORDS];
+    put_rules(policy, counts, &all, &mut plan);
+    let nodes = (Context::count(counts) * state_count(legs.count)) as usize;
+    let back = &mut work2[..nodes];
+    clear(back);
+    let found = find_by(policy, &plan, counts, legs, UNBOUNDED, work1, back);
+    let finding = found.finding;
+    outcome_of(
+        finding,
+        show_by(policy, &plan, counts, legs, found, work1, back, path),
+    )
 }
 
 // Does the goal hold of the policy? The work slices are overwritten; of the path slice, just the entries of the path that is shown.

@@ -1,3 +1,2 @@
 // The goal question. It asks nothing of its caller, and its promise fixes the answer and the count.
-mod answer;
 pub mod goal;

@@ -1,8 +1,8 @@
 -- The questions of the join in order: a refusal by each, and what is known where none refuses.
-use Prim.Native.Nat.{ℕ, _+_, _*_, _≤_, _<_}
+use Prim.Native.Nat.{ℕ, _+_, _≤_, _<_}
 use mathlib.Core.List.{List, [], _∷_, _++_}
 use mathlib.Core.Logic.{inl, inr}
-use mathlib.Core.Path.{_≡_, refl, sym, ap₂, _∙_}
+use mathlib.Core.Path.{_≡_, refl, sym, ap, ap₂, subst, _∙_}
 use native.Mathlib.Omega.{arith}
 use lib.ListN.{length, drop}
 use Rattle.base.specs.Questions.{Question, ask, AllYes, RefusedWith}
@@ -13,6 +13,7 @@ use Rattle.policy_image.specs.declared.counts.Checked.{Checked}
 use Rattle.policy_image.specs.declared.counts.Checked.the-variants as policy
 use Rattle.policy_image.specs.Layout.{recordCount}
 use Rattle.policy_image.specs.Policy.{policyOf}
+use Rattle.policy_image.specs.inner.Sizes.{imageSize, mostRecords}
 use Rattle.policy_image.proofs.EncodingLaws.{image-length}
 use Rattle.policy_check.specs.Questions.{policyQuestions}
 use Rattle.policy_check.specs.inner.Answer.{PolicyAnswer, refusalOf}
@@ -23,13 +24,13 @@ use Rattle.policy_runs.proofs.ImageWriteLaws.{records-of}
 use Rattle.join.specs.Join.{joinedImage, joinQuestions}
 use Rattle.join.specs.inner.Parts.{Joinable}
 
-pub few-records : (s : List ℕ) {c : Counts} → PolicyAnswer s (policy.Accepted c) → c .records ≤ 4095
+pub few-records : (s : List ℕ) {c : Counts} → PolicyAnswer s (policy.Accepted c) → c .records ≤ mostRecords
 few-records s a = let x = records-of s (a .0) in let f = sound s (a .1) .exact .few in omega arith
 
 module _ (s t : List ℕ) (output : ℕ) where
   -- the questions after those of both policies, and after the maker's
   abbrev last : List Question
-  last = ask 15 (recordCount s + recordCount t ≤ 4095) ∷ ask 16 (length (joinedImage s t) ≤ output) ∷ []
+  last = ask 15 (recordCount s + recordCount t ≤ mostRecords) ∷ ask 16 (length (joinedImage s t) ≤ output) ∷ []
 
   abbrev later : List Question
   later = policyQuestions t ++ last
@@ -45,27 +46,27 @@ module _ (s t : List ℕ) (output : ℕ) where
       after-both : (k : ℕ) → RefusedWith last k → RefusedWith (joinQuestions s t output) k
       after-both k r = refused-then (policyQuestions s) later k (a .1) (refused-then (policyQuestions t) last k (b .1) r)
 
-      pub too-many : 4095 < c .records + d .records → RefusedWith (joinQuestions s t output) 15
+      pub too-many : mostRecords < c .records + d .records → RefusedWith (joinQuestions s t output) 15
       too-many h =
           let x = records-of s (a .0) in
           let y = records-of t (b .0) in
           after-both 15 (inl ((λ few. omega arith), refl))
 
-      module _ (few : c .records + d .records ≤ 4095) where
-        fewer : recordCount s + recordCount t ≤ 4095
+      module _ (few : c .records + d .records ≤ mostRecords) where
+        fewer : recordCount s + recordCount t ≤ mostRecords
         fewer = let x = records-of s (a .0) in let y = records-of t (b .0) in omega arith
 
-        pub result-length : length (joinedImage s t) ≡ 24 + 12 * (c .records + d .records)
+        pub result-length : length (joinedImage s t) ≡ imageSize (c .records + d .records)
         result-length =
             let x = records-of s (a .0) in
             let y = records-of t (b .0) in
             let z = joined-size (policyOf s) (policyOf t) (sound s (a .1) .chains) (sound t (b .1) .chains) in
-            image-length (joined (policyOf s) (policyOf t)) ∙ omega arith
+            image-length (joined (policyOf s) (policyOf t)) ∙ ap imageSize (let n : joined (policyOf s) (policyOf t) .size ≡ c .records + d .records = omega arith in n)
 
-        pub too-short : output < 24 + 12 * (c .records + d .records) → RefusedWith (joinQuestions s t output) 16
+        pub too-short : output < imageSize (c .records + d .records) → RefusedWith (joinQuestions s t output) 16
         too-short h = let l = result-length in after-both 16 (inr (fewer, inl ((λ fits. omega arith), refl)))
 
-        module _ (fits : 24 + 12 * (c .records + d .records) ≤ output) where
+        module _ (fits : imageSize (c .records + d .records) ≤ output) where
           pub all-passed : AllYes (joinQuestions s t output)
           all-passed =
               let l = result-length in
@@ -85,11 +86,11 @@ module _ (s t : List ℕ) (output : ℕ) where
                 makers-size = x;
                 boards-size = y;
                 few = fewer;
-                room = omega arith;
+                room = subst (λ (n : ℕ). imageSize n ≤ output) (ap₂ _+_ x y) fits;
               }
 
           -- bytes past the result are counted from the two headers
-          pub past-result : (before after : List ℕ) → after ≡ joinedImage s t ++ drop (24 + 12 * (recordCount s + recordCount t)) before
-              → after ≡ joinedImage s t ++ drop (24 + 12 * (c .records + d .records)) before
-          past-result before after e =
-              e ∙ ap₂ (λ (x y : ℕ). joinedImage s t ++ drop (24 + 12 * (x + y)) before) (sym (records-of s (a .0))) (sym (records-of t (b .0)))
+          pub past-result : (n : ℕ) → n ≡ imageSize (c .records + d .records) → (before after : List ℕ)
+              → after ≡ joinedImage s t ++ drop (imageSize (recordCount s + recordCount t)) before → after ≡ joinedImage s t ++ drop n before
+          past-result n q before after e =
+              e ∙ ap (λ (i : ℕ). joinedImage s t ++ drop i before) (sym (q ∙ ap₂ (λ (x y : ℕ). imageSize (x + y)) (records-of s (a .0)) (records-of t (b .0))))

@@ -1,6 +1,6 @@
 -- What is known of two images that can be joined: their records make a policy that can be written, the tables are those of that policy, and the runs
 -- of both fit and fill its image.
-use Prim.Native.Nat.{ℕ, zero, suc, _+_, _*_, _-_, _≤_}
+use Prim.Native.Nat.{ℕ, zero, suc, _+_, _-_, _≤_}
 use mathlib.Core.Path.{_≡_, refl, sym, ap, ap₂, subst, _∙_}
 use mathlib.Core.List.{List, _++_}
 use native.Mathlib.Omega.{arith}
@@ -9,9 +9,10 @@ use Rattle.base.specs.Bytes.{byteAt}
 use Rattle.base.specs.Ranges.{Within}
 use Rattle.base.specs.inner.Fill.{Filled}
 use Rattle.policy_image.specs.declared.counts.Counts.{Counts}
-use Rattle.policy_image.specs.Layout.{recordCount, countsOf, recordStart}
+use Rattle.policy_image.specs.Layout.{recordCount, countsOf}
 use Rattle.policy_image.specs.Policy.{Policy, policyOf}
 use Rattle.policy_image.specs.Encoding.{imageOf}
+use Rattle.policy_image.specs.inner.Sizes.{headerSize, sizeOf, startOf, imageSize}
 use Rattle.policy_image.proofs.FieldLaws.{counts-same}
 use Rattle.policy_image.proofs.EncodingLaws.{image-writable}
 use Rattle.policy_lists.specs.Lists.{kindList}
@@ -81,8 +82,8 @@ module _ {s t : List ℕ} {c d : Counts} {room : ℕ} (G : Joinable s t c d room
       ∙ counts-same (record { types = refl; roles = refl; users = refl; classes = refl; records = sym whole-size })
 
   -- there is room for the image
-  image-room : (output : ℕ) → room ≤ output → 24 + 12 * j .size ≤ output
-  image-room output long = omega (arith, whole-size, G .room, long)
+  image-room : (output : ℕ) → room ≤ output → imageSize (j .size) ≤ output
+  image-room output long = omega (arith, ap sizeOf whole-size, G .room, long)
 
   -- ---- the runs of kind k + 1
   module _ (run : Run) (k : ℕ) (u : suc k ≤ 9) (kind : run .kind ≡ suc k) (last : run .last ≡ ends (suc k)) where
@@ -134,7 +135,7 @@ module _ {s t : List ℕ} {c d : Counts} {room : ℕ} (G : Joinable s t c d room
       makers-run-fits = makers-fit run (k - 1) up (kind ∙ this) (last ∙ ap ends this) before shift
 
       pub makers-run-put : {old mid new : List ℕ} → RecordsTo j (ends (k - 1)) old mid
-          → Filled (λ i v. v ≡ byteAt (runBytes p run (p .size)) i) mid new (recordStart (suc (run .before))) 0 (12 * length (kindList p (run .kind)))
+          → Filled (λ i v. v ≡ byteAt (runBytes p run (p .size)) i) mid new (startOf (suc (run .before))) 0 (sizeOf (length (kindList p (run .kind))))
           → RecordsTo j (ends (k - 1) + length (kindList p k)) old new
       makers-run-put {old} {mid} {new} F G =
           subst (λ (x : ℕ). RecordsTo j x old new) (ap₂ (λ (x y : ℕ). x + length (kindList p y)) before kind)
@@ -149,7 +150,7 @@ module _ {s t : List ℕ} {c d : Counts} {room : ℕ} (G : Joinable s t c d room
       boards-run-fits = boards-fit run (k - 1) up (kind ∙ this) (last ∙ ap ends this) behind shift
 
       pub boards-run-put : {old mid new : List ℕ} → RecordsTo j (ends (k - 1) + length (kindList p k)) old mid
-          → Filled (λ i v. v ≡ byteAt (runBytes q run (q .size)) i) mid new (recordStart (suc (run .before))) 0 (12 * length (kindList q (run .kind)))
+          → Filled (λ i v. v ≡ byteAt (runBytes q run (q .size)) i) mid new (startOf (suc (run .before))) 0 (sizeOf (length (kindList q (run .kind))))
           → RecordsTo j (ends (k + 1 - 1)) old new
       boards-run-put {old} {mid} {new} F G =
           subst (λ (x : ℕ). RecordsTo j x old new) (ap₂ (λ (x y : ℕ). x + length (kindList q y)) behind (kind ∙ this) ∙ sym (next-end run (k - 1) up (kind ∙ this) (last ∙ ap ends this))
@@ -158,8 +159,8 @@ module _ {s t : List ℕ} {c d : Counts} {room : ℕ} (G : Joinable s t c d room
           (subst (λ (x : ℕ). RecordsTo j x old mid) (sym before) F) G)
 
   -- ---- the whole image
-  pub joined-put : {old mid new : List ℕ} (k : ℕ) → k ≡ 9 → length new ≡ length old → length old ≡ room → Filled (λ i v. v ≡ byteAt (imageOf j) i) old mid 0 0 24
-      → RecordsTo j (ends k) mid new → new ≡ imageOf j ++ drop (24 + 12 * (recordCount s + recordCount t)) old
+  pub joined-put : {old mid new : List ℕ} (k : ℕ) → k ≡ 9 → length new ≡ length old → length old ≡ room → Filled (λ i v. v ≡ byteAt (imageOf j) i) old mid 0 0 headerSize
+      → RecordsTo j (ends k) mid new → new ≡ imageOf j ++ drop (imageSize (recordCount s + recordCount t)) old
   joined-put {old} {mid} {new} k e same long F R =
-      subst (λ (n : ℕ). new ≡ imageOf j ++ drop (24 + 12 * n) old) whole-size
+      subst (λ (n : ℕ). new ≡ imageOf j ++ drop (imageSize n) old) whole-size
       (all-put j same (image-room (length old) (omega arith)) F (subst (λ (n : ℕ). RecordsTo j (ends n) mid new) e R))

@@ -4,10 +4,9 @@ use policy_check::check;
 use policy_check::refusal;
 use policy_image::counts::Checked;
 use policy_image::counts::Counts;
-use policy_image::counts::HEADER;
 use policy_image::counts::MOST_RECORDS;
-use policy_image::counts::RECORD;
 use policy_image::kinds::CONSTRAINTS;
+use policy_image::sizes::image_size;
 use policy_runs::Run;
 use policy_runs::count_kinds;
 use policy_runs::count_nodes;
@@ -17,11 +16,12 @@ use policy_runs::tables::ends_of;
 use policy_runs::tables::heads_of;
 use policy_writing::answer::Writing;
 use policy_writing::put_header;
-ghost use Prim.Native.Nat.{_+_, _*_, _≤_};
+ghost use Prim.Native.Nat.{_+_, _≤_};
 ghost use mathlib.Core.Path.{_≡_};
 ghost use mathlib.Core.List.{_++_};
 ghost use lib.ListN.{length, drop};
 ghost use Rattle.policy_image.specs.Layout.{recordCount};
+ghost use Rattle.policy_image.specs.inner.Sizes.{imageSize, mostRecords};
 ghost use Rattle.policy_lists.specs.Joined.{larger, largerCounts};
 ghost use Rattle.join.specs.Join.{joinedImage, JoinPromise};
 ghost use Rattle.join.specs.inner.Parts.{Joinable};
@@ -35,7 +35,7 @@ fn larger_of(a: u32, b: u32) -> u32
 
 // The counts of the result.
 fn larger_counts(c: Counts, d: Counts) -> Counts
-    requires { ⌜ c .records + d .records ≤ 4095 ⌝ }
+    requires { ⌜ c .records + d .records ≤ mostRecords ⌝ }
     ensures { λ r. ⌜ r ≡ largerCounts c d ⌝ }
 {
     Counts {
@@ -50,7 +50,7 @@ fn larger_counts(c: Counts, d: Counts) -> Counts
 // Writes the joined image: the header, then for each kind the maker's records and the board's.
 fn write(output: &mut [u8], maker: &[u8], makers: Counts, board: &[u8], boards: Counts)
     requires { ⌜ Joinable (now maker) (now board) makers boards (length (now output)) ⌝ }
-    ensures { λ _. ⌜ now (output .exit) ≡ joinedImage (now (maker .entry)) (now (board .entry)) ++ drop (24 + 12 * (recordCount (now (maker .entry)) + recordCount (now (board .entry)))) (now (output .entry)) ⌝ }
+    ensures { λ _. ⌜ now (output .exit) ≡ joinedImage (now (maker .entry)) (now (board .entry)) ++ drop (imageSize (recordCount (now (maker .entry)) + recordCount (now (board .entry)))) (now (output .entry)) ⌝ }
 {
     let of_maker = count_kinds(maker, makers.records);
     let of_board = count_kinds(board, boards.records);
@@ -98,7 +98,7 @@ pub fn join(maker: &[u8], board: &[u8], output: &mut [u8]) -> Writing
     if MOST_RECORDS < records {
         return Writing::Refused(15);
     }
-    let bytes = HEADER + RECORD * records;
+    let bytes = image_size(records);
     if output.len() < bytes {
         return Writing::Refused(16);
     }

@@ -1,6 +1,6 @@
 -- Authorization and flow rest on the relations alone: where those of a policy are those of two others taken together, so are these.
 use Prim.Native.Nat.{ℕ, _≤_}
-use mathlib.Core.Path.{_≡_, refl, ap, ap₂}
+use mathlib.Core.Path.{_≡_, refl, sym, ap, ap₂, _∙_}
 use mathlib.Core.Bool.{Bool, not, _&&_, _||_}
 use native.Mathlib.Omega.{arith}
 use lib.Dec.{eqb}
@@ -13,6 +13,7 @@ use Rattle.policy_lists.specs.inner.Tests.{IgnoresNext}
 use Rattle.context.specs.declared.Context.{Context}
 use Rattle.context.specs.declared.Event.{Event}
 use Rattle.context.specs.Codes.{isTransition}
+use Rattle.relations.proofs.CountedLaws.{AllCount, allowed-all}
 use Rattle.relations.specs.Relations.{Γ, flowsAs, writeLike, readLike, targetOf, allowed, α, ρ, μ, roleChange}
 use Rattle.constraints.specs.Constraints.{constraintsHold}
 use Rattle.access.specs.Authorization.{χ, roleRule, authorized, flow}
@@ -27,7 +28,7 @@ abbrev pub AllApply : Policy → Policy → Policy → Type 0
 AllApply r p q = (e : Event) (x y : Context) → constraintsHold r e x y ≡ (constraintsHold p e x y && constraintsHold q e x y)
 
 -- ---- the relations, each of the records of one kind
-module _ (r p q : Policy) (A : Adds r p q) where
+module _ (r p q : Policy) (A : Adds r p q) (cr : AllCount r) (cp : AllCount p) (cq : AllCount q) where
   adds-domains : (t : ℕ) → domain r t ≡ domainBoth p q t
   unfolding domain domainBoth
   adds-domains t = A 1 (λ r. eqb (r .a) t) (omega arith) (omega arith) (λ n r. refl)
@@ -50,10 +51,11 @@ module _ (r p q : Policy) (A : Adds r p q) where
   adds-reads e = adds-ways 2 e
 
   adds-allows : (t1 t2 : ℕ) (e : Event) → allowed r t1 t2 e ≡ allowedBoth p q t1 t2 e
-  unfolding allowed allowedBoth
+  unfolding allowedBoth
   adds-allows t1 t2 e =
-      A 4 (λ r. (eqb (r .a) t1 && (eqb (targetOf r) t2 && eqb (r .c) (e .class))) && bit (r .mask) (e .perm))
-      (omega arith) (omega arith) (λ n r. refl)
+      allowed-all r cr t1 t2 e
+      ∙ A 4 (λ r. (eqb (r .a) t1 && (eqb (targetOf r) t2 && eqb (r .c) (e .class))) && bit (r .mask) (e .perm)) (omega arith) (omega arith) (λ n r. refl)
+      ∙ sym (ap₂ _||_ (allowed-all p cp t1 t2 e) (allowed-all q cq t1 t2 e))
 
   adds-roles : (role t : ℕ) → some r 5 (pairs role t) ≡ roleHoldsBoth p q role t
   unfolding roleHoldsBoth

@@ -1,7 +1,7 @@
 -- The written image of the joined policy, of two images that pass the policy questions and have few enough records together: it passes them
 -- too, and authorizes what both lists taken together do.
 use Prim.Native.Nat.{ℕ, _+_, _≤_, _<_}
-use mathlib.Core.Path.{_≡_, sym, ap, _∙_}
+use mathlib.Core.Path.{_≡_, refl, sym, ap, _∙_}
 use mathlib.Core.List.{List}
 use native.Mathlib.Omega.{arith}
 use Rattle.base.specs.Questions.{AllYes}
@@ -72,6 +72,10 @@ module _ (s t : List ℕ) (B : AllBytes s) (D : AllBytes t) (a : AllYes (policyQ
       written-passes (joined p q) can-be-written (joined-counts-range p q (S .range) (T .range)) (joined-rises p q) (joined-chains p q)
       (joined-fields p q small (S .nodes) (T .nodes) (S .fields) (T .fields)) nodes (joined-sources p q (S .sources) (T .sources))
 
+  -- "The result's counts are the larger of each pair."
+  pub written-counts : joined (policyOf s) (policyOf t) .counts ≡ policyOf (joinedImage s t) .counts
+  written-counts = agrees .counts
+
   -- "Its relations are those of both record lists taken together"
   pub written-together : TakenTogether (policyOf (joinedImage s t)) (policyOf s) (policyOf t)
   written-together =
@@ -79,6 +83,7 @@ module _ (s t : List ℕ) (B : AllBytes s) (D : AllBytes t) (a : AllYes (policyQ
       (λ k f l h I.
       sym (some-agrees (joined p q) result agrees k f f (λ i K. ap f (agrees-record (joined p q) result agrees k i K)))
       ∙ joined-adds p q k f l h I)
+      (λ i. refl) (λ i. refl) (λ i. refl)
       (λ e x y.
       sym (agrees-constraints (joined p q) result agrees nodes e x y)
       ∙ joined-constraints p q small (S .nodes) (T .nodes) e x y)
@@ -92,13 +97,13 @@ module _ (s t : List ℕ) (B : AllBytes s) (D : AllBytes t) (a : AllYes (policyQ
 
     -- a board's image of no records changes no authorization and no flow of the maker's, and the other way round
     pub no-board-authorized : recordCount t ≡ 0 → authorized (policyOf (joinedImage s t)) e x y ≡ authorized (policyOf s) e x y
-    no-board-authorized z = written-authorized ∙ sym (together-authorized p p q (empty-board p q z) e x y)
+    no-board-authorized z = written-authorized ∙ sym (together-authorized p p q (empty-board p q (λ i. refl) (λ i. refl) z) e x y)
 
     pub no-board-flow : recordCount t ≡ 0 → flow (policyOf (joinedImage s t)) e x y ≡ flow (policyOf s) e x y
-    no-board-flow z = written-flow ∙ sym (together-flow p p q (empty-board p q z) e x y)
+    no-board-flow z = written-flow ∙ sym (together-flow p p q (empty-board p q (λ i. refl) (λ i. refl) z) e x y)
 
     pub no-maker-authorized : recordCount s ≡ 0 → authorized (policyOf (joinedImage s t)) e x y ≡ authorized (policyOf t) e x y
-    no-maker-authorized z = written-authorized ∙ sym (together-authorized q p q (empty-maker p q z) e x y)
+    no-maker-authorized z = written-authorized ∙ sym (together-authorized q p q (empty-maker p q (λ i. refl) (λ i. refl) z) e x y)
 
     pub no-maker-flow : recordCount s ≡ 0 → flow (policyOf (joinedImage s t)) e x y ≡ flow (policyOf t) e x y
-    no-maker-flow z = written-flow ∙ sym (together-flow q p q (empty-maker p q z) e x y)
+    no-maker-flow z = written-flow ∙ sym (together-flow q p q (empty-maker p q (λ i. refl) (λ i. refl) z) e x y)

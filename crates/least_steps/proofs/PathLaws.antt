@@ -12,7 +12,7 @@ use Rattle.base.specs.Bits.{bit}
 use Rattle.base.proofs.BitLaws.{bit-zero}
 use Rattle.base.proofs.BoolLaws.{to-true, of-true, clash, true-or-false}
 use Rattle.policy_image.specs.declared.counts.Counts.{Counts}
-use Rattle.policy_image.specs.Policy.{Policy, policyOf}
+use Rattle.policy_image.specs.Policy.{Policy}
 use Rattle.context.specs.declared.Context.{Context}
 use Rattle.context.specs.Codes.{contextOf}
 use Rattle.goal_image.specs.Goal.{γeChain}
@@ -25,7 +25,8 @@ use Rattle.paths.specs.inner.Least.{Least, nowhere}
 use Rattle.paths.proofs.Any.{next}
 use Rattle.paths.proofs.Monitor.{plain-iff}
 use Rattle.plan.specs.inner.Ends.{OnlyIn, EndsPlan}
-use Rattle.plan.specs.inner.Plan.{Ready}
+use Rattle.plan.specs.inner.Plan.{Ready, ruled}
+use Rattle.plan.specs.inner.Entries.{countedAt}
 use Rattle.plan.specs.inner.Sets.{setsOf}
 use Rattle.search_steps.proofs.FlowLaws.{flow-code}
 use Rattle.search_graph.specs.inner.Model.{barred, planModel}
@@ -47,7 +48,7 @@ none-or-least f (suc n) = go (none-or-least f n) (true-or-false (f n))
 
 module _ {s plan : List ℕ} {n : Counts} {x y : Context} (R : Ready s n) (E : EndsPlan x y n plan) where
   abbrev p : Policy
-  p = policyOf s
+  p = ruled s plan
 
   abbrev M : Model
   M = planModel s plan n endsLegs
@@ -76,7 +77,7 @@ module _ {s plan : List ℕ} {n : Counts} {x y : Context} (R : Ready s n) (E : E
 
       flow-event : (j : ℕ) → j < m → barred plan (e j) ≡ false
       flow-event j h =
-          let w = flow-code {s = s} (e j) (contextOf (c j)) (contextOf (c (suc j))) (R .sound) (to-true _ (P .flows j h)) in
+          let w = flow-code {s = s} (countedAt plan) (e j) (contextOf (c j)) (contextOf (c (suc j))) (R .sound) (to-true _ (P .flows j h)) in
           ap (λ (v : ℕ). bit v γeChain) (E .events (e j) w) ∙ bit-zero γeChain
 
       go : ((j : ℕ) → j < suc m → ends j ≡ false) ⊎ ((k : ℕ) × LeastBelow (λ j. ends j ≡ true) (suc m) k) → (k : ℕ) × (k ≤ m) × IsPath M k c e

@@ -5,6 +5,9 @@ use goal_image::check::Legs;
 use plan::ends::put_ends;
 use plan::make::make_plan;
 use plan::regions::ENTRIES;
+use plan::regions::RECORD_WORDS;
+use plan::rules::put_rules;
+use plan_index::extract::ALL_BITS;
 use policy_check::check;
 use policy_check::refusal;
 use policy_image::counts::Checked;
@@ -13,6 +16,7 @@ use search::levels::UNBOUNDED;
 use search::search;
 use search_graph::monitor::Mode;
 use search_graph::task::Task;
+use search_graph::visits::clear;
 use witness::path::Showing;
 use witness::path::show_found;
 ghost use mathlib.Core.Path.{_≡_};
@@ -83,6 +87,8 @@ fn answer(
     let mut plan = [0u32; ENTRIES];
     make_plan(policy, counts, &mut plan);
     put_ends(x, y, counts, &mut plan);
+    let all = [ALL_BITS; RECORD_WORDS];
+    put_rules(policy, counts, &all, &mut plan);
     let task = Task {
         counts: counts,
         legs: Legs {
@@ -91,8 +97,11 @@ fn answer(
         },
         mode: Mode::Any,
     };
-    let found = search(policy, &plan, task, UNBOUNDED, work1, work2);
-    steps_of(show_found(policy, &plan, task, found, work2, path))
+    let nodes = Context::count(counts) as usize;
+    let back = &mut work2[..nodes];
+    clear(back);
+    let found = search(policy, &plan, task, UNBOUNDED, work1, back).found;
+    steps_of(show_found(policy, &plan, task, found, back, path))
 }
 
 // How few steps lead from x to y? The work slices are overwritten; of the path slice, just the entries of the path that is shown.

@@ -171,7 +171,7 @@ last-of-six = in-byte (2 ^ 5) 0 (2 ^ 5) (2 ^ 6) 6 (omega arith)
 pub last-of-seven : Advanced (2 ^ 6) 0 (2 ^ 6) (2 ^ 7) 7 (2 ^ 7)
 last-of-seven = in-byte (2 ^ 6) 0 (2 ^ 6) (2 ^ 7) 7 (omega arith)
 
--- with eight legs bit 8 counts, which is why the 32-bit step stays for them (decision D96)
+-- with eight legs bit 8 counts, which is why the step is asked of seven at the most (decision D96)
 pub last-of-eight : Advanced (2 ^ 7) 0 (2 ^ 7) (2 ^ 8) 8 (2 ^ 8)
 last-of-eight = step-law 32 (2 ^ 7) 0 (2 ^ 7) (2 ^ 8) 8 (omega arith)
 

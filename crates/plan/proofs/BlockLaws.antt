@@ -1,7 +1,7 @@
 -- From the index of a policy to the blocks of a plan: the regions are the index's lists, cut to what is write-like or read-like.
 use Prim.Native.Nat.{ℕ, zero, suc, _+_, _-_, _/_, _%_, _≤_, _<_}
 use mathlib.Core.Path.{_≡_, refl, sym, subst, ap, ap₂, _∙_}
-use mathlib.Core.Bool.{true, _&&_}
+use mathlib.Core.Bool.{Bool, true, _&&_}
 use mathlib.Core.List.{List}
 use mathlib.Core.Logic.{⊎-elim}
 use native.Mathlib.Omega.{arith}
@@ -14,6 +14,8 @@ use Rattle.base.proofs.Numbers.{split-eq}
 use Rattle.base.proofs.BoolLaws.{or-left, or-true}
 use Rattle.policy_image.specs.declared.counts.Counts.{Counts}
 use Rattle.policy_image.specs.Policy.{Policy, policyOf}
+use Rattle.policy_image.specs.inner.Counting.{counting}
+use Rattle.policy_image.specs.OfKind.{some}
 use Rattle.policy_image.specs.Layout.{countsOf}
 use Rattle.policy_image.specs.inner.Reading.{Counted}
 use Rattle.context.specs.Codes.{eventAt}
@@ -27,7 +29,7 @@ use Rattle.base.proofs.FillLaws.{fill-begin, fill-more}
 use Rattle.plan.specs.inner.Regions.{firstEntries, blockEntries, firstStart, keysStart, writesStart, readsStart, typeSpecialStart, planEntries}
 use Rattle.plan.specs.inner.Plan.{Ready, PlanCounts, specialsAt, EntryOf, OfferBlock, OfferBlocks, SpecialOf}
 use Rattle.plan.specs.inner.Entries.{firstAt, keyAt, writesAt, readsAt}
-use Rattle.plan.specs.inner.Put.{Tops, Kept, BlocksPut, TypeSpecialPut}
+use Rattle.plan.specs.inner.Put.{Tops, Kept, BlocksOf, BlocksPut, TypeSpecialPut}
 
 -- ---- bounds
 module _ {s : List ℕ} {n : Counts} (R : Ready s n) where
@@ -51,8 +53,8 @@ module _ {s : List ℕ} {n : Counts} (R : Ready s n) where
   counted = record { exact = R .sound .exact; same = R .same; size = ap (λ (k : Counts). k .records) (R .same) }
 
   -- the last block's end
-  pub last-few : {first keys writes reads : List ℕ} {k : ℕ} → AllowIndex (policyOf s) first keys writes reads → k ≡ getD first (n .types + 1) 0 → k ≤ length keys
-  last-few {first} {keys} {k = k} I e =
+  pub last-few : (f : ℕ → Bool) {first keys writes reads : List ℕ} → AllowIndex (counting f (policyOf s)) first keys writes reads → getD first (n .types + 1) 0 ≤ length keys
+  last-few f {first} {keys} I =
       let t = I .tops (policyOf s .counts .types) (record { low = all-some; high = omega arith }) in
       let q : getD first (n .types + 1) 0 ≡ getD first (policyOf s .counts .types + 1) 0 = ap (λ (i : ℕ). getD first (i + 1) 0) types-same in
       omega arith
@@ -130,7 +132,7 @@ module _ {p : Policy} {first keys writes reads write read old p1 p2 p3 plan : Li
       subst (λ (k : ℕ). OfferBlock p t plan k (firstAt plan (t + 1))) (sym (first-same t (omega arith)))
       (subst (λ (k : ℕ). OfferBlock p t plan (getD first t 0) k) (sym (first-same (t + 1) (omega arith))) B)
 
-  pub blocks-put : BlocksPut p old plan
+  blocks-put : BlocksPut p old plan
   blocks-put =
       let r = room in
       record {
@@ -140,6 +142,19 @@ module _ {p : Policy} {first keys writes reads write read old p1 p2 p3 plan : Li
         };
         below = λ i h. F4 .below i (omega arith) ∙ F3 .below i (omega arith) ∙ F2 .below i (omega arith) ∙ F1 .below i (omega arith);
       }
+
+-- the masks of what flows are the same whichever allow records count
+flows-counted : (f : ℕ → Bool) {p : Policy} {way : ℕ} {masks : List ℕ} → FlowMasks p way masks → FlowMasks (counting f p) way masks
+unfolding some
+flows-counted f W = record { at = W .at }
+
+pub blocks-of : {s : List ℕ} {n : Counts} {first keys writes reads write read old p1 p2 p3 plan : List ℕ} → Ready s n → FlowMasks (policyOf s) 1 write → FlowMasks (policyOf s) 2 read → length keys ≡ blockEntries
+    → Filled (λ i v. v ≡ getD first i 0) old p1 firstStart 0 firstEntries → Filled (λ i v. v ≡ getD keys i 0) p1 p2 keysStart 0 (getD first (n .types + 1) 0)
+    → Filled (λ i v. v ≡ cutTo keys writes write i) p2 p3 writesStart 0 (getD first (n .types + 1) 0)
+    → Filled (λ i v. v ≡ cutTo keys reads read i) p3 plan readsStart 0 (getD first (n .types + 1) 0)
+    → BlocksOf (policyOf s) first keys writes reads old plan
+blocks-of R W D size F1 F2 F3 F4 =
+    record { at = λ f I. blocks-put I (flows-counted f W) (flows-counted f D) (all-few R) (types-same R) size refl F1 F2 F3 F4 (all-some R) }
 
 -- ---- a list that is the same below the special permissions has the same blocks
 module _ (p : Policy) (old new : List ℕ) (few : p .counts .types ≤ 255) (same : Kept typeSpecialStart old new) where
@@ -264,8 +279,8 @@ pub last-top : {n : Counts} {plan : List ℕ} → PlanCounts n → Tops (n .type
 last-top {n = n} C T = T .at (n .types) (record { low = C .some-type; high = omega arith })
 
 -- what is put above them leaves the blocks' ends
-pub tops-after : {types place : ℕ} {old plan : List ℕ} → types ≤ 255 → keysStart ≤ place → Kept place old plan → Tops types old → Tops types plan
-tops-after few l K T = record { at = λ t w. let h = w .high in omega (arith, T .at t w, K (firstStart + (t + 1)) (omega arith)) }
+pub tops-after : {types : ℕ} {old plan : List ℕ} → types ≤ 255 → Kept typeSpecialStart old plan → Tops types old → Tops types plan
+tops-after few K T = record { at = λ t w. let h = w .high in omega (arith, T .at t w, K (firstStart + (t + 1)) (omega arith)) }
 
 pub tops-of : {p : Policy} {old plan : List ℕ} {types : ℕ} → BlocksPut p old plan → types ≡ p .counts .types → Tops types plan
 tops-of B e = record { at = λ t w. B .blocks .tops t (record { low = w .low; high = omega (arith, w .high) }) }

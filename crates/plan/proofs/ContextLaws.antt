@@ -79,16 +79,16 @@ meet-law a b k m at = ⊎-elim met none (true-or-false (bit a k && m k))
     none e = ap not (eq-eqb (bitAnd a b) 0 (no-bits (λ r. clear e r (split-eq k r)))) ∙ sym e
 
 -- the context at a place of a type meets ρ and μ where the roles of the type and the mask of the pair meet; f is the type's first place
-pub meets-at : {s : List ℕ} {n : Counts} {plan : List ℕ} {o y f : ℕ} → PolicyPlan s n plan → OfType n o y → f ≡ firstPlace n o
-    → not (eqb (bitAnd (rolesAt plan o) (holdersAt plan (y - f))) 0) ≡ meetsρμ (policyOf s) (contextAtIndex n y)
+pub meets-at : {p : Policy} {n : Counts} {plan : List ℕ} {o y f : ℕ} → PolicyPlan p n plan → OfType n o y → f ≡ firstPlace n o
+    → not (eqb (bitAnd (rolesAt plan o) (holdersAt plan (y - f))) 0) ≡ meetsρμ p (contextAtIndex n y)
 unfolding meetsρμ
-meets-at {s} {n} {plan} {o} {y} {f} P H first =
+meets-at {p} {n} {plan} {o} {y} {f} P H first =
     let i : ℕ = y - f in
     let h : i < pairCount n = of-pair (P .counts .countable) H first in
     let t : o < typeEntries = let a = P .counts .types in let b = H .type .high in omega arith in
-    meet-law (rolesAt plan o) (holdersAt plan i) (roleAt n i) (μ (policyOf s) (userAt n i)) (P .held .holders i h .at)
-    ∙ ap (λ (b : Bool). b && μ (policyOf s) (userAt n i) (roleAt n i)) (P .held .roles o (roleAt n i) t)
-    ∙ ap (λ (x : Context). ρ (policyOf s) (x .role) (x .ty) && μ (policyOf s) (x .user) (x .role)) (of-same (P .counts .countable) H first)
+    meet-law (rolesAt plan o) (holdersAt plan i) (roleAt n i) (μ p (userAt n i)) (P .held .holders i h .at)
+    ∙ ap (λ (b : Bool). b && μ p (userAt n i) (roleAt n i)) (P .held .roles o (roleAt n i) t)
+    ∙ ap (λ (x : Context). ρ p (x .role) (x .ty) && μ p (x .user) (x .role)) (of-same (P .counts .countable) H first)
 
 -- ---- making
 pub held-put : {p : Policy} {n : Counts} {roles old p1 plan : List ℕ} → RoleTable p roles

@@ -21,17 +21,16 @@ use Rattle.context.specs.Codes.{contextAt}
 use Rattle.context.specs.Ranges.{ContextInRange}
 use Rattle.goal_image.specs.Sets.{fits}
 use Rattle.plan_tables.specs.inner.Tables.{typeEntries}
-use Rattle.plan.specs.inner.Regions.{recordEntries, eventSetsStart, typeSetsStart, pairSetsStart, namedStart, marksStart}
+use Rattle.plan.specs.inner.Regions.{recordEntries, eventSetsStart, typeSetsStart, pairSetsStart, namedStart, marksStart, alikeStart}
 use Rattle.plan.specs.inner.Entries.{namedAt, marksAt, typeSetsAt, pairSetsAt}
 use Rattle.plan.specs.inner.Sets.{Falls, recordFits, listed, listedFor, pairOf, setsOf}
 use Rattle.plan.specs.inner.Named.{RecordPut}
 use Rattle.plan.specs.inner.Plan.{PlanCounts}
-use Rattle.plan.specs.inner.Put.{Tops, Kept, LeadsPut}
-use Rattle.plan.specs.inner.Ends.{OnlyIn, EndsPut}
+use Rattle.plan.specs.inner.Put.{Kept, AlikePut}
+use Rattle.plan.specs.inner.Ends.{OnlyIn, EndsPlan, EndsPut}
 use Rattle.plan.proofs.ContextLaws.{pairs-few}
-use Rattle.plan.proofs.NamedLaws.{falls-none, heads-put, falls-put, record-kept, falls-kept}
-use Rattle.plan.proofs.SetLaws.{fit-bits, listed-bits, listed-same, listed-step, listed-end, type-lt, pair-lt}
-use Rattle.plan.proofs.LeadLaws.{leads-over}
+use Rattle.plan.proofs.NamedLaws.{falls-none, heads-put, falls-put, falls-kept}
+use Rattle.plan.proofs.SetLaws.{fit-bits, listed-bits, listed-same, listed-step, listed-end, type-lt, pair-lt, sets-kept}
 
 -- ---- one record more: its marks are those of the contexts that it fits, and no other context's sets change
 abbrev fitsPair : Context → Context → Bool
@@ -104,21 +103,35 @@ neither : (a b : Bool) → ((a && bit 2 13) || ((b && bit 1 13) || bit 0 13)) �
 unfolding bit
 neither a b = simp (and-false, or-false)
 
--- ---- making
-module _ {P : ℕ → ℕ → Type 0} {x y : Context} {a b : ℕ} {old p1 p2 p3 : List ℕ} {w : ℕ} (E : Filled P old p1 eventSetsStart 0 w) (A : RecordPut 1 x a p1 p2) (B : RecordPut 2 y b p2 p3) where
-  pub ends-before : Kept eventSetsStart old p3
-  ends-before i h = B .below i (omega arith) ∙ A .below i (omega arith) ∙ E .below i (omega arith)
+-- ---- what is put above the sets leaves them
+only-kept : {n : Counts} (old new : List ℕ) {h : ℕ} {x : Context} → ContextInRange n x → PlanCounts n → Kept alikeStart old new → Falls old → OnlyIn n old h x → OnlyIn n new h x
+only-kept old new {h} {x} X C K F O =
+    record {
+      has = ap (λ (v : ℕ). bit v h) (sets-kept old new C K F x X) ∙ O .has;
+      only = λ z R b. O .only z R (sym (ap (λ (v : ℕ). bit v h) (sets-kept old new C K F z R)) ∙ b);
+    }
 
-module _ {n : Counts} {x y : Context} {old p1 p2 p3 plan : List ℕ} (X : ContextInRange n x) (Y : ContextInRange n y) (C : PlanCounts n) (T : Tops (n .types) old)
-    (E : Filled (λ _ v. v ≡ 0) old p1 eventSetsStart 0 (marksStart - eventSetsStart)) (A : RecordPut 1 x 1 p1 p2) (B : RecordPut 2 y 2 p2 p3) (L : LeadsPut (n .types) p3 plan) where
+pub ends-kept : {n : Counts} {x y : Context} (old new : List ℕ) → ContextInRange n x → ContextInRange n y → PlanCounts n → Kept alikeStart old new → EndsPlan x y n old → EndsPlan x y n new
+ends-kept old new X Y C K E =
+    record {
+      from = only-kept old new X C K (E .falls) (E .from);
+      to = only-kept old new Y C K (E .falls) (E .to);
+      free = λ z R. ap (λ (v : ℕ). bit v 13) (sets-kept old new C K (E .falls) z R) ∙ E .free z R;
+      events = λ e h. K (eventSetsStart + e) (omega arith) ∙ E .events e h;
+      falls = falls-kept K (E .falls);
+    }
+
+-- ---- making
+module _ {n : Counts} {x y : Context} {old p1 p2 p3 : List ℕ} (X : ContextInRange n x) (Y : ContextInRange n y) (C : PlanCounts n)
+    (E : Filled (λ _ v. v ≡ 0) old p1 eventSetsStart 0 (marksStart - eventSetsStart)) (A : RecordPut 1 x 1 p1 p2) (B : RecordPut 2 y 2 p2 p3) where
   cleared : (i : ℕ) → eventSetsStart ≤ i → i < marksStart → getD p1 i 0 ≡ 0
   cleared i l h =
       let e : eventSetsStart + (i - eventSetsStart) ≡ i = omega arith in
       subst (λ (j : ℕ). getD p1 j 0 ≡ 0) e (E .here (i - eventSetsStart) (omega arith) (omega arith))
 
   -- the sets of events, of types and of pairs are empty
-  still : (i : ℕ) → eventSetsStart ≤ i → i < namedStart → getD plan i 0 ≡ 0
-  still i l h = L .below i (omega arith) ∙ B .below i h ∙ A .below i h ∙ cleared i l (omega arith)
+  still : (i : ℕ) → eventSetsStart ≤ i → i < namedStart → getD p3 i 0 ≡ 0
+  still i l h = B .below i h ∙ A .below i h ∙ cleared i l (omega arith)
 
   falls-1 : Falls p1
   falls-1 = falls-none (λ i h. cleared (namedStart + i) (omega arith) (omega arith))
@@ -136,36 +149,34 @@ module _ {n : Counts} {x y : Context} {old p1 p2 p3 plan : List ℕ} (X : Contex
   falls-3 = falls-put B heads-2 (omega arith) (type-lt C Y) falls-2
 
   module _ (z : Context) (R : ContextInRange n z) (i : ℕ) where
-    kept-list : listedFor plan z ≡ listedFor p3 z
-    kept-list =
-        let h : namedAt p3 (z .ty) < recordEntries = falls-3 .heads (z .ty) (type-lt C R) in
-        ap (λ (j : ℕ). listed plan z j j 0) (let f = type-lt C R in L .below (namedStart + z .ty) (omega arith))
-        ∙ listed-same falls-3 (omega arith) (record-kept (L .below)) z (namedAt p3 (z .ty)) (namedAt p3 (z .ty)) 0 h
-
-    lists-bits : bit (listedFor plan z) i ≡ ((fitsAll y z && bit 2 i) || ((fitsAll x z && bit 1 i) || bit 0 i))
+    lists-bits : bit (listedFor p3 z) i ≡ ((fitsAll y z && bit 2 i) || ((fitsAll x z && bit 1 i) || bit 0 i))
     lists-bits =
-        ap (λ (v : ℕ). bit v i) kept-list ∙ record-bits B heads-2 (omega arith) falls-2 falls-3 z (type-lt C R) i
+        record-bits B heads-2 (omega arith) falls-2 falls-3 z (type-lt C R) i
         ∙ ap (λ (b : Bool). (fitsAll y z && bit 2 i) || b)
         (record-bits A heads-1 (omega arith) falls-1 falls-2 z (type-lt C R) i
         ∙ ap (λ (v : ℕ). (fitsAll x z && bit 1 i) || bit v i) (listed-end falls-1 z (let f = type-lt C R in cleared (namedStart + z .ty) (omega arith) (omega arith))))
 
-    sets-bits : bit (setsOf n plan z) i ≡ ((fitsAll y z && bit 2 i) || ((fitsAll x z && bit 1 i) || bit 0 i))
+    sets-bits : bit (setsOf n p3 z) i ≡ ((fitsAll y z && bit 2 i) || ((fitsAll x z && bit 1 i) || bit 0 i))
     unfolding setsOf
     sets-bits =
-        let type : typeSetsAt plan (z .ty) ≡ 0 = let f = type-lt C R in still (typeSetsStart + z .ty) (omega arith) (omega arith) in
-        let pair : pairSetsAt plan (pairOf n z) ≡ 0 = let f = pair-lt R in let g = pairs-few C in still (pairSetsStart + pairOf n z) (omega arith) (omega arith) in
-        ap₂ (λ (v w : ℕ). bit (bitOr (bitOr v w) (listedFor plan z)) i) type pair ∙ bit-or (bitOr 0 0) (listedFor plan z) i ∙ ap (λ (b : Bool). b || bit (listedFor plan z) i) (bit-zero i) ∙ lists-bits
+        let type : typeSetsAt p3 (z .ty) ≡ 0 = let f = type-lt C R in still (typeSetsStart + z .ty) (omega arith) (omega arith) in
+        let pair : pairSetsAt p3 (pairOf n z) ≡ 0 = let f = pair-lt R in let g = pairs-few C in still (pairSetsStart + pairOf n z) (omega arith) (omega arith) in
+        ap₂ (λ (v w : ℕ). bit (bitOr (bitOr v w) (listedFor p3 z)) i) type pair ∙ bit-or (bitOr 0 0) (listedFor p3 z) i ∙ ap (λ (b : Bool). b || bit (listedFor p3 z) i) (bit-zero i) ∙ lists-bits
 
-  pub ends-put : EndsPut x y n old plan
-  ends-put =
+  ends : EndsPlan x y n p3
+  ends =
       record {
-        ends = record {
-          from = only-in X (λ z R. sets-bits z R 0 ∙ first-only (fitsAll y z) (fitsAll x z));
-          to = only-in Y (λ z R. sets-bits z R 1 ∙ second-only (fitsAll y z) (fitsAll x z));
-          free = λ z R. sets-bits z R 13 ∙ neither (fitsAll y z) (fitsAll x z);
-          events = λ e h. still (eventSetsStart + e) (omega arith) (omega arith);
-          falls = falls-kept (L .below) falls-3;
-        };
-        leads = leads-over C T (ends-before E A B) L;
-        below = λ i h. L .below i (omega arith) ∙ ends-before E A B i h;
+        from = only-in X (λ z R. sets-bits z R 0 ∙ first-only (fitsAll y z) (fitsAll x z));
+        to = only-in Y (λ z R. sets-bits z R 1 ∙ second-only (fitsAll y z) (fitsAll x z));
+        free = λ z R. sets-bits z R 13 ∙ neither (fitsAll y z) (fitsAll x z);
+        events = λ e h. still (eventSetsStart + e) (omega arith) (omega arith);
+        falls = falls-3;
+      }
+
+  pub ends-put : {plan : List ℕ} → AlikePut p3 plan → EndsPut x y n old plan
+  ends-put {plan} L =
+      record {
+        ends = ends-kept p3 plan X Y C (L .below) ends;
+        alike = L .alike;
+        below = λ i h. L .below i (omega arith) ∙ B .below i (omega arith) ∙ A .below i (omega arith) ∙ E .below i (omega arith);
       }

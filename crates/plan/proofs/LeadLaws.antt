@@ -8,7 +8,7 @@ use native.Mathlib.Omega.{arith}
 use borrow.Author.Tests.{not-true, eqb-true, eq-eqb}
 use lib.Bits.{bitAnd, bitOr}
 use lib.Dec.{eqb}
-use lib.ListN.{getD, set, replicate, length-set, length-replicate}
+use lib.ListN.{length, getD, set, replicate, length-set, length-replicate}
 use lib.Seq.{getD-set-same, getD-set-other}
 use Rattle.base.specs.Bits.{bit}
 use Rattle.base.specs.inner.Masks.{Lowest, With, Without}
@@ -17,17 +17,15 @@ use Rattle.base.specs.Ranges.{Within}
 use Rattle.base.proofs.BitLaws.{bit-and, bit-or, bit-zero}
 use Rattle.base.proofs.Numbers.{split-eq, split-le, zeros}
 use Rattle.base.proofs.BoolLaws.{clash, or-true, or-left, or-cases, and-true, and-first, and-second, true-or-false}
-use Rattle.policy_image.specs.declared.counts.Counts.{Counts}
 use Rattle.policy_image.specs.Policy.{Policy}
 use Rattle.context.specs.Codes.{eventAt, eventOf, isTransition}
 use Rattle.context.specs.inner.Coding.{transitionCode}
 use Rattle.constraints.specs.Constraints.{constrains}
-use Rattle.plan.specs.inner.Entries.{firstAt, keyAt, writesAt, readsAt, groupsAt, eventSetsAt, leadsAt}
-use Rattle.plan.specs.inner.Regions.{blockEntries, firstStart, keysStart, writesStart, readsStart, groupsStart, rolesStart, eventSetsStart, leadsStart}
-use Rattle.plan.specs.inner.Plan.{PlanCounts, Grouped, OfferBlocks, Alike, Leader, Leads}
-use Rattle.plan.specs.inner.Put.{Tops, Kept, AllLeads, LeadsPut}
-use Rattle.plan.specs.inner.Leads.{NotTransition, SameSets, AllAlike, AlikeTable, Shared, Led, Leading, EntryLeads}
-use Rattle.plan.proofs.BlockLaws.{last-top}
+use Rattle.plan.specs.inner.Entries.{firstAt, keyAt, writesAt, readsAt, groupsAt, eventSetsAt, alikeAt, leadsAt}
+use Rattle.plan.specs.inner.Regions.{eventEntries, blockEntries, groupsStart, rolesStart, eventSetsStart, alikeStart, countedStart, firstStart, keysStart, writesStart, readsStart, leadsStart}
+use Rattle.plan.specs.inner.Plan.{Grouped, OfferBlocks, Alike, AlikePlan, Leader, Leads}
+use Rattle.plan.specs.inner.Put.{Kept, AlikePut, LeadsPut}
+use Rattle.plan.specs.inner.Leads.{NotTransition, SameSets, AllAlike, AlikeCopy, AlikeTable, Shared, Led, Leading, EntryLeads}
 
 -- ---- the permissions of a class, but process transition
 pub transition-out : {c one r : ℕ} → c ≡ 1 → With 0 0 one → Without 4294967295 one r → NotTransition c r
@@ -124,6 +122,61 @@ shared-more {c} {mask} {q} {l} {l′} lc lq has S =
       };
     }
 
+-- what is put above the sets leaves who is alike by them
+pub alike-kept : {p : Policy} {old new : List ℕ} {e f : ℕ} → Kept alikeStart old new → e < eventEntries → f < eventEntries → Alike p old e f → Alike p new e f
+alike-kept {e = e} {f} K he hf B =
+    record { sets = K (eventSetsStart + e) (omega arith) ∙ B .sets ∙ sym (K (eventSetsStart + f) (omega arith)); constrained = B .constrained; transition = B .transition }
+
+-- what is put above the groups leaves them
+pub grouped-kept : {p : Policy} {old new : List ℕ} → Kept rolesStart old new → Grouped p old → Grouped p new
+grouped-kept K G = record { sound = λ c q i lc lq li b. G .sound c q i lc lq li (subst (λ (v : ℕ). bit v i ≡ true) (K (groupsStart + (32 * c + q)) (omega arith)) b) }
+
+-- the table is put into the plan, and read there
+pub alike-put : {old plan alike : List ℕ} → AlikeTable old alike → Filled (λ i v. v ≡ getD alike i 0) old plan alikeStart 0 eventEntries → AlikePut old plan
+alike-put {old} {plan} {alike} A F =
+    record {
+      alike = record {
+        at = λ p G c q i lc lq li b. alike-kept (λ k h. F .below k (omega arith)) (omega arith) (omega arith)
+            (A .at p (grouped-kept (λ k h. sym (F .below k (omega arith))) G) c q i lc lq li (subst (λ (v : ℕ). bit v i ≡ true) (F .here (32 * c + q) (omega arith) (omega arith)) b));
+      };
+      below = λ i h. F .below i (omega arith);
+    }
+
+-- .. entry by entry, those below e
+pub record Copied (plan l : List ℕ) (e : ℕ) : Type 0 where
+  pub size : length l ≡ eventEntries
+  pub few : e ≤ eventEntries
+  pub same : (i : ℕ) → i < e → getD l i 0 ≡ alikeAt plan i
+
+pub copy-begin : (plan : List ℕ) → Copied plan (replicate 1024 0) 0
+copy-begin plan = record { size = length-replicate {A = ℕ} 1024 0; few = omega arith; same = λ i h. absurd (omega arith) }
+
+pub copy-more : {plan l : List ℕ} {e : ℕ} → Copied plan l e → e < eventEntries → Copied plan (set l e (alikeAt plan e)) (e + 1)
+copy-more {plan} {l} {e} C h =
+    record {
+      size = simp length-set (C .size);
+      few = omega arith;
+      same = λ i k. ⊎-elim
+          (λ (q : i ≡ e). ap (λ (j : ℕ). getD (set l e (alikeAt plan e)) j 0) q ∙ getD-set-same l e (alikeAt plan e) 0 (omega (arith, C .size)) ∙ ap (alikeAt plan) (sym q))
+          (λ (d : i ≡ e → ⊥). getD-set-other l e i (alikeAt plan e) 0 d ∙ C .same i (omega (arith, d)))
+          (split-eq i e);
+    }
+
+pub copy-end : {plan l : List ℕ} {e : ℕ} → Copied plan l e → eventEntries ≤ e → AlikeCopy plan l
+copy-end C h = record { size = C .size; same = λ i k. C .same i (omega arith) }
+
+pub table-copy : {plan l : List ℕ} → AlikePlan plan → AlikeCopy plan l → AlikeTable plan l
+table-copy A C =
+    record { size = C .size; at = λ p G c q i lc lq li b. A .at p G c q i lc lq li (subst (λ (v : ℕ). bit v i ≡ true) (C .same (32 * c + q) (omega arith)) b) }
+
+-- the same where what is put is above the table too
+pub alikes-kept : {old new : List ℕ} → Kept countedStart old new → AlikePlan old → AlikePlan new
+alikes-kept K A =
+    record {
+      at = λ p G c q i lc lq li b. alike-kept (λ k h. K k (omega arith)) (omega arith) (omega arith)
+          (A .at p (grouped-kept (λ k h. sym (K k (omega arith))) G) c q i lc lq li (subst (λ (v : ℕ). bit v i ≡ true) (K (alikeStart + (32 * c + q)) (omega arith)) b));
+    }
+
 -- ---- the lowest of those that are alike
 pub record Sorting (alike : List ℕ) (class mask left r : ℕ) : Type 0 where
   pub among : (q : ℕ) → bit r q ≡ true → bit mask q ≡ true
@@ -166,12 +219,6 @@ module _ {alike : List ℕ} {class mask left r : ℕ} (S : Sorting alike class m
 
 -- ---- the leads of an entry
 module _ (p : Policy) (old plan alike : List ℕ) (G : Grouped p old) (A : AlikeTable old alike) (below : Kept leadsStart old plan) where
-  sets-same : (e : ℕ) → e < 1024 → eventSetsAt plan e ≡ eventSetsAt old e
-  sets-same e h = below (eventSetsStart + e) (omega arith)
-
-  moved : {e f : ℕ} → e < 1024 → f < 1024 → Alike p old e f → Alike p plan e f
-  moved {e} {f} he hf B = record { sets = sets-same e he ∙ B .sets ∙ sym (sets-same f hf); constrained = B .constrained; transition = B .transition }
-
   same-event : (e f : ℕ) → e ≡ f → Alike p plan e f
   same-event e f q = record { sets = ap (eventSetsAt plan) q; constrained = λ j a b k. ap (λ (i : ℕ). constrains (p .rec j) (eventOf i)) q; transition = ap (λ (i : ℕ). isTransition (eventOf i)) q }
 
@@ -186,7 +233,7 @@ module _ (p : Policy) (old plan alike : List ℕ) (G : Grouped p old) (A : Alike
         bears = L .among (D .perm) (D .leading);
         leading = into (D .perm) (D .leading);
         alike = ⊎-elim (λ e. same-event (32 * c + D .perm) (32 * c + q) (ap (λ (i : ℕ). 32 * c + i) e))
-            (λ k. moved (omega arith) (omega arith) (A .at p G c (D .perm) q lc (omega arith) lq k)) (D .like);
+            (λ k. alike-kept (λ i h. below i (omega arith)) (omega arith) (omega arith) (A .at p G c (D .perm) q lc (omega arith) lq k)) (D .like);
       }
 
   pub leads-of : (j : ℕ) → j < blockEntries → keyAt old j / 4096 < 32 → EntryLeads alike old j (leadsAt plan j) → Leads p plan j
@@ -227,18 +274,6 @@ leads-put {old} {plan} {alike} A top e F =
       leads = λ p G j h small. leads-of p old plan alike G A (λ i k. F .below i (omega arith)) j (omega arith) small (F .here j (omega arith) (omega arith));
       below = λ i h. F .below i (omega arith);
     }
-
--- what is put between the policy's part and the leads leaves what they are found by
-pub grouped-kept : {p : Policy} {old new : List ℕ} → Kept rolesStart old new → Grouped p old → Grouped p new
-grouped-kept K G = record { sound = λ c q i lc lq li b. G .sound c q i lc lq li (subst (λ (v : ℕ). bit v i ≡ true) (K (groupsStart + (32 * c + q)) (omega arith)) b) }
-
-pub leads-over : {n : Counts} {old mid plan : List ℕ} → PlanCounts n → Tops (n .types) old → Kept eventSetsStart old mid → LeadsPut (n .types) mid plan → AllLeads (n .types) old plan
-leads-over {n} {old} {mid} C T K L p G j h small =
-    let few = C .types in
-    let top = last-top C T in
-    let f : firstAt mid (n .types + 1) ≡ firstAt old (n .types + 1) = K (firstStart + (n .types + 1)) (omega arith) in
-    let q : keyAt mid j ≡ keyAt old j = K (keysStart + j) (omega arith) in
-    L .leads p (grouped-kept (λ i l. K i (omega arith)) G) j (omega arith) (omega arith)
 
 -- ---- the block of each type is among the entries
 pub first-rising : {p : Policy} {plan : List ℕ} → OfferBlocks p plan → (d t : ℕ) → 1 ≤ t → t + d ≤ p .counts .types → firstAt plan (t + 1) ≤ firstAt plan (t + d + 1)

@@ -1,6 +1,7 @@
 pub mod KnownLaws
 pub mod NamedLaws
 pub mod ContextLaws
+pub mod MeetsLaws
 pub mod SetLaws
 pub mod BlockLaws
 pub mod LeadLaws

@@ -29,7 +29,7 @@ use Rattle.goal_image.specs.inner.Memberships.{onChain, ContextSets, RecordSets
 use Rattle.goal_image.proofs.SetLaws.{Iff, any-field, set-iff}
 use Rattle.goal_image.proofs.SortLaws.{context-below}
 use Rattle.plan_tables.specs.inner.Tables.{typeEntries}
-use Rattle.plan.specs.inner.Regions.{recordEntries, namedStart, linksStart, marksStart, recordRolesStart, recordUsersStart, leadsStart, planEntries}
+use Rattle.plan.specs.inner.Regions.{recordEntries, namedStart, linksStart, marksStart, recordRolesStart, recordUsersStart, alikeStart, planEntries}
 use Rattle.plan.specs.inner.Entries.{namedAt, linkAt, marksAt}
 use Rattle.plan.specs.inner.Sets.{Falls}
 use Rattle.plan.specs.inner.Put.{Kept}
@@ -240,7 +240,7 @@ pub links-join : {g : Goal} {old mid plan : List ℕ} {a b : ℕ} → Linking g 
 links-join A B = record { lists = B .lists; below = λ i h. B .below i h ∙ A .below i h }
 
 -- what is put above the lists leaves them
-module _ {old new : List ℕ} (same : Kept leadsStart old new) where
+module _ {old new : List ℕ} (same : Kept alikeStart old new) where
   pub record-kept : (k : ℕ) → k < recordEntries → SameRecord old new k
   record-kept k h =
       record {

@@ -25,16 +25,15 @@ use Rattle.goal_image.specs.Sets.{fits, matchesContext}
 use Rattle.goal_image.specs.inner.Memberships.{ContextSets, EventSets}
 use Rattle.goal_image.specs.inner.Sound.{SoundGoal}
 use Rattle.plan_tables.specs.inner.Tables.{typeEntries}
-use Rattle.plan.specs.inner.Regions.{recordEntries, pairEntries, eventSetsStart, typeSetsStart, pairSetsStart}
+use Rattle.plan.specs.inner.Regions.{recordEntries, pairEntries, eventSetsStart, typeSetsStart, pairSetsStart, namedStart, alikeStart}
 use Rattle.plan.specs.inner.Entries.{typeSetsAt, pairSetsAt, namedAt, linkAt, marksAt}
 use Rattle.plan.specs.inner.Sets.{Falls, recordFits, listed, listedFor, pairOf, setsOf}
 use Rattle.plan.specs.inner.Named.{SameRecord, AllLinked, LinksPut, Named, NamedSets}
 use Rattle.plan.specs.inner.Plan.{PlanCounts, PairSets, GoalPlan}
-use Rattle.plan.specs.inner.Put.{Tops, Kept, GoalPut, LeadsPut}
+use Rattle.plan.specs.inner.Put.{Kept, AlikePut, GoalPut}
 use Rattle.context.proofs.TypeLaws.{of-pair, of-same}
 use Rattle.plan.proofs.ContextLaws.{pairs-few, pair-high}
-use Rattle.plan.proofs.LeadLaws.{leads-over}
-use Rattle.plan.proofs.NamedLaws.{Walking, walk-begin, walk-pass, walk-take, walk-end, links-kept, sets-joined}
+use Rattle.plan.proofs.NamedLaws.{Walking, walk-begin, walk-pass, walk-take, walk-end, record-kept, links-kept, sets-joined}
 
 -- ---- lists: one step, and steps enough are enough
 listed-more : (plan : List ℕ) (x : Context) (steps k sets : ℕ)
@@ -197,33 +196,53 @@ goal-sets {g} {n} {plan} {x} C P R =
     same =
         ap₂ (contextAt 0) (ap (λ (k : ℕ). k + 1) (digits-div (x .role - 1) (user-lt R)) ∙ own-role) (ap (λ (k : ℕ). k + 1) (digits-mod (x .role - 1) (user-lt R)) ∙ own-user)
 
--- ---- making: what the leads are put over is the policy's part as it was
-pub goal-before : {P Q R : ℕ → ℕ → Type 0} {g : Goal} {old p1 p2 p3 p4 : List ℕ} {a b d : ℕ} → Filled P old p1 eventSetsStart 32 a → Filled Q p1 p2 typeSetsStart 1 b → Filled R p2 p3 pairSetsStart 0 d → LinksPut g p3 p4
-    → Kept eventSetsStart old p4
-goal-before E A B K i h = K .below i (omega arith) ∙ B .below i (omega arith) ∙ A .below i (omega arith) ∙ E .below i (omega arith)
+-- ---- what is put above the sets leaves them
+pub goal-kept : {g old new : List ℕ} {n : Counts} → PlanCounts n → Kept alikeStart old new → GoalPlan g n old → GoalPlan g n new
+goal-kept {g} {old} {new} {n} C K G =
+    let k = pairs-few C in
+    let few = C .classes in
+    let tf = C .types in
+    record {
+      sound = G .sound;
+      events = λ e l h. subst (EventSets (goalOf g) (eventOf e)) (sym (K (eventSetsStart + e) (omega arith))) (G .events e l h);
+      sets = record {
+        types = λ t w. let h = w .high in subst (ContextSets (goalOf g) (contextAt t 0 0)) (sym (K (typeSetsStart + t) (omega arith))) (G .sets .types t w);
+        pairs = λ i h. subst (PairSets (goalOf g) n i) (sym (K (pairSetsStart + i) (omega arith))) (G .sets .pairs i h);
+        lists = links-kept K (let z = G .sound .exact .few in omega arith) (G .sets .lists);
+      };
+    }
 
-module _ {g old p1 p2 p3 p4 plan : List ℕ} {n : Counts} {classes types : ℕ} (S : SoundGoal g) (C : PlanCounts n) (T : Tops (n .types) old) (ec : classes ≡ n .classes) (et : types ≡ n .types)
+-- the same of the sets of a context
+pub sets-kept : {n : Counts} (old new : List ℕ) → PlanCounts n → Kept alikeStart old new → Falls old → (x : Context) → ContextInRange n x → setsOf n new x ≡ setsOf n old x
+unfolding setsOf
+sets-kept {n} old new C K F x R =
+    let t = type-lt C R in
+    let p = pair-lt R in
+    let k = pairs-few C in
+    let h : namedAt old (x .ty) < recordEntries = F .heads (x .ty) t in
+    ap₂ bitOr (ap₂ bitOr (K (typeSetsStart + x .ty) (omega arith)) (K (pairSetsStart + pairOf n x) (omega arith)))
+    (ap (λ (j : ℕ). listed new x j j 0) (K (namedStart + x .ty) (omega arith)) ∙ listed-same F (omega arith) (record-kept K) x (namedAt old (x .ty)) (namedAt old (x .ty)) 0 h)
+
+-- ---- making
+module _ {g old p1 p2 p3 p4 plan : List ℕ} {n : Counts} {classes types : ℕ} (S : SoundGoal g) (C : PlanCounts n) (ec : classes ≡ n .classes) (et : types ≡ n .types)
     (E : Filled (λ e v. EventSets (goalOf g) (eventOf e) v) old p1 eventSetsStart 32 (32 * (classes + 1)))
     (A : Filled (λ t v. ContextSets (goalOf g) (contextAt t 0 0) v) p1 p2 typeSetsStart 1 (types + 1))
-    (B : Filled (λ i v. PairSets (goalOf g) n i v) p2 p3 pairSetsStart 0 (pairCount n)) (K : LinksPut (goalOf g) p3 p4) (L : LeadsPut (n .types) p4 plan) where
-  before : Kept eventSetsStart old p4
-  before = goal-before E A B K
-
+    (B : Filled (λ i v. PairSets (goalOf g) n i v) p2 p3 pairSetsStart 0 (pairCount n)) (K : LinksPut (goalOf g) p3 p4) (L : AlikePut p4 plan) where
   pub goal-put : GoalPut g n old plan
   goal-put =
       let k = pairs-few C in
       let few = C .classes in
       let tf = C .types in
       record {
-        goal = record {
+        goal = goal-kept C (L .below) (record {
           sound = S;
-          events = λ e l h. subst (EventSets (goalOf g) (eventOf e)) (sym (L .below (eventSetsStart + e) (omega arith) ∙ K .below (eventSetsStart + e) (omega arith) ∙ B .below (eventSetsStart + e) (omega arith) ∙ A .below (eventSetsStart + e) (omega arith))) (E .here e l (omega arith));
+          events = λ e l h. subst (EventSets (goalOf g) (eventOf e)) (sym (K .below (eventSetsStart + e) (omega arith) ∙ B .below (eventSetsStart + e) (omega arith) ∙ A .below (eventSetsStart + e) (omega arith))) (E .here e l (omega arith));
           sets = record {
-            types = λ t w. let h = w .high in subst (ContextSets (goalOf g) (contextAt t 0 0)) (sym (L .below (typeSetsStart + t) (omega arith) ∙ K .below (typeSetsStart + t) (omega arith) ∙ B .below (typeSetsStart + t) (omega arith))) (A .here t (w .low) (omega arith));
-            pairs = λ i h. subst (PairSets (goalOf g) n i) (sym (L .below (pairSetsStart + i) (omega arith) ∙ K .below (pairSetsStart + i) (omega arith))) (B .here i (omega arith) h);
-            lists = links-kept (L .below) (let z = S .exact .few in omega arith) (K .lists);
+            types = λ t w. let h = w .high in subst (ContextSets (goalOf g) (contextAt t 0 0)) (sym (K .below (typeSetsStart + t) (omega arith) ∙ B .below (typeSetsStart + t) (omega arith))) (A .here t (w .low) (omega arith));
+            pairs = λ i h. subst (PairSets (goalOf g) n i) (sym (K .below (pairSetsStart + i) (omega arith))) (B .here i (omega arith) h);
+            lists = K .lists;
           };
-        };
-        leads = leads-over C T before L;
-        below = λ i h. L .below i (omega arith) ∙ before i h;
+        });
+        alike = L .alike;
+        below = λ i h. L .below i (omega arith) ∙ K .below i (omega arith) ∙ B .below i (omega arith) ∙ A .below i (omega arith) ∙ E .below i (omega arith);
       }

@@ -1,7 +1,6 @@
-// The goal's part of a plan: the sets of its events and contexts, and the permissions that stand for others where the sets do not tell them
-// apart.
+// The goal's part of a plan: the sets of its events and contexts, and the permissions that they do not tell apart.
+use crate::alike::put_alikes;
 use crate::fill::clear;
-use crate::leads::put_leads;
 use crate::named::put_links;
 use crate::regions::EVENT_SETS_START;
 use crate::regions::PAIR_SETS_START;
@@ -25,7 +24,7 @@ ghost use Rattle.goal_image.specs.inner.Memberships.{ContextSets, EventSets};
 ghost use Rattle.goal_image.specs.inner.Sound.{SoundGoal};
 ghost use Rattle.plan_tables.specs.inner.Tables.{typeEntries};
 ghost use Rattle.plan.specs.inner.Plan.{PlanCounts, PairSets};
-ghost use Rattle.plan.specs.inner.Put.{Tops, GoalPut, WithIf};
+ghost use Rattle.plan.specs.inner.Put.{GoalPut, WithIf};
 ghost use Rattle.plan.specs.inner.Regions.{classEntries, eventSetsStart, typeSetsStart, pairSetsStart, planEntries};
 ghost use Rattle.context.specs.inner.Places.{pairCount};
 
@@ -99,12 +98,12 @@ fn put_pair_sets(goal: &[u8], counts: Counts, plan: &mut [u32])
 
 // Puts the part of the goal over that of a policy with the counts.
 pub fn put_goal(goal: &[u8], counts: Counts, plan: &mut [u32])
-    requires { ⌜ SoundGoal (now goal) × PlanCounts counts × Tops (counts .types) (now plan) × (planEntries ≤ length (now plan)) ⌝ }
+    requires { ⌜ SoundGoal (now goal) × PlanCounts counts × (planEntries ≤ length (now plan)) ⌝ }
     ensures { λ _. ⌜ GoalPut (now (goal .entry)) counts (now (plan .entry)) (now (plan .exit)) ⌝ }
 {
     put_events(goal, counts.classes, plan);
     put_type_sets(goal, counts.types, plan);
     put_pair_sets(goal, counts, plan);
     put_links(goal, plan);
-    put_leads(counts, plan);
+    put_alikes(counts.classes, plan);
 }

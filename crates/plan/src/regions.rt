@@ -1,5 +1,6 @@
 // Where each region of a plan starts: the sum of the start and the size of the region before it. The twins of these constants are in
-// specs/inner/Regions.antt; what the entries mean is said in specs/inner/Plan.antt.
+// specs/inner/Regions.antt, with the functions that read an entry in specs/inner/Entries.antt. What the entries mean is said in
+// specs/inner/Plan.antt, and in specs/inner/Ends.antt where a question has two contexts and no goal.
 use plan_tables::CLASSES;
 use plan_tables::ROLES as ROLE_NUMBERS;
 use plan_tables::TYPES;
@@ -11,34 +12,24 @@ pub use plan_index::codes::TYPE_CODES;
 // How many entries the blocks of all types have at most: one for each item of the index.
 pub use plan_index::codes::ITEMS as BLOCK_ENTRIES;
 
+// How many words a set of record numbers has.
+pub use plan_index::extract::RECORD_WORDS;
+
 // How many pairs of a role and a user a policy has at most, and one more than the most records of a goal.
 pub const PAIRS: usize = 225;
 
 pub const RECORDS: usize = 256;
 
-// ---- The part of the policy.
+// ---- The part of the policy, made once a call.
 
 // By class: the permissions on which there is a constraint, and process transition.
 pub const SPECIAL_START: usize = 0;
 
-// By role: the roles to which it may change.
+// By role: itself, and the roles to which it may change.
 pub const CHANGES_START: usize = SPECIAL_START + CLASSES;
 
-// By type: where its block of entries starts. One more for the end of the last.
-pub const FIRST_START: usize = CHANGES_START + ROLE_NUMBERS;
-
-// By entry: its class and other type, what flows out to that type, and what flows out by its reading.
-pub const KEYS_START: usize = FIRST_START + TYPES + 1;
-
-pub const WRITES_START: usize = KEYS_START + BLOCK_ENTRIES;
-
-pub const READS_START: usize = WRITES_START + BLOCK_ENTRIES;
-
-// By type: the special permissions that the entries of its block have, united.
-pub const TYPE_SPECIAL_START: usize = READS_START + BLOCK_ENTRIES;
-
 // By event: the permissions of its class that no constraint tells from it.
-pub const GROUPS_START: usize = TYPE_SPECIAL_START + TYPES;
+pub const GROUPS_START: usize = CHANGES_START + ROLE_NUMBERS;
 
 // By type: the roles that may hold it.
 pub const ROLES_START: usize = GROUPS_START + EVENT_CODES;
@@ -47,7 +38,7 @@ pub const ROLES_START: usize = GROUPS_START + EVENT_CODES;
 // its pair's mask meet.
 pub const HOLDERS_START: usize = ROLES_START + TYPES;
 
-// ---- The part of the goal, or of the two contexts of a question that has none.
+// ---- The part of the goal, or of the two contexts of a question that has none, made once for each of these.
 
 // By event: the γ sets that it is in.
 pub const EVENT_SETS_START: usize = HOLDERS_START + PAIRS;
@@ -69,8 +60,29 @@ pub const RECORD_ROLES_START: usize = MARKS_START + RECORDS;
 
 pub const RECORD_USERS_START: usize = RECORD_ROLES_START + RECORDS;
 
+// By event: the permissions of its class that a search cannot tell from it.
+pub const ALIKE_START: usize = RECORD_USERS_START + RECORDS;
+
+// ---- The part of the rules, made once for each set of allow records that count.
+
+// The set: a bit for each record number.
+pub const COUNTED_START: usize = ALIKE_START + EVENT_CODES;
+
+// By type: where its block of entries starts. One more for the end of the last.
+pub const FIRST_START: usize = COUNTED_START + RECORD_WORDS;
+
+// By entry: its class and other type, what flows out to that type, and what flows out by its reading.
+pub const KEYS_START: usize = FIRST_START + TYPES + 1;
+
+pub const WRITES_START: usize = KEYS_START + BLOCK_ENTRIES;
+
+pub const READS_START: usize = WRITES_START + BLOCK_ENTRIES;
+
+// By type: the special permissions that the entries of its block have, united.
+pub const TYPE_SPECIAL_START: usize = READS_START + BLOCK_ENTRIES;
+
 // By entry: of its permissions, both ways, those that stand for the others.
-pub const LEADS_START: usize = RECORD_USERS_START + RECORDS;
+pub const LEADS_START: usize = TYPE_SPECIAL_START + TYPES;
 
 // How many entries a plan has.
 pub const ENTRIES: usize = LEADS_START + BLOCK_ENTRIES;

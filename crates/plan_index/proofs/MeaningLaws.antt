@@ -16,15 +16,14 @@ use Rattle.context.specs.declared.Event.{Event}
 use Rattle.context.specs.Codes.{eventAt}
 use Rattle.plan_tables.specs.inner.Tables.{typeEntries}
 use Rattle.plan_index.specs.inner.Codes.{typeCodes, keyCodes, items, keyCode, itemCode}
-use Rattle.plan_index.specs.inner.Counting.{αBy}
 use Rattle.plan_index.specs.inner.Index.{Has, Ranged, RisingKeys, MasksShow}
 use Rattle.plan_index.specs.inner.Items.{codeIn, sideMask, Gives, Says, Owned, Extracted}
 use Rattle.sorting.specs.inner.Entries.{Unites}
 use Rattle.plan_index.specs.inner.Unite.{UnitedItems}
 use Rattle.plan_index.specs.inner.Split.{ownOf, Splittable, Starts, Split}
-use Rattle.plan_index.specs.inner.Meaning.{BlockOf, AllowIndexBy}
+use Rattle.plan_index.specs.inner.Meaning.{BlockOf, AllowBlock, AllowIndex}
 
-module _ {keep : ℕ → Bool} {p : Policy} {codes masks : List ℕ} {n : ℕ} (E : Extracted keep p codes masks n)
+module _ {p : Policy} {codes masks : List ℕ} {n : ℕ} (E : Extracted p codes masks n)
     {entries writes reads : List ℕ} {m : ℕ} (U : UnitedItems (codeIn codes) (sideMask masks 0) (sideMask masks 1) n entries writes reads m) where
   owned-at : (j : ℕ) → j < m → Owned (p .counts .types) (getD entries j 0)
   owned-at j l = let c = U .entries .coded j l in subst (Owned (p .counts .types)) (c .same) (E .owned (c .at) (c .below))
@@ -95,7 +94,7 @@ module _ {keep : ℕ → Bool} {p : Policy} {codes masks : List ℕ} {n : ℕ} (
                 };
           }
 
-      block : BlockOf (αBy keep p) p t keys writes reads lo hi
+      block : AllowBlock p t keys writes reads lo hi
       block =
           record {
             order = order;
@@ -109,7 +108,7 @@ module _ {keep : ℕ → Bool} {p : Policy} {codes masks : List ℕ} {n : ℕ} (
             reads = shows (E .reads) (U .reads);
           }
 
-    pub allow-index : items ≤ length keys → AllowIndexBy keep p first keys writes reads
+    pub allow-index : items ≤ length keys → AllowIndex p first keys writes reads
     allow-index size = record { blocks = block; tops = λ t w. omega (arith, stop t w .few, U .entries .few, E .few) }
 
 -- ---- for those who read the index: an entry's masks, bit for bit

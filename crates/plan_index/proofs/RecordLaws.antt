@@ -17,16 +17,14 @@ use Rattle.base.proofs.BoolLaws.{and-true, and-first, and-second}
 use Rattle.policy_image.specs.declared.records.Record.{Record}
 use Rattle.policy_image.specs.inner.Reading.{Bytes}
 use Rattle.policy_image.specs.Policy.{Policy}
-use Rattle.policy_links.proofs.KindLaws.{OfKind, every-record}
+use Rattle.policy_links.proofs.KindLaws.{OfKind, counted-yes, counted-record, every-record}
 use Rattle.context.specs.declared.Event.{Event}
 use Rattle.context.specs.Codes.{eventAt}
 use Rattle.policy_sources.specs.Sources.{domain, AllowsFromDomains}
-use Rattle.relations.specs.Relations.{Γ, targetOf}
+use Rattle.relations.specs.Relations.{Γ, targetOf, allowed, α}
 use Rattle.plan_tables.specs.inner.Tables.{GammaMasks}
 use Rattle.plan_index.specs.inner.Codes.{typeCodes, keyCodes, keyCode, itemCode}
-use Rattle.plan_index.specs.inner.Counting.{says, allowedBy, αBy}
 use Rattle.plan_index.specs.inner.Items.{ItemsPut}
-use Rattle.plan_index.proofs.CountingLaws.{some-by-yes, some-by-record}
 use Rattle.sorting.proofs.MaskLaws.{bit-and-first, bit-and-second, bit-and-join}
 
 -- ---- the parts of a code
@@ -106,38 +104,42 @@ other-back true t o r a b = b
 other-back false t o r a b = a
 
 -- ---- α by the records
-module _ (keep : ℕ → Bool) (p : Policy) (perms : List ℕ) (G : GammaMasks p perms) where
+-- what an allow record has to say for `allowed`
+abbrev says : ℕ → ℕ → Event → Record → Bool
+says t1 t2 e r = (eqb (r .a) t1 && (eqb (targetOf r) t2 && eqb (r .c) (e .class))) && bit (r .mask) (e .perm)
+
+module _ (p : Policy) (perms : List ℕ) (G : GammaMasks p perms) where
   -- a record that counts lets a act on b with permission q of class c, which the class has
   pub record Stated (a b c q : ℕ) : Type 0 where
     pub number : ℕ
     pub kind : OfKind p 4 number
-    pub counted : keep number ≡ true
+    pub counted : p .counted number ≡ true
     pub source : p .rec number .a ≡ a
     pub target : targetOf (p .rec number) ≡ b
     pub class : p .rec number .c ≡ c
     pub bears : bit (bitAnd (p .rec number .mask) (getD perms c 0)) q ≡ true
 
   -- by question 14 the source of a record is a domain
-  pub alpha-of : AllowsFromDomains p → (j q : ℕ) → OfKind p 4 j → keep j ≡ true → bit (bitAnd (p .rec j .mask) (getD perms (p .rec j .c) 0)) q ≡ true
-      → αBy keep p (p .rec j .a) (targetOf (p .rec j)) (eventAt (p .rec j .c) q) ≡ true
-  unfolding αBy allowedBy
+  pub alpha-of : AllowsFromDomains p → (j q : ℕ) → OfKind p 4 j → p .counted j ≡ true → bit (bitAnd (p .rec j .mask) (getD perms (p .rec j .c) 0)) q ≡ true
+      → α p (p .rec j .a) (targetOf (p .rec j)) (eventAt (p .rec j .c) q) ≡ true
+  unfolding α allowed
   alpha-of F j q o c h =
       let r = p .rec j in
       let e = eventAt (r .c) q in
-      let allowed = some-by-yes keep p 4 (says (r .a) (targetOf r) e) j o c
+      let given = counted-yes p 4 (says (r .a) (targetOf r) e) j o c
       (and-true (eqb (r .a) (r .a) && (eqb (targetOf r) (targetOf r) && eqb (r .c) (r .c))) (bit (r .mask) q)
       (and-true (eqb (r .a) (r .a)) (eqb (targetOf r) (targetOf r) && eqb (r .c) (r .c)) (eq-eqb (r .a) (r .a) refl)
       (and-true (eqb (targetOf r) (targetOf r)) (eqb (r .c) (r .c)) (eq-eqb (targetOf r) (targetOf r) refl) (eq-eqb (r .c) (r .c) refl)))
       (bit-and-first (r .mask) (getD perms (r .c) 0) q h)) in
-      and-true (domain p (r .a)) (Γ p e && allowedBy keep p (r .a) (targetOf r) e) (every-record p 4 (λ r. domain p (r .a)) F j o)
-      (and-true (Γ p e) (allowedBy keep p (r .a) (targetOf r) e) (sym (G .at (r .c) q) ∙ bit-and-second (r .mask) (getD perms (r .c) 0) q h) allowed)
+      and-true (domain p (r .a)) (Γ p e && allowed p (r .a) (targetOf r) e) (every-record p 4 (λ r. domain p (r .a)) F j o)
+      (and-true (Γ p e) (allowed p (r .a) (targetOf r) e) (sym (G .at (r .c) q) ∙ bit-and-second (r .mask) (getD perms (r .c) 0) q h) given)
 
-  pub of-alpha : (a b c q : ℕ) → αBy keep p a b (eventAt c q) ≡ true → Stated a b c q
-  unfolding αBy allowedBy
+  pub of-alpha : (a b c q : ℕ) → α p a b (eventAt c q) ≡ true → Stated a b c q
+  unfolding α allowed
   of-alpha a b c q h =
       let e = eventAt c q in
-      let rest = and-second (domain p a) (Γ p e && allowedBy keep p a b e) h in
-      let f = some-by-record keep p 4 (says a b e) (and-second (Γ p e) (allowedBy keep p a b e) rest) in
+      let rest = and-second (domain p a) (Γ p e && allowed p a b e) h in
+      let f = counted-record p 4 (says a b e) (and-second (Γ p e) (allowed p a b e) rest) in
       let r = p .rec (f .0) in
       let key = and-first (eqb (r .a) a && (eqb (targetOf r) b && eqb (r .c) c)) (bit (r .mask) q) (f .3) in
       let is-a = eqb-true (r .a) a (and-first (eqb (r .a) a) (eqb (targetOf r) b && eqb (r .c) c) key) in
@@ -150,5 +152,5 @@ module _ (keep : ℕ → Bool) (p : Policy) (perms : List ℕ) (G : GammaMasks p
         target = eqb-true (targetOf r) b (and-first (eqb (targetOf r) b) (eqb (r .c) c) others);
         class = eqb-true (r .c) c (and-second (eqb (targetOf r) b) (eqb (r .c) c) others);
         bears = bit-and-join (r .mask) (getD perms c 0) q (and-second (eqb (r .a) a && (eqb (targetOf r) b && eqb (r .c) c)) (bit (r .mask) q) (f .3))
-            (G .at c q ∙ and-first (Γ p e) (allowedBy keep p a b e) rest);
+            (G .at c q ∙ and-first (Γ p e) (allowed p a b e) rest);
       }

@@ -12,6 +12,7 @@ ghost use mathlib.Core.Path.{_≡_};
 ghost use Prim.Native.Nat.{_+_, _*_, _≤_, _<_};
 ghost use lib.ListN.{length};
 ghost use Rattle.policy_image.specs.Policy.{policyOf};
+ghost use Rattle.policy_image.specs.inner.Counting.{counting};
 ghost use Rattle.policy_image.specs.inner.Reading.{Bytes};
 ghost use Rattle.policy_check.specs.inner.Sound.{Sound};
 ghost use Rattle.plan_tables.specs.inner.Tables.{GammaMasks};
@@ -21,6 +22,9 @@ ghost use Rattle.plan_index.specs.inner.Items.{ItemsPut, Extracted};
 
 // How many words a set of record numbers has, a bit for each number.
 pub const RECORD_WORDS: usize = RECORD_NUMBERS / 32;
+
+// A word with every bit: in the set of such words every record counts.
+pub const ALL_BITS: u32 = 4294967295;
 
 // Whether record k counts.
 fn is_counted(counted: &[u32; RECORD_WORDS], k: usize) -> bool
@@ -53,7 +57,7 @@ pub fn extract(
     masks: &mut [u32],
 ) -> usize
     requires { ⌜ Sound (now policy) × GammaMasks (policyOf (now policy)) (now perms) × (items ≤ length (now codes)) × (recordNumbers ≤ length (now masks)) ⌝ }
-    ensures { λ n. ⌜ Extracted (isCounted (now (counted .entry))) (policyOf (now (policy .entry))) (now (codes .exit)) (now (masks .exit)) n ⌝ }
+    ensures { λ n. ⌜ Extracted (counting (isCounted (now (counted .entry))) (policyOf (now (policy .entry)))) (now (codes .exit)) (now (masks .exit)) n ⌝ }
 {
     let mut n: usize = 0;
     let mut i = head_at(policy, ALLOWS);

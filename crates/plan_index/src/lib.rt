@@ -16,11 +16,12 @@ use sorting::sort;
 ghost use Prim.Native.Nat.{_+_, _<_};
 ghost use lib.ListN.{length};
 ghost use Rattle.policy_image.specs.Policy.{policyOf};
+ghost use Rattle.policy_image.specs.inner.Counting.{counting};
 ghost use Rattle.policy_image.specs.inner.Reading.{Counted};
 ghost use Rattle.policy_check.specs.inner.Sound.{Sound};
 ghost use Rattle.plan_index.specs.inner.Counting.{isCounted};
 ghost use Rattle.plan_index.specs.inner.Unite.{EntryRoom};
-ghost use Rattle.plan_index.specs.inner.Meaning.{AllowIndexBy};
+ghost use Rattle.plan_index.specs.inner.Meaning.{AllowIndex};
 
 // Makes the index of the image's allow records that count, as `counted` says: the items of the records, sorted by their codes, united
 // to entries, and split into blocks.
@@ -34,7 +35,7 @@ pub fn index(
     reads: &mut [u32],
 )
     requires { ⌜ Sound (now policy) × Counted (now policy) counts × (counts .types + 1 < length (now first)) × EntryRoom (now keys) (now writes) (now reads) ⌝ }
-    ensures { λ _. ⌜ AllowIndexBy (isCounted (now (counted .entry))) (policyOf (now (policy .entry))) (now (first .exit)) (now (keys .exit)) (now (writes .exit)) (now (reads .exit)) ⌝ }
+    ensures { λ _. ⌜ AllowIndex (counting (isCounted (now (counted .entry))) (policyOf (now (policy .entry)))) (now (first .exit)) (now (keys .exit)) (now (writes .exit)) (now (reads .exit)) ⌝ }
 {
     let perms = gamma_masks(policy);
     let mut codes = [0u32; ITEMS];

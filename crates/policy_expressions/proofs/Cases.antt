@@ -1,6 +1,7 @@
 -- Question 6 of policies that no image states: only records 1 to N use nodes, and only they are nodes. In an image what stands beside
 -- its records is read as no record at all, so that no image tells these apart.
 use Prim.Native.Nat.{ℕ, zero, suc}
+use mathlib.Core.Bool.{true}
 use mathlib.Core.Path.{refl}
 use native.Mathlib.Omega.{arith}
 use Rattle.policy_image.specs.declared.counts.Counts.{Counts}
@@ -19,7 +20,7 @@ abbrev constraintOf : ℕ → Record
 constraintOf n = record { next = 0; kind = 8; a = 1; b = 0; c = 0; d = n; e = 0; mask = 1 }
 
 abbrev policyWith : ℕ → (ℕ → Record) → Policy
-policyWith size records = record { counts = counts size; size = size; head = λ k. 0; rec = records }
+policyWith size records = record { counts = counts size; size = size; head = λ k. 0; rec = records; counted = λ i. true }
 
 -- there is no record, whatever stands at the numbers from 0 on: it uses nothing
 pub no-record-no-use : NodesInOrder (policyWith 0 (λ i. notOf 1))

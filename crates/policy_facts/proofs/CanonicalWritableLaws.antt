@@ -4,6 +4,7 @@ use mathlib.Core.Path.{sym, subst}
 use mathlib.Core.Logic.{⊎-elim}
 use native.Mathlib.Omega.{arith}
 use Rattle.policy_image.specs.Policy.{Policy}
+use Rattle.policy_image.specs.inner.Sizes.{mostRecords}
 use Rattle.policy_image.specs.inner.Writable.{WritableRecord, Writable}
 use Rattle.policy_expressions.specs.Nodes.{NodesInOrder}
 use Rattle.policy_lists.specs.Lists.{recordIn}
@@ -26,7 +27,7 @@ module _ (p : Policy) where
   fact-written : (i : ℕ) → FactRecord p i → WritableRecord (recordIn (canonicalList p) i)
   fact-written i I = subst WritableRecord (sym (I .same)) (fact-writable p (I .kind) (I .key) (I .range .high) (I .low))
 
-  pub canonical-writable : canonicalOf p .size ≤ 4095 → NodesInOrder p → Writable p → Writable (canonicalOf p)
+  pub canonical-writable : canonicalOf p .size ≤ mostRecords → NodesInOrder p → Writable p → Writable (canonicalOf p)
   canonical-writable few N O =
       let c = O .counts in
       from-writable (p .counts) (canonicalList p) few

@@ -40,6 +40,7 @@ from-bare c l =
       size = length-map l (withNext 0) j;
       head = λ k. bare-first l k j;
       rec = λ i. withNext (bare-link l i j) (bare-record l i j);
+      counted = λ i. true;
     })
 
 -- ---- the records of kind k

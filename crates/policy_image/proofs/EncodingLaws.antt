@@ -1,6 +1,6 @@
 -- Reading what is written gives the policy back, and an image whose length is exact is what its decoded form writes.
 use Prim.Native.Nat.{ℕ, suc, _+_, _*_, _-_, _≤_, _<_}
-use mathlib.Core.Path.{_≡_, refl, sym, subst, ap, ap₂, _∙_}
+use mathlib.Core.Path.{_≡_, refl, sym, ap, ap₂, _∙_}
 use mathlib.Core.List.{List, [], _∷_, _++_}
 use native.Mathlib.Nat.{add-zero}
 use native.Mathlib.Omega.{arith}
@@ -16,27 +16,30 @@ use Rattle.policy_image.specs.declared.records.Record.{Record}
 use Rattle.policy_image.specs.Layout.{PolicyExact, recordCount, countsOf, policyHead, recordStart, payloadOf, decoded, recordOf}
 use Rattle.policy_image.specs.Policy.{Policy, policyOf}
 use Rattle.policy_image.specs.Encoding.{countBytes, headerBytes, recordBytes, imageOf}
+use Rattle.policy_image.specs.inner.Sizes.{headerSize, stride, sizeOf, imageSize}
 use Rattle.policy_image.specs.inner.Writable.{WritableRecord, Writable}
 use Rattle.policy_image.proofs.FieldLaws.{record-same, counts-same}
 use Rattle.policy_image.proofs.LayoutLaws.{payload-there, payload-length}
+use Rattle.policy_image.proofs.SizeLaws.{size-times}
 
 -- ---- lengths
-header-length : (c : Counts) (h : ℕ → ℕ) → length (headerBytes c h) ≡ 24
-unfolding headerBytes countBytes
+header-length : (c : Counts) (h : ℕ → ℕ) → length (headerBytes c h) ≡ headerSize
+unfolding headerBytes countBytes headerSize
 header-length c h = refl
 
-pub record-length : (r : Record) → length (recordBytes r) ≡ 12
-unfolding recordBytes
+pub record-length : (r : Record) → length (recordBytes r) ≡ stride
+unfolding recordBytes stride
 record-length r = refl
 
-pub image-length : (p : Policy) → length (imageOf p) ≡ 24 + 12 * p .size
+pub image-length : (p : Policy) → length (imageOf p) ≡ imageSize (p .size)
 unfolding imageOf
 image-length p =
     length-append (headerBytes (p .counts) (p .head)) (listUpto (λ k. recordBytes (p .rec k)) (p .size))
-    ∙ ap₂ _+_ (header-length (p .counts) (p .head)) (list-length (λ k. recordBytes (p .rec k)) 12 (λ k. record-length (p .rec k)) (p .size))
+    ∙ ap₂ _+_ (header-length (p .counts) (p .head))
+    (list-length (λ k. recordBytes (p .rec k)) stride (λ k. record-length (p .rec k)) (p .size) ∙ sym (size-times (p .size)))
 
 -- ---- where the bytes of an image that is written stand
-pub header-at : (p : Policy) (i : ℕ) → i < 24 → byteAt (imageOf p) i ≡ byteAt (headerBytes (p .counts) (p .head)) i
+pub header-at : (p : Policy) (i : ℕ) → i < headerSize → byteAt (imageOf p) i ≡ byteAt (headerBytes (p .counts) (p .head)) i
 unfolding imageOf
 header-at p i h =
     List·getD-append (headerBytes (p .counts) (p .head)) (listUpto (λ k. recordBytes (p .rec k)) (p .size)) 0 i
@@ -48,12 +51,12 @@ head-at c h k j a b =
     getD-append-add (countBytes c) (listUpto (λ i. low16 (h i)) 9) (2 * k + j) 0
     ∙ list-at (λ i. low16 (h i)) 2 (λ i. refl) 9 k j a b
 
-pub record-at : (p : Policy) (k j : ℕ) → k < p .size → j < 12 → byteAt (imageOf p) (24 + (12 * k + j)) ≡ byteAt (recordBytes (p .rec (suc k))) j
+pub record-at : (p : Policy) (k j : ℕ) → k < p .size → j < stride → byteAt (imageOf p) (headerSize + (sizeOf k + j)) ≡ byteAt (recordBytes (p .rec (suc k))) j
 unfolding imageOf
 record-at p k j a b =
-    subst (λ (z : ℕ). byteAt (imageOf p) (z + (12 * k + j)) ≡ byteAt (recordBytes (p .rec (suc k))) j) (header-length (p .counts) (p .head))
-    (getD-append-add (headerBytes (p .counts) (p .head)) (listUpto (λ i. recordBytes (p .rec i)) (p .size)) (12 * k + j) 0
-    ∙ list-at (λ i. recordBytes (p .rec i)) 12 (λ i. record-length (p .rec i)) (p .size) k j a b)
+    ap₂ (λ (z n : ℕ). byteAt (imageOf p) (z + (n + j))) (sym (header-length (p .counts) (p .head))) (size-times k)
+    ∙ getD-append-add (headerBytes (p .counts) (p .head)) (listUpto (λ i. recordBytes (p .rec i)) (p .size)) (stride * k + j) 0
+    ∙ list-at (λ i. recordBytes (p .rec i)) stride (λ i. record-length (p .rec i)) (p .size) k j a b
 
 -- ---- reading what is written
 payload-at : (s : List ℕ) (k j : ℕ) → 1 ≤ k → k ≤ 4095 → recordStart k + 12 ≤ length s → j < 10 → byteAt (payloadOf s k) j ≡ byteAt s (recordStart k + 2 + j)
@@ -71,13 +74,14 @@ module _ (p : Policy) (W : Writable p) where
       counts-same (record { types = refl; roles = refl; users = refl; classes = refl; records = count-written ∙ sym (W .size) })
 
   pub written-exact : PolicyExact (imageOf p)
+  unfolding headerSize sizeOf
   written-exact =
       let n = count-written in
       let l = image-length p in
       record { whole = omega arith; few = omega arith; exact = omega arith }
 
   pub head-written : (k : ℕ) → Within 1 9 k → policyHead (imageOf p) k ≡ p .head k
-  unfolding policyHead
+  unfolding policyHead headerSize
   head-written k w =
       let h = W .heads k w in
       let low = byte (4 + 2 * k) 0 (omega arith) (omega arith) in
@@ -90,7 +94,7 @@ module _ (p : Policy) (W : Writable p) where
           ∙ ap (λ (z : ℕ). byteAt (low16 (p .head z)) j) (let q : suc (k - 1) ≡ k = omega (arith, w .low) in q)
 
   pub record-written : (k : ℕ) → Within 1 (p .size) k → recordOf (imageOf p) k ≡ p .rec k
-  unfolding recordOf decoded recordBytes
+  unfolding recordOf decoded recordBytes headerSize stride sizeOf
   record-written k w =
       let F = W .fields k w in
       let n0 = byte (recordStart k) 0 (omega arith) (omega arith) in

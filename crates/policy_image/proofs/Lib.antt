@@ -1,4 +1,5 @@
 pub mod FieldLaws
 pub mod LayoutLaws
+pub mod SizeLaws
 pub mod EncodingLaws
 pub mod Cases

@@ -10,6 +10,10 @@ use Rattle.policy_image.specs.Policy.{Policy}
 unfoldable pub some : Policy → ℕ → (Record → Bool) → Bool
 some p k f = anyUpto (λ i. eqb (p .rec i .kind) k && f (p .rec i)) (p .size)
 
+-- whether some record of kind k that counts passes the test
+abbrev pub someCounted : Policy → ℕ → (Record → Bool) → Bool
+someCounted p k f = anyUpto (λ i. eqb (p .rec i .kind) k && (p .counted i && f (p .rec i))) (p .size)
+
 -- whether every record of kind k passes the test
 unfoldable pub every : Policy → ℕ → (Record → Bool) → Bool
 every p k f = allUpto (λ i. not (eqb (p .rec i .kind) k) || f (p .rec i)) (p .size)

@@ -2,3 +2,4 @@
 pub mod counts;
 pub mod kinds;
 pub mod records;
+pub mod sizes;

@@ -4,6 +4,7 @@ use mathlib.Core.Logic.{⊎-elim}
 use native.Mathlib.Omega.{arith}
 use Rattle.policy_image.specs.declared.counts.Counts.{Counts}
 use Rattle.policy_image.specs.Policy.{Policy}
+use Rattle.policy_image.specs.inner.Sizes.{mostRecords}
 use Rattle.policy_image.specs.inner.Writable.{Writable}
 use Rattle.policy_links.specs.Chains.{ChainsByKind}
 use Rattle.policy_expressions.specs.Nodes.{NodesInOrder}
@@ -15,10 +16,10 @@ use Rattle.policy_lists.proofs.JoinNodeLaws.{makers-is, boards-is}
 use Rattle.policy_lists.proofs.CountLaws.{larger-either}
 
 -- "15" is not the answer: the records of both together are at most 4,095
-pub joined-few : (p q : Policy) → ChainsByKind p → ChainsByKind q → p .size + q .size ≤ 4095 → joined p q .size ≤ 4095
+pub joined-few : (p q : Policy) → ChainsByKind p → ChainsByKind q → p .size + q .size ≤ mostRecords → joined p q .size ≤ mostRecords
 joined-few p q C D h = let e = joined-size p q C D in omega arith
 
-module _ (p q : Policy) (few : joined p q .size ≤ 4095) where
+module _ (p q : Policy) (few : joined p q .size ≤ mostRecords) where
   abbrev counts : Counts
   counts = largerCounts (p .counts) (q .counts)
 

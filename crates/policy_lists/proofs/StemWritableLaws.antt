@@ -11,6 +11,7 @@ use Rattle.policy_image.specs.declared.counts.Counts.{Counts}
 use Rattle.policy_image.specs.declared.records.Record.{Record}
 use Rattle.policy_image.specs.Layout.{rootOf, leftOf, rightOf}
 use Rattle.policy_image.specs.Policy.{Policy}
+use Rattle.policy_image.specs.inner.Sizes.{mostRecords}
 use Rattle.policy_image.specs.inner.Writable.{WritableRecord, WritableCounts, Writable}
 use Rattle.policy_expressions.specs.declared.Use.the-variants.{Node}
 use Rattle.policy_expressions.specs.Nodes.{useOf, IsNode, NodesInOrder}
@@ -63,7 +64,7 @@ module _ (c : Counts) (l : List Record) where
   abbrev made : Policy
   made = policyFrom c l
 
-  module _ (few : length l ≤ 4095) where
+  module _ (few : length l ≤ mostRecords) where
     -- links lead to records, and these have numbers that fit two bytes
     link-fits : (i : ℕ) → 1 ≤ i → i ≤ length l → linkIn l i < 65536
     link-fits i a b = ⊎-elim (λ z. omega (arith, z)) (λ n. let h = n .1 in omega (arith, h, few)) (from-rises c l .nexts i a b)

@@ -1,7 +1,7 @@
 -- The records of a policy as lists, and the policy made of a list: "The result lists kinds 1 to 9 in turn, each linked in order"
 -- (paper 02, c; "records by kind from 1 to 9, each kind consecutive and linked in turn", e). Records are numbered from 1 on, as in an image.
 use Prim.Native.Nat.{ℕ, zero, suc}
-use mathlib.Core.Bool.{_&&_, cond}
+use mathlib.Core.Bool.{true, _&&_, cond}
 use mathlib.Core.List.{List, [], _∷_, _++_}
 use lib.Dec.{eqb, leb}
 use lib.ListN.{length, getD}
@@ -59,7 +59,7 @@ withNext n r =
 abbrev pub withRecords : ℕ → Counts → Counts
 withRecords n c = record { types = c .types; roles = c .roles; users = c .users; classes = c .classes; records = n }
 
--- the policy whose records are those of the list
+-- the policy whose records are those of the list, all of which count
 abbrev pub policyFrom : Counts → List Record → Policy
 policyFrom c l =
     record {
@@ -67,4 +67,5 @@ policyFrom c l =
       size = length l;
       head = firstIn l;
       rec = λ i. withNext (linkIn l i) (recordIn l i);
+      counted = λ i. true;
     }

@@ -1,5 +1,5 @@
 -- The passes that make the tables of a policy: what a table has after n records.
-use Prim.Native.Nat.{ℕ, zero, suc, _+_, _≤_, _<_}
+use Prim.Native.Nat.{ℕ, zero, suc, _+_, _≤_}
 use mathlib.Core.Path.{_≡_, refl, sym, ap, subst, _∙_}
 use mathlib.Core.List.{List}
 use mathlib.Core.Logic.{⊎-elim}
@@ -10,6 +10,7 @@ use Rattle.base.specs.Ranges.{Within}
 use Rattle.base.proofs.Numbers.{split-eq, split-le, zeros}
 use Rattle.policy_image.specs.declared.records.Record.{Record}
 use Rattle.policy_image.specs.Policy.{Policy}
+use Rattle.policy_image.specs.inner.Sizes.{mostRecords}
 use Rattle.policy_lists.specs.Lists.{recordsUpto, ofKindIn}
 use Rattle.policy_lists.specs.Joined.{nodesUpto}
 use Rattle.policy_lists.proofs.NodeLaws.{place-length, other-length, most-length}
@@ -50,22 +51,22 @@ module _ (rec : ℕ → Record) where
 module _ (o : Policy) where
   -- ---- how many nodes there are up to each number
   pub record NumberedTo (n nodes : ℕ) (t : List ℕ) : Type 0 where
-    pub size : length t ≡ 4096
+    pub size : length t ≡ suc mostRecords
     pub many : nodes ≡ nodesUpto o n
     pub upto : (i : ℕ) → i ≤ n → getD t i 0 ≡ nodesUpto o i
 
-  pub numbered-start : NumberedTo 0 0 (replicate 4096 0)
+  pub numbered-start : NumberedTo 0 0 (replicate (suc mostRecords) 0)
   numbered-start =
       record {
-        size = length-replicate {A = ℕ} 4096 0;
+        size = length-replicate {A = ℕ} (suc mostRecords) 0;
         many = refl;
-        upto = λ i h. zeros 4096 i ∙ ap (nodesUpto o) (let e : 0 ≡ i = omega arith in e);
+        upto = λ i h. zeros (suc mostRecords) i ∙ ap (nodesUpto o) (let e : 0 ≡ i = omega arith in e);
       }
 
   pub numbered-fits : {n nodes : ℕ} {t : List ℕ} → NumberedTo n nodes t → nodes ≤ n
   numbered-fits {n} N = let m = most-length (o .rec) 9 n in let e = N .many in omega arith
 
-  module _ {n nodes : ℕ} {t : List ℕ} (N : NumberedTo n nodes t) (room : n + 1 < 4096) where
+  module _ {n nodes : ℕ} {t : List ℕ} (N : NumberedTo n nodes t) (room : n + 1 ≤ mostRecords) where
     entered : (i m : ℕ) → i ≡ suc n → m ≡ nodesUpto o i → NumberedTo i m (set t i m)
     entered i m f e =
         record {

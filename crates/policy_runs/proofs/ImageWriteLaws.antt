@@ -1,6 +1,6 @@
 -- An image is written: its header, by the tables of ends and heads, then its records, run by run.
-use Prim.Native.Nat.{ℕ, zero, suc, _+_, _*_, _-_, _≤_}
-use mathlib.Core.Path.{_≡_, refl, sym, ap, ap₂, subst, _∙_}
+use Prim.Native.Nat.{ℕ, zero, suc, _+_, _-_, _≤_}
+use mathlib.Core.Path.{_≡_, sym, ap, ap₂, subst, _∙_}
 use mathlib.Core.List.{List, _++_}
 use native.Mathlib.Omega.{arith}
 use lib.ListN.{length, getD, drop}
@@ -15,7 +15,9 @@ use Rattle.policy_image.specs.declared.records.Record.{Record}
 use Rattle.policy_image.specs.Layout.{PolicyExact, recordCount, countsOf}
 use Rattle.policy_image.specs.Policy.{Policy, policyOf}
 use Rattle.policy_image.specs.Encoding.{countBytes, headerBytes, imageOf}
+use Rattle.policy_image.specs.inner.Sizes.{headerSize, imageSize, mostRecords}
 use Rattle.policy_image.specs.inner.Writable.{WritableRecord, WritableCounts, WritableHeads, Writable}
+use Rattle.policy_image.proofs.SizeLaws.{size-le}
 use Rattle.policy_links.specs.Chains.{LinksRise, ChainsByKind}
 use Rattle.policy_expressions.specs.Nodes.{NodesInOrder}
 use Rattle.policy_lists.specs.Lists.{kindList, policyFrom}
@@ -49,7 +51,7 @@ module _ {lists : ℕ → List Record} {c : Counts} (L : WritableLists lists c) 
   abbrev made : Policy
   made = policyFrom c (kindsUpto lists 9)
 
-  pub ends-most : (k : ℕ) → k ≤ 9 → ending lists k ≤ 4095
+  pub ends-most : (k : ℕ) → k ≤ 9 → ending lists k ≤ mostRecords
   ends-most k h = let r = endings-rise lists k 9 h in omega (arith, r, L .writable .counts .records)
 
   pub counts-writable : {n : Counts} → n ≡ made .counts → WritableCounts n
@@ -71,22 +73,22 @@ module _ {lists : ℕ → List Record} {c : Counts} (L : WritableLists lists c) 
       pub heads-writable : WritableHeads (λ k. getD h k 0)
       heads-writable k w = let x = heads-are k (w .low) (w .high) in let f = L .writable .heads k w in omega (arith, x, f)
 
-      pub header-put : {n : Counts} {old new : List ℕ} → n ≡ made .counts → Filled (λ i v. v ≡ byteAt (headerBytes n (λ k. getD h k 0)) i) old new 0 0 24
-          → Filled (λ i v. v ≡ byteAt (imageOf made) i) old new 0 0 24
+      pub header-put : {n : Counts} {old new : List ℕ} → n ≡ made .counts → Filled (λ i v. v ≡ byteAt (headerBytes n (λ k. getD h k 0)) i) old new 0 0 headerSize
+          → Filled (λ i v. v ≡ byteAt (imageOf made) i) old new 0 0 headerSize
       unfolding headerBytes
       header-put {n} {old} {new} e F =
           image-begun made
-          (subst (λ (l : List ℕ). Filled (λ i v. v ≡ byteAt l i) old new 0 0 24)
+          (subst (λ (l : List ℕ). Filled (λ i v. v ≡ byteAt l i) old new 0 0 headerSize)
           (ap₂ _++_ (ap countBytes e) (list-same (λ k. low16 (getD h k 0)) (λ k. low16 (made .head k)) 9 (λ k l u. ap low16 (heads-are k l u)))) F)
 
 -- ---- a run of the image s, which a policy j has at its place, fits where the image of j does
 pub run-fits : {j : Policy} → Writable j → {s : List ℕ} → PolicyExact s → LinksRise (policyOf s) → ChainsByKind (policyOf s) → NodesInOrder (policyOf s)
     → (run : Run) → RunIn j (policyOf s) run → Within 1 9 (run .kind)
     → run .before + length (kindList (policyOf s) (run .kind)) ≤ j .size → run .shift + length (kindList (policyOf s) 9) ≤ j .size
-    → (output : ℕ) (nodes : List ℕ) → 24 + 12 * j .size ≤ output → NodeTable (policyOf s) nodes → RunFits s nodes run output
+    → (output : ℕ) (nodes : List ℕ) → imageSize (j .size) ≤ output → NodeTable (policyOf s) nodes → RunFits s nodes run output
 run-fits {j} W {s} exact links chains order run R kind place shift output nodes room T =
     let o : Policy = policyOf s in
-    let few : j .size ≤ 4095 = omega (arith, W .size, W .counts .records) in
+    let few : j .size ≤ mostRecords = omega (arith, W .size, W .counts .records) in
     record {
       exact = exact;
       links = links;
@@ -95,12 +97,12 @@ run-fits {j} W {s} exact links chains order run R kind place shift output nodes 
       kind = kind;
       table = T;
       most = omega (arith, place, few);
-      room = omega (arith, place, room);
+      room = omega (arith, size-le place, room);
       shifted = λ i h. let f = upto-more-length (o .rec) 9 i (o .size) h in omega (arith, f, shift, few);
       writable = λ i h e. subst WritableRecord (R .same i h e) (W .fields (runPlace o run i) (record { low = omega arith; high = R .high i h e }));
     }
 
 -- ---- the whole image: the header, then all records
-pub all-put : (j : Policy) {old mid new : List ℕ} → length new ≡ length old → 24 + 12 * j .size ≤ length old → Filled (λ i v. v ≡ byteAt (imageOf j) i) old mid 0 0 24
-    → RecordsTo j (j .size) mid new → new ≡ imageOf j ++ drop (24 + 12 * j .size) old
-all-put j same room F R = image-done j same room (fill-end (fill-then _ F R refl (omega arith) (λ i v b e. e)) (omega arith))
+pub all-put : (j : Policy) {old mid new : List ℕ} → length new ≡ length old → imageSize (j .size) ≤ length old → Filled (λ i v. v ≡ byteAt (imageOf j) i) old mid 0 0 headerSize
+    → RecordsTo j (j .size) mid new → new ≡ imageOf j ++ drop (imageSize (j .size)) old
+all-put j same room F R = image-done j same room (fill-end (fill-then _ F R (omega arith) (omega arith) (λ i v b e. e)) (omega arith))

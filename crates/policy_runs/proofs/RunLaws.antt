@@ -1,5 +1,5 @@
 -- The pass that writes a run: what is written after n records.
-use Prim.Native.Nat.{ℕ, zero, suc, _+_, _*_, _-_, _≤_, _<_}
+use Prim.Native.Nat.{ℕ, zero, suc, _+_, _-_, _≤_, _<_}
 use mathlib.Core.Path.{_≡_, refl, sym, ap, subst, _∙_}
 use mathlib.Core.Bool.{Bool, true, false, cond}
 use mathlib.Core.List.{List, [], _++_}
@@ -16,12 +16,14 @@ use Rattle.base.proofs.BoolLaws.{true-or-false, clash}
 use Rattle.base.proofs.FillLaws.{fill-begin, fill-map, fill-then, fill-end}
 use Rattle.base.proofs.Numbers.{split-eq}
 use Rattle.policy_image.specs.declared.records.Record.{Record}
-use Rattle.policy_image.specs.Layout.{recordCount, recordStart, rootOf, leftOf, rightOf}
+use Rattle.policy_image.specs.Layout.{recordCount, rootOf, leftOf, rightOf}
 use Rattle.policy_image.specs.Policy.{Policy, policyOf}
 use Rattle.policy_image.specs.Encoding.{recordBytes}
 use Rattle.policy_image.specs.inner.Reading.{Bytes}
+use Rattle.policy_image.specs.inner.Sizes.{stride, sizeOf, startOf}
 use Rattle.policy_image.specs.inner.Writable.{WritableRecord}
 use Rattle.policy_image.proofs.EncodingLaws.{record-length}
+use Rattle.policy_image.proofs.SizeLaws.{size-none, size-more, start-add}
 use Rattle.policy_expressions.specs.declared.Use.the-variants.{Node}
 use Rattle.policy_expressions.specs.Nodes.{hasRoot, hasLeft, hasRight, useOf, Uses}
 use Rattle.policy_lists.specs.Lists.{kindList, withNext}
@@ -37,10 +39,10 @@ module _ (o : Policy) (run : Run) where
 
   -- the run is written up to record n of its policy
   abbrev pub WrittenTo : ℕ → List ℕ → List ℕ → Type 0
-  WrittenTo n old new = Filled (λ j v. v ≡ byteAt (runBytes o run n) j) old new (recordStart (suc (run .before))) 0 (12 * many n)
+  WrittenTo n old new = Filled (λ j v. v ≡ byteAt (runBytes o run n) j) old new (startOf (suc (run .before))) 0 (sizeOf (many n))
 
   pub written-start : (old : List ℕ) → WrittenTo 0 old old
-  written-start old = fill-begin _ old _ 0
+  written-start old = fill-end (fill-begin _ old _ 0) (sym size-none)
 
   pub run-here : (n : ℕ) → o .rec (suc n) .kind ≡ run .kind → runBytes o run (suc n) ≡ runBytes o run n ++ recordBytes (runRecord o run n)
   run-here n e = ap (λ (t : Bool). runBytes o run n ++ cond t (recordBytes (runRecord o run n)) []) (eq-eqb (o .rec (suc n) .kind) (run .kind) e)
@@ -48,40 +50,44 @@ module _ (o : Policy) (run : Run) where
   pub run-passed : (n : ℕ) → (o .rec (suc n) .kind ≡ run .kind → ⊥) → runBytes o run (suc n) ≡ runBytes o run n ++ []
   run-passed n d = ap (λ (t : Bool). runBytes o run n ++ cond t (recordBytes (runRecord o run n)) []) (ne-eqb (o .rec (suc n) .kind) (run .kind) d)
 
-  pub run-length : (n : ℕ) → length (runBytes o run n) ≡ 12 * many n
-  run-length zero = refl
+  -- one more of the kind
+  pub many-size : (n : ℕ) → o .rec (suc n) .kind ≡ run .kind → sizeOf (many (suc n)) ≡ sizeOf (many n) + stride
+  many-size n e = ap sizeOf (place-length (o .rec) (run .kind) n e) ∙ size-more (many n)
+
+  pub run-length : (n : ℕ) → length (runBytes o run n) ≡ sizeOf (many n)
+  run-length zero = sym size-none
   run-length (suc n) =
       let h = run-length n in
       ⊎-elim
       (λ e.
-      let l = place-length (o .rec) (run .kind) n e in
+      let l = many-size n e in
       let r = record-length (runRecord o run n) in
       ap length (run-here n e) ∙ length-append (runBytes o run n) (recordBytes (runRecord o run n)) ∙ omega arith)
-      (λ d. let l = other-length (o .rec) (run .kind) n d in ap length (run-passed n d) ∙ length-append (runBytes o run n) [] ∙ omega arith)
+      (λ d. let l = ap sizeOf (other-length (o .rec) (run .kind) n d) in ap length (run-passed n d) ∙ length-append (runBytes o run n) [] ∙ omega arith)
       (split-eq (o .rec (suc n) .kind) (run .kind))
 
   -- ---- record n + 1
   module _ (n : ℕ) {old mid : List ℕ} (F : WrittenTo n old mid) where
-    kept : (rest : List ℕ) (j : ℕ) → j < 12 * many n → byteAt (runBytes o run n) j ≡ byteAt (runBytes o run n ++ rest) j
+    kept : (rest : List ℕ) (j : ℕ) → j < sizeOf (many n) → byteAt (runBytes o run n) j ≡ byteAt (runBytes o run n ++ rest) j
     kept rest j h = sym (List·getD-append (runBytes o run n) rest 0 j (omega (arith, run-length n, h)))
 
     -- is of the kind, and is written
     pub written-here : o .rec (suc n) .kind ≡ run .kind → (at : ℕ) → at ≡ runPlace o run n → (r : Record) → r ≡ runRecord o run n → {new : List ℕ}
-        → Filled (λ j v. v ≡ byteAt (recordBytes r) j) mid new (recordStart at) 0 12 → WrittenTo (suc n) old new
+        → Filled (λ j v. v ≡ byteAt (recordBytes r) j) mid new (startOf at) 0 stride → WrittenTo (suc n) old new
     written-here e at p r m {new} G =
-        subst (λ (l : List ℕ). Filled (λ j v. v ≡ byteAt l j) old new (recordStart (suc (run .before))) 0 (12 * many (suc n))) (sym (run-here n e))
+        subst (λ (l : List ℕ). Filled (λ j v. v ≡ byteAt l j) old new (startOf (suc (run .before))) 0 (sizeOf (many (suc n)))) (sym (run-here n e))
         (fill-end
         (fill-then _ (fill-map (λ j v b q. q ∙ kept (recordBytes (runRecord o run n)) j b) F) G
-        (let x : recordStart at ≡ recordStart (suc (run .before)) + 12 * many n = omega arith in x) (omega arith)
+        (ap startOf p ∙ start-add (run .before) (many n)) (omega arith)
         (λ j v b q. q ∙ ap (λ (x : Record). byteAt (recordBytes x) j) m ∙ sym (getD-append-add (runBytes o run n) (recordBytes (runRecord o run n)) j 0)
         ∙ ap (λ (i : ℕ). byteAt (runBytes o run n ++ recordBytes (runRecord o run n)) (i + j)) (run-length n)))
-        (let l = place-length (o .rec) (run .kind) n e in omega arith))
+        (sym (many-size n e)))
 
     -- is of another kind, and is passed over
     written-passed : (o .rec (suc n) .kind ≡ run .kind → ⊥) → WrittenTo (suc n) old mid
     written-passed d =
-        subst (λ (l : List ℕ). Filled (λ j v. v ≡ byteAt l j) old mid (recordStart (suc (run .before))) 0 (12 * many (suc n))) (sym (run-passed n d))
-        (fill-end (fill-map (λ j v b q. q ∙ kept [] j b) F) (let l = other-length (o .rec) (run .kind) n d in omega arith))
+        subst (λ (l : List ℕ). Filled (λ j v. v ≡ byteAt l j) old mid (startOf (suc (run .before))) 0 (sizeOf (many (suc n)))) (sym (run-passed n d))
+        (fill-end (fill-map (λ j v b q. q ∙ kept [] j b) F) (ap sizeOf (sym (other-length (o .rec) (run .kind) n d))))
 
   pub written-as : {a b : ℕ} {old new : List ℕ} → a ≡ b → WrittenTo a old new → WrittenTo b old new
   written-as {a} {b} {old} {new} e F = subst (λ (x : ℕ). WrittenTo x old new) e F

@@ -1,6 +1,7 @@
 // Runs: the records of one kind of one policy are written one behind the other, with node numbers adjusted.
 pub mod tables;
 
+use policy_image::counts::MOST_RECORDS;
 use policy_image::kinds::AND;
 use policy_image::kinds::CONSTRAINT;
 use policy_image::kinds::NODE;
@@ -10,14 +11,15 @@ use policy_image::records::Record;
 use policy_image::records::head_at;
 use policy_image::records::record_at;
 use policy_writing::put_record;
-ghost use Prim.Native.Nat.{ℕ, suc, _+_, _*_, _≤_, _<_};
+ghost use Prim.Native.Nat.{ℕ, suc, _+_, _≤_, _<_};
 ghost use mathlib.Core.Path.{_≡_};
 ghost use lib.ListN.{length, getD};
 ghost use Rattle.base.specs.Bytes.{byteAt};
 ghost use Rattle.base.specs.inner.Fill.{Filled};
-ghost use Rattle.policy_image.specs.Layout.{PolicyExact, recordCount, recordStart};
+ghost use Rattle.policy_image.specs.Layout.{PolicyExact, recordCount};
 ghost use Rattle.policy_image.specs.Policy.{policyOf};
 ghost use Rattle.policy_image.specs.inner.Reading.{Bytes};
+ghost use Rattle.policy_image.specs.inner.Sizes.{sizeOf, startOf};
 ghost use Rattle.policy_links.specs.Chains.{ChainsByKind};
 ghost use Rattle.policy_lists.specs.Lists.{kindList, withNext};
 ghost use Rattle.policy_lists.specs.Joined.{withRoot, withChildren, renumbered};
@@ -27,7 +29,7 @@ ghost use Rattle.policy_runs.specs.inner.Runs.{KindTable, NodeTable, run
 // How many entries a table by kinds has, and one by record numbers: one more than the largest number, for entry 0.
 pub const KINDS: usize = 10;
 
-pub const NUMBERS: usize = 4096;
+pub const NUMBERS: usize = MOST_RECORDS + 1;
 
 // Where a run stands in the result: how many records stand before it, the number of the last record of its kind, and what is added to the
 // count of nodes up to one to give that node's number.
@@ -168,7 +170,7 @@ pub fn next_upto(last: usize, i: usize) -> usize
 // Writes a run, along the chain of its kind, and gives the number of its last record, or that of the record before it where it has none.
 pub fn put_run(output: &mut [u8], policy: &[u8], nodes: &[u16; NUMBERS], run: Run) -> usize
     requires { ⌜ RunFits (now policy) (now nodes) run (length (now output)) ⌝ }
-    ensures { λ r. ⌜ (r ≡ run .before + length (kindList (policyOf (now (policy .entry))) (run .kind))) × Filled (λ j v. v ≡ byteAt (runBytes (policyOf (now (policy .entry))) run (recordCount (now (policy .entry)))) j) (now (output .entry)) (now (output .exit)) (recordStart (suc (run .before))) 0 (12 * length (kindList (policyOf (now (policy .entry))) (run .kind))) ⌝ }
+    ensures { λ r. ⌜ (r ≡ run .before + length (kindList (policyOf (now (policy .entry))) (run .kind))) × Filled (λ j v. v ≡ byteAt (runBytes (policyOf (now (policy .entry))) run (recordCount (now (policy .entry)))) j) (now (output .entry)) (now (output .exit)) (startOf (suc (run .before))) 0 (sizeOf (length (kindList (policyOf (now (policy .entry))) (run .kind)))) ⌝ }
 {
     let kind = run.kind as usize;
     let mut at = run.before;

@@ -1,4 +1,4 @@
--- An image is written part by part from its first byte on: the counts, the heads, the records.
+-- An image is written part by part from its first byte on: the counts, the heads, and behind them the records.
 use Prim.Native.Nat.{ℕ, suc, _+_, _*_, _-_, _≤_, _<_}
 use mathlib.Core.Path.{_≡_, refl, sym, subst, ap, _∙_}
 use mathlib.Core.List.{List, _++_}
@@ -14,11 +14,11 @@ use Rattle.base.proofs.Numbers.{split-le}
 use Rattle.base.proofs.WritingLaws.{list-at}
 use Rattle.base.proofs.FillLaws.{fill-map, fill-then, fill-end}
 use Rattle.policy_image.specs.declared.counts.Counts.{Counts}
-use Rattle.policy_image.specs.Layout.{recordStart}
 use Rattle.policy_image.specs.Policy.{Policy}
-use Rattle.policy_image.specs.Encoding.{countBytes, headerBytes, recordBytes, imageOf}
+use Rattle.policy_image.specs.Encoding.{countBytes, headerBytes, imageOf}
+use Rattle.policy_image.specs.inner.Sizes.{headerSize, imageSize}
 use Rattle.policy_image.specs.inner.Writable.{headStart}
-use Rattle.policy_image.proofs.EncodingLaws.{header-at, record-at, image-length}
+use Rattle.policy_image.proofs.EncodingLaws.{header-at, image-length}
 
 -- nine heads, one behind the other
 abbrev pub headList : (ℕ → ℕ) → List ℕ
@@ -36,32 +36,21 @@ heads-more h k w F G = fill-end (fill-then _ F G (omega (arith, w .low)) (omega 
 
 -- the heads behind the counts
 pub header-done : (c : Counts) (h : ℕ → ℕ) {old mid new : List ℕ} → Filled (λ j v. v ≡ byteAt (countBytes c) j) old mid 0 0 6
-    → Filled (λ j v. v ≡ byteAt (headList h) j) mid new 6 0 18 → Filled (λ j v. v ≡ byteAt (headerBytes c h) j) old new 0 0 24
-unfolding headerBytes countBytes
+    → Filled (λ j v. v ≡ byteAt (headList h) j) mid new 6 0 18 → Filled (λ j v. v ≡ byteAt (headerBytes c h) j) old new 0 0 headerSize
+unfolding headerBytes countBytes headerSize
 header-done c h F G =
     fill-then _ (fill-map (λ j v b e. e ∙ sym (List·getD-append (countBytes c) (headList h) 0 j b)) F) G refl (omega arith)
     (λ j v b e. e ∙ sym (getD-append-add (countBytes c) (headList h) j 0))
 
 module _ (p : Policy) where
   -- the header begins an image
-  pub image-begun : {old new : List ℕ} → Filled (λ j v. v ≡ byteAt (headerBytes (p .counts) (p .head)) j) old new 0 0 24
-      → Filled (λ j v. v ≡ byteAt (imageOf p) j) old new 0 0 24
+  pub image-begun : {old new : List ℕ} → Filled (λ j v. v ≡ byteAt (headerBytes (p .counts) (p .head)) j) old new 0 0 headerSize
+      → Filled (λ j v. v ≡ byteAt (imageOf p) j) old new 0 0 headerSize
   image-begun F = fill-map (λ j v b e. e ∙ sym (header-at p j b)) F
 
-  -- record k comes next
-  pub image-more : (k : ℕ) {old mid new : List ℕ} → Within 1 (p .size) k → Filled (λ j v. v ≡ byteAt (imageOf p) j) old mid 0 0 (recordStart k)
-      → Filled (λ j v. v ≡ byteAt (recordBytes (p .rec k)) j) mid new (recordStart k) 0 12 → Filled (λ j v. v ≡ byteAt (imageOf p) j) old new 0 0 (recordStart (k + 1))
-  image-more k w F G = fill-end (fill-then _ F G (omega arith) (omega arith) means) (omega (arith, w .low))
-    where
-      means : (j v : ℕ) → j < 12 → v ≡ byteAt (recordBytes (p .rec k)) j → v ≡ byteAt (imageOf p) (recordStart k + j)
-      means j v b e =
-          e ∙ ap (λ (i : ℕ). byteAt (recordBytes (p .rec i)) j) (let q : k ≡ suc (k - 1) = omega (arith, w .low) in q)
-          ∙ sym (record-at p (k - 1) j (omega (arith, w .low, w .high)) b)
-          ∙ ap (byteAt (imageOf p)) (let q : 24 + (12 * (k - 1) + j) ≡ recordStart k + j = omega arith in q)
-
   -- behind the last record nothing has changed
-  pub image-done : {old new : List ℕ} → length new ≡ length old → 24 + 12 * p .size ≤ length old → Filled (λ j v. v ≡ byteAt (imageOf p) j) old new 0 0 (24 + 12 * p .size)
-      → new ≡ imageOf p ++ drop (24 + 12 * p .size) old
+  pub image-done : {old new : List ℕ} → length new ≡ length old → imageSize (p .size) ≤ length old → Filled (λ j v. v ≡ byteAt (imageOf p) j) old new 0 0 (imageSize (p .size))
+      → new ≡ imageOf p ++ drop (imageSize (p .size)) old
   image-done {old} {new} same room F =
       ext-getD 0 new (imageOf p ++ drop n old)
       (same ∙ sym (length-append (imageOf p) (drop n old) ∙ simp (image-length p, length-drop) (omega arith)))
@@ -72,7 +61,7 @@ module _ (p : Policy) where
       (split-le n i))
     where
       n : ℕ
-      n = 24 + 12 * p .size
+      n = imageSize (p .size)
 
       behind : (i : ℕ) → n ≤ i → byteAt old i ≡ byteAt (imageOf p ++ drop n old) i
       behind i l =

@@ -1,6 +1,6 @@
 -- What a few bytes written one behind the other make of a slice.
 use Prim.Native.Nat.{ℕ, zero, suc, _+_, _≤_, _<_}
-use mathlib.Core.Path.{_≡_, refl}
+use mathlib.Core.Path.{_≡_, refl, subst}
 use mathlib.Core.List.{List}
 use native.Mathlib.Omega.{arith}
 use lib.ListN.{length, set, length-set}
@@ -11,6 +11,7 @@ use Rattle.base.proofs.FillLaws.{fill-first, fill-more, fill-map, fill-then}
 use Rattle.policy_image.specs.declared.counts.Counts.{Counts}
 use Rattle.policy_image.specs.declared.records.Record.{Record}
 use Rattle.policy_image.specs.Encoding.{countBytes, recordBytes}
+use Rattle.policy_image.specs.inner.Sizes.{stride}
 
 module _ (P : ℕ → ℕ → Type 0) {old : List ℕ} {at a b : ℕ} where
   pub put-two : at + 2 ≤ length old → P 0 a → P 1 b → Filled P old (set (set old at a) (at + 1) b) at 0 2
@@ -38,11 +39,13 @@ counts-put c F G = fill-then (λ j v. v ≡ byteAt (countBytes c) j) F G refl (o
     means (suc (suc j)) v h e = absurd (omega arith)
 
 -- a record's next, its bytes, its mask
-pub record-put : (r : Record) {old mid late new : List ℕ} {at : ℕ} → Filled (λ j v. v ≡ byteAt (low16 (r .next)) j) old mid at 0 2
+pub record-put : (r : Record) {old mid late new : List ℕ} {at place : ℕ} → at ≡ place → Filled (λ j v. v ≡ byteAt (low16 (r .next)) j) old mid at 0 2
     → Filled (λ j v. v ≡ byteAt (recordBytes r) (2 + j)) mid late (at + 2) 0 6 → Filled (λ j v. v ≡ byteAt (low32 (r .mask)) j) late new (at + 8) 0 4
-    → Filled (λ j v. v ≡ byteAt (recordBytes r) j) old new at 0 12
-unfolding recordBytes
-record-put r F G H = fill-then _ (fill-then _ (fill-map next F) G refl (omega arith) (λ j v h e. e)) H refl (omega arith) mask
+    → Filled (λ j v. v ≡ byteAt (recordBytes r) j) old new place 0 stride
+unfolding recordBytes stride
+record-put r {old} {new} e F G H =
+    subst (λ (x : ℕ). Filled (λ j v. v ≡ byteAt (recordBytes r) j) old new x 0 stride) e
+    (fill-then _ (fill-then _ (fill-map next F) G refl (omega arith) (λ j v h q. q)) H refl (omega arith) mask)
   where
     next : (j v : ℕ) → j < 2 → v ≡ byteAt (low16 (r .next)) j → v ≡ byteAt (recordBytes r) j
     next zero v h e = e

@@ -2,9 +2,8 @@
 pub mod answer;
 
 use policy_image::counts::Counts;
-use policy_image::counts::HEADER;
-use policy_image::counts::RECORD;
 use policy_image::records::Record;
+use policy_image::sizes::record_start;
 ghost use mathlib.Core.Path.{_≡_};
 ghost use Prim.Native.Nat.{_+_, _≤_, _<_};
 ghost use lib.ListN.{length, getD};
@@ -12,9 +11,9 @@ ghost use Rattle.base.specs.Bytes.{byteAt};
 ghost use Rattle.base.specs.Ranges.{Within};
 ghost use Rattle.base.specs.inner.Fill.{Filled};
 ghost use Rattle.base.specs.Writing.{low16, low32};
-ghost use Rattle.policy_image.specs.Layout.{recordStart};
 ghost use Rattle.policy_image.specs.inner.Reading.{Bytes};
 ghost use Rattle.policy_image.specs.Encoding.{countBytes, headerBytes, recordBytes};
+ghost use Rattle.policy_image.specs.inner.Sizes.{headerSize, stride, startOf, mostRecords};
 ghost use Rattle.policy_image.specs.inner.Writable.{headStart, WritableCounts, WritableHeads, WritableRecord};
 
 // Writes the two low bytes of n, low byte first.
@@ -40,7 +39,7 @@ fn put_u32(out: &mut [u8], at: usize, n: u32)
 
 // Writes T, R, U, C and N.
 pub fn put_counts(out: &mut [u8], c: Counts)
-    requires { ⌜ (24 ≤ length (now out)) × WritableCounts c ⌝ }
+    requires { ⌜ (6 ≤ length (now out)) × WritableCounts c ⌝ }
     ensures { λ _. ⌜ Filled (λ j v. v ≡ byteAt (countBytes c) j) (now (out .entry)) (now (out .exit)) 0 0 6 ⌝ }
 {
     out[0] = c.types as u8;
@@ -52,7 +51,7 @@ pub fn put_counts(out: &mut [u8], c: Counts)
 
 // Writes the head of the chain of kind k.
 pub fn put_head(out: &mut [u8], k: usize, head: usize)
-    requires { ⌜ (24 ≤ length (now out)) × Within 1 9 k × (head < 65536) ⌝ }
+    requires { ⌜ (headStart k + 2 ≤ length (now out)) × Within 1 9 k × (head < 65536) ⌝ }
     ensures { λ _. ⌜ Filled (λ j v. v ≡ byteAt (low16 head) j) (now (out .entry)) (now (out .exit)) (headStart k) 0 2 ⌝ }
 {
     put_u16(out, 4 + 2 * k, head as u32);
@@ -60,8 +59,8 @@ pub fn put_head(out: &mut [u8], k: usize, head: usize)
 
 // Writes the header: the counts, and for each kind k from 1 to 9 its head, heads[k].
 pub fn put_header(out: &mut [u8], c: Counts, heads: &[usize; 10])
-    requires { ⌜ (24 ≤ length (now out)) × WritableCounts c × WritableHeads (λ k. getD (now heads) k 0) ⌝ }
-    ensures { λ _. ⌜ Filled (λ j v. v ≡ byteAt (headerBytes c (λ k. getD (now (heads .entry)) k 0)) j) (now (out .entry)) (now (out .exit)) 0 0 24 ⌝ }
+    requires { ⌜ (headerSize ≤ length (now out)) × WritableCounts c × WritableHeads (λ k. getD (now heads) k 0) ⌝ }
+    ensures { λ _. ⌜ Filled (λ j v. v ≡ byteAt (headerBytes c (λ k. getD (now (heads .entry)) k 0)) j) (now (out .entry)) (now (out .exit)) 0 0 headerSize ⌝ }
 {
     put_counts(out, c);
     let mut k: usize = 1;
@@ -86,10 +85,10 @@ fn put_fields(out: &mut [u8], at: usize, r: Record)
 
 // Writes record k.
 pub fn put_record(out: &mut [u8], k: usize, r: Record)
-    requires { ⌜ Within 1 4095 k × (recordStart k + 12 ≤ length (now out)) × WritableRecord r ⌝ }
-    ensures { λ _. ⌜ Filled (λ j v. v ≡ byteAt (recordBytes r) j) (now (out .entry)) (now (out .exit)) (recordStart k) 0 12 ⌝ }
+    requires { ⌜ Within 1 mostRecords k × (startOf k + stride ≤ length (now out)) × WritableRecord r ⌝ }
+    ensures { λ _. ⌜ Filled (λ j v. v ≡ byteAt (recordBytes r) j) (now (out .entry)) (now (out .exit)) (startOf k) 0 stride ⌝ }
 {
-    let at = HEADER + RECORD * (k - 1);
+    let at = record_start(k);
     put_u16(out, at, r.next as u32);
     put_fields(out, at + 2, r);
     put_u32(out, at + 8, r.mask);

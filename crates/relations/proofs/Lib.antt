@@ -1,3 +1,4 @@
 pub mod Cases
 pub mod Uniting
 pub mod SourceLaws
+pub mod CountedLaws

@@ -10,7 +10,7 @@ use Rattle.base.specs.Bits.{bit}
 use Rattle.base.specs.Questions.{AllYes}
 use Rattle.base.proofs.BoolLaws.{and-first, and-second, and-true, same-truth}
 use Rattle.policy_image.specs.Policy.{Policy, policyOf}
-use Rattle.policy_links.proofs.KindLaws.{some-record, every-record}
+use Rattle.policy_links.proofs.KindLaws.{counted-record, every-record}
 use Rattle.policy_sources.specs.Sources.{domain, AllowsFromDomains}
 use Rattle.policy_check.specs.Questions.{policyQuestions}
 use Rattle.policy_check.proofs.AnswerLaws.{sound}
@@ -21,9 +21,9 @@ module _ (p : Policy) (F : AllowsFromDomains p) (t1 t2 : ℕ) (e : Event) where
   pub allowed-domain : allowed p t1 t2 e ≡ true → domain p t1 ≡ true
   unfolding allowed
   allowed-domain h =
-      let r = some-record p 4 (λ r. (eqb (r .a) t1 && (eqb (targetOf r) t2 && eqb (r .c) (e .class))) && bit (r .mask) (e .perm)) h in
+      let r = counted-record p 4 (λ r. (eqb (r .a) t1 && (eqb (targetOf r) t2 && eqb (r .c) (e .class))) && bit (r .mask) (e .perm)) h in
       let s = p .rec (r .0) in
-      let fits = and-first (eqb (s .a) t1 && (eqb (targetOf s) t2 && eqb (s .c) (e .class))) (bit (s .mask) (e .perm)) (r .2) in
+      let fits = and-first (eqb (s .a) t1 && (eqb (targetOf s) t2 && eqb (s .c) (e .class))) (bit (s .mask) (e .perm)) (r .3) in
       let source = eqb-true (s .a) t1 (and-first (eqb (s .a) t1) (eqb (targetOf s) t2 && eqb (s .c) (e .class)) fits) in
       subst (λ (t : ℕ). domain p t ≡ true) source (every-record p 4 (λ r. domain p (r .a)) F (r .0) (r .1))
 

@@ -6,7 +6,7 @@ use lib.Dec.{eqb}
 use Rattle.base.specs.Bits.{bit}
 use Rattle.policy_image.specs.declared.records.Record.{Record}
 use Rattle.policy_image.specs.Policy.{Policy}
-use Rattle.policy_image.specs.OfKind.{some}
+use Rattle.policy_image.specs.OfKind.{some, someCounted}
 use Rattle.policy_sources.specs.Sources.{domain}
 use Rattle.context.specs.declared.Event.{Event}
 
@@ -28,9 +28,9 @@ readLike p e = flowsAs p 2 e
 abbrev pub targetOf : Record → ℕ
 targetOf r = cond (eqb (r .b) 0) (r .a) (r .b)
 
--- "4: source type a may act on target type b in class c with mask"
+-- "4: source type a may act on target type b in class c with mask", by an allow record that counts
 unfoldable pub allowed : Policy → ℕ → ℕ → Event → Bool
-allowed p t1 t2 e = some p 4 (λ r. (eqb (r .a) t1 && (eqb (targetOf r) t2 && eqb (r .c) (e .class))) && bit (r .mask) (e .perm))
+allowed p t1 t2 e = someCounted p 4 (λ r. (eqb (r .a) t1 && (eqb (targetOf r) t2 && eqb (r .c) (e .class))) && bit (r .mask) (e .perm))
 
 -- "α(t1,t2,c,p): t1 is a domain, (c,p) is in Γ, and an allow record gives it."
 unfoldable pub α : Policy → ℕ → ℕ → Event → Bool

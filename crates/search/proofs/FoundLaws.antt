@@ -55,8 +55,8 @@ module _ {s plan : List ℕ} {t : Task} (A : Given s plan t) where
       let c = r .user .high in
       rw q (omega (arith, N .types), omega (arith, N .roles), omega (arith, N .users))
 
-  pub found-start : {y c : ℕ} {x : Context} → SownStart s plan t y → x ≡ contextAtIndex n y → c ≡ contextCode x → FoundStart s plan t c
+  pub found-start : {queue back : List ℕ} {y tail c : ℕ} {x : Context} → SownStart s plan t queue back y tail → x ≡ contextAtIndex n y → c ≡ contextCode x → FoundStart s plan t c
   unfolding codeAt
-  found-start {y} {c} {x} S q p =
+  found-start {y = y} {c = c} {x} S q p =
       let k : codeAt n y ≡ c = ap contextCode (sym q) ∙ sym p in
       record { bad = subst (BadStart M W) k (S .bad); least = least-start M n W (statesIn t) (bounded A) (S .bad) }

@@ -21,6 +21,7 @@ use search_steps::pairs::step_pairs;
 use search_steps::sweep::sweep_of;
 ghost use Rattle.search_graph.specs.inner.State.{Inv};
 ghost use Rattle.search_graph.specs.inner.Tasks.{Given, graphOf};
+ghost use Rattle.search_graph.specs.inner.Visits.{Visited};
 ghost use Rattle.search.specs.inner.Found.{Searched};
 
 // A step into a bad end: the node it is from, its event, the end's node, and the number of steps to the node it is from.
@@ -36,6 +37,12 @@ pub enum LeastEnd {
     Nothing,
     Start(u32),
     At(LastStep),
+}
+
+// What a search found, and how many nodes it visited: as many places of the queue list them.
+pub struct Sought {
+    pub found: LeastEnd,
+    pub visited: usize,
 }
 
 // A bound that is no bound: there are fewer nodes than that, and a shortest path to an end has no more steps than there are nodes.
@@ -54,9 +61,9 @@ pub fn search_levels(
     seeded: usize,
     queue: &mut [u32],
     back: &mut [u32],
-) -> LeastEnd
+) -> Sought
     requires { ⌜ Given (now policy) (now plan) task × Inv (graphOf (now policy) (now plan) task) (now back) (now queue) 0 seeded seeded 0 ⌝ }
-    ensures { λ r. ⌜ Searched (graphOf (now (policy .entry)) (now (plan .entry)) task) bound (now (back .exit)) r ⌝ }
+    ensures { λ r. ⌜ Searched (graphOf (now (policy .entry)) (now (plan .entry)) task) bound (now (back .exit)) (r .found) × Visited (now (queue .exit)) (now (back .exit)) (r .visited) ⌝ }
 {
     let counts = task.counts;
     let pairs = counts.roles * counts.users;
@@ -73,7 +80,10 @@ pub fn search_levels(
     let mut depth: u32 = 0;
     'search: loop {
         if tail <= head {
-            break 'search LeastEnd::Nothing;
+            break 'search Sought {
+                found: LeastEnd::Nothing,
+                visited: tail,
+            };
         }
         if head == level_end {
             depth += 1;
@@ -81,7 +91,10 @@ pub fn search_levels(
         }
         // a step from here arrives after depth + 1 steps
         if bound <= depth {
-            break 'search LeastEnd::Nothing;
+            break 'search Sought {
+                found: LeastEnd::Nothing,
+                visited: tail,
+            };
         }
         let u = queue[head];
         let node = take_up(plan, task, u, &spent);
@@ -97,12 +110,15 @@ pub fn search_levels(
             while k < PAIRS_END {
                 match arrive(plan, task, state, sweep.sets, sweep.ty, sweep.start + k) {
                     Arrival::Broken(v) => {
-                        break 'search LeastEnd::At(LastStep {
-                            from: u,
-                            event: sweep.event,
-                            to: v,
-                            depth: depth,
-                        });
+                        break 'search Sought {
+                            found: LeastEnd::At(LastStep {
+                                from: u,
+                                event: sweep.event,
+                                to: v,
+                                depth: depth,
+                            }),
+                            visited: tail,
+                        };
                     }
                     Arrival::Dropped => {}
                     Arrival::Enter(v) => {

@@ -11,7 +11,7 @@ use lib.Pow.{pow-pos, pow-lt}
 use Rattle.base.specs.Bits.{bit}
 use Rattle.base.proofs.BoolLaws.{clash, and-true, and-first, and-second, to-true, of-true}
 use Rattle.policy_image.specs.declared.counts.Counts.{Counts}
-use Rattle.policy_image.specs.Policy.{Policy, policyOf}
+use Rattle.policy_image.specs.Policy.{Policy}
 use Rattle.context.specs.declared.Context.{Context}
 use Rattle.context.specs.Codes.{contextOf, eventOf}
 use Rattle.context.specs.inner.Places.{contextCount, contextAtIndex, OfType}
@@ -23,11 +23,12 @@ use Rattle.goal_model.specs.Images.{meetsρμ}
 use Rattle.plan.specs.inner.Entries.{eventSetsAt}
 use Rattle.plan.specs.inner.Plan.{PlanCounts, PolicyPlan}
 use Rattle.plan.specs.inner.Sets.{setsOf}
+use Rattle.plan.specs.inner.Meets.{heldBy}
 use Rattle.search_steps.specs.declared.nearest.Asker.{Asker}
 use Rattle.search_steps.specs.declared.nearest.Offer.{Offer}
-use Rattle.search_steps.specs.inner.Steps.{heldBy, NextOffer}
+use Rattle.search_steps.specs.inner.Steps.{NextOffer}
 use Rattle.search_steps.proofs.FlowLaws.{flow-held}
-use Rattle.search_steps.proofs.OfferLaws.{held-is}
+use Rattle.plan.proofs.MeetsLaws.{held-is}
 use Rattle.search_graph.specs.declared.arrival.Arrival.{Arrival}
 use Rattle.search_graph.specs.declared.arrival.Arrival.the-variants.{Enter, Dropped, Broken}
 use Rattle.search_graph.specs.declared.task.Task.{Task}
@@ -129,9 +130,9 @@ arriving {plan} {t} {y = y} r C h S st a =
     }
 
 -- ---- the first step
-pub asks-of : {s : List ℕ} {n : Counts} {plan : List ℕ} {o y : ℕ} {b : Bool} → PolicyPlan s n plan → OfType n o y → b ≡ asksBy n plan o y
-    → Asks (policyOf s) n plan (contextAtIndex n y) b
-asks-of {s} {n} {plan} {o} {y} {b} P H q =
+pub asks-of : {p : Policy} {n : Counts} {plan : List ℕ} {o y : ℕ} {b : Bool} → PolicyPlan p n plan → OfType n o y → b ≡ asksBy n plan o y
+    → Asks p n plan (contextAtIndex n y) b
+asks-of {p} {n} {plan} {o} {y} {b} P H q =
     record {
       free = λ k. not-true (excepted n plan x) (and-first (not (excepted n plan x)) (heldBy n plan o y) (sym q ∙ k));
       meets = λ k. sym held ∙ and-second (not (excepted n plan x)) (heldBy n plan o y) (sym q ∙ k);
@@ -141,7 +142,7 @@ asks-of {s} {n} {plan} {o} {y} {b} P H q =
     x : Context
     x = contextAtIndex n y
 
-    held : heldBy n plan o y ≡ meetsρμ (policyOf s) (contextAtIndex n y)
+    held : heldBy n plan o y ≡ meetsρμ p (contextAtIndex n y)
     held = held-is P H
 
 module _ {p : Policy} {n : Counts} {plan swept : List ℕ} {a : Asker} {x : Context} {b : Bool} (A : Asks p n plan x b) where

@@ -38,7 +38,7 @@ given {l = l} R L some few m =
       ready = R;
       planned = L;
       readable = record {
-        sets = record { counts = plan-counts R; falls = L .falls; size = L .policy .size };
+        sets = record { counts = plan-counts R; falls = L .falls; size = L .size };
         some-leg = some;
         few-legs = few;
         nodes = few-nodes R (stateBits m (l .count)) (bits-few m few);

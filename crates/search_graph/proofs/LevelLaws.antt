@@ -22,7 +22,7 @@ use Rattle.access.specs.Authorization.{flow}
 use Rattle.paths.specs.Model.{Model}
 use Rattle.paths.proofs.Any.{and-T, not-true}
 use Rattle.goal_model.specs.Images.{inRange}
-use Rattle.plan.specs.inner.Plan.{PlanCounts}
+use Rattle.plan.specs.inner.Plan.{PlanCounts, ruled}
 use Rattle.search_graph.specs.declared.task.Task.{Task}
 use Rattle.search_graph.specs.inner.Graph.{Graph, Chain, Chain.root, Chain.link, FoundAt}
 use Rattle.search_graph.specs.inner.State.{Turn, Clear, Through}
@@ -158,9 +158,9 @@ module _ {s plan : List ℕ} {t₀ : Task} (A : Given s plan t₀) where
     here : contextOf (codeOf n K u) ≡ x
     here = code-of-place N (S .below) ∙ sym (S .place)
 
-    pub edge-flow : {e w : ℕ} → w < G .k → G .Edge u e w → flow (policyOf s) (eventOf e) x (contextAtIndex n (placeOf K w)) ≡ true
+    pub edge-flow : {e w : ℕ} → w < G .k → G .Edge u e w → flow (ruled s plan) (eventOf e) x (contextAtIndex n (placeOf K w)) ≡ true
     edge-flow {e} {w} lw ed =
-        ap₂ (flow (policyOf s) (eventOf e)) (sym here) (sym (code-of-place N (place-lt (states-some t₀) lw)))
+        ap₂ (flow (ruled s plan) (eventOf e)) (sym here) (sym (code-of-place N (place-lt (states-some t₀) lw)))
         ∙ to-true (M .flowBy (codeOf n K u) e (codeOf n K w)) (ed .edge .flows)
 
     pub edge-free : {e w : ℕ} → G .Edge u e w → excepted n plan x ≡ false
@@ -215,13 +215,13 @@ module _ {s plan : List ℕ} {t₀ : Task} (A : Given s plan t₀) where
             (in-range-T (subst (λ (k : Counts). ContextInRange k (contextAtIndex n y)) same-counts (at-place h))))
 
         pub edge-at : ¬ T (M .σ (M .legs) (codeOf n K u)) → excepted n plan x ≡ false → barred plan e ≡ false
-            → flow (policyOf s) (eventOf e) x (contextAtIndex n y) ≡ true → (T (M .σ (M .legs) (codeAt n y)) → T (W .bad (dest e y))) → G .Edge u e v
+            → flow (ruled s plan) (eventOf e) x (contextAtIndex n y) ≡ true → (T (M .σ (M .legs) (codeAt n y)) → T (W .bad (dest e y))) → G .Edge u e v
         edge-at first free freeE flows k =
             record {
               edge = record {
                 into = target;
                 flows = of-true _
-                    (ap₂ (flow (policyOf s) (eventOf e)) here (ap (λ (z : ℕ). contextOf (codeAt n z)) at-v ∙ code-of-place N h) ∙ flows);
+                    (ap₂ (flow (ruled s plan) (eventOf e)) here (ap (λ (z : ℕ). contextOf (codeAt n z)) at-v ∙ code-of-place N h) ∙ flows);
                 first = first;
                 free = λ z. clash (to-true (M .σe (codeOf n K u)) z) (ap (excepted n plan) here ∙ free);
                 freeE = λ z. clash (to-true (M .γe e) z) freeE;
@@ -311,7 +311,7 @@ module _ {s plan : List ℕ} {t₀ : Task} (A : Given s plan t₀) where
           seen z = block-pass ((y + 1) * K) t (only-v e y h (L .node) small) (record { open-end = enter-open; seen = z })
 
         -- .. and where it is
-        module _ (le : e < 1024) (Q : AskedStep n plan x e) (F : Faced (policyOf s) n plan x e y) where
+        module _ (le : e < 1024) (Q : AskedStep n plan x e) (F : Faced (ruled s plan) n plan x e y) where
           to-node : {v : ℕ} → v ≡ y * K + dest e y → dest e y < K → (T (M .σ (M .legs) (codeAt n y)) → T (W .bad (dest e y))) → G .Edge u e v
           to-node q few k = edge-at e y h q few (chain-open (turn-chain t)) (Q .free le) (F .free h) (F .flows h) k
 

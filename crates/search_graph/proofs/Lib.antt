@@ -1,8 +1,10 @@
 pub mod SearchLaws
+pub mod VisitLaws
 pub mod NodeLaws
 pub mod ModelLaws
 pub mod WatchLaws
 pub mod ArrivalLaws
 pub mod LevelLaws
+pub mod StartLaws
 pub mod SeedLaws
 pub mod GivenLaws

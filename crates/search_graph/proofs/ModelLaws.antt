@@ -25,6 +25,7 @@ use Rattle.paths.proofs.Bounds.{top, one-lt}
 use Rattle.goal_image.specs.declared.check.Legs.{Legs}
 use Rattle.goal_model.specs.Images.{inRange}
 use Rattle.plan.specs.inner.Plan.{Ready}
+use Rattle.plan.specs.inner.Entries.{countedAt}
 use Rattle.search_steps.proofs.FlowLaws.{flow-code}
 use Rattle.search_graph.specs.declared.monitor.Mode.{Mode}
 use Rattle.search_graph.specs.declared.monitor.Mode.the-variants.{Order, Events, Any}
@@ -74,7 +75,7 @@ module _ {s plan : List ℕ} {t : Task} (A : Given s plan t) where
   M = modelBy s plan t
 
   code : (x e y : ℕ) → T (M .flowBy x e y) → e < 1024
-  code x e y k = flow-code {s = s} e (contextOf x) (contextOf y) (A .ready .sound) (to-true (M .flowBy x e y) k)
+  code x e y k = flow-code {s = s} (countedAt plan) e (contextOf x) (contextOf y) (A .ready .sound) (to-true (M .flowBy x e y) k)
 
   enough : (m : Mode) → Bounded M (t .counts) (watchOf m M) (2 ^ stateBits m (M .legs))
   enough Order =

@@ -12,6 +12,7 @@ use lib.Seq.{getD-set-same, getD-set-other}
 use Rattle.base.proofs.Numbers.{below-or}
 use Rattle.search_graph.specs.inner.Graph.{Graph, GraphReach, GraphReach.begin, GraphReach.step, Chain, Chain.root, Chain.link, Breaks, FoundAt, NoneFound}
 use Rattle.search_graph.specs.inner.State.{mark, marks, InQueue, Clear, Through, Inv, Turn, Root, Seeding}
+use Rattle.search_graph.specs.inner.Visits.{Cleared, Visited}
 
 below-suc : {i n : ℕ} → i < suc n → (i ≡ n) ⊎ (i < n)
 below-suc l = eq-or-lt-of-le (le-of-suc-le-suc l)
@@ -126,7 +127,8 @@ push {g} {back} {queue} {head} {tail} {stop} {depth} v x i here lv z nz ch =
       count = omega (arith, marks-set back (g .k) v x lv v-in z nz, i .count);
       full = omega (arith, left);
       deep = λ h. i .deep (omega (arith, i .stop-tail));
-      listed = λ w lw nw. listed′ w lw nw (ℕ-discrete w v);
+      inside = λ j l. ⊎-elim (λ (q : j ≡ tail). rw (q, top) lv) (λ (lt : j < tail). rw (same j lt) (i .inside j lt)) (below-or l);
+      listed = λ w nw. listed′ w nw (ℕ-discrete w v);
       chains = λ j lo hi. rw (same j (omega (arith, i .stop-tail))) (chain-keep v x z (i .chains j lo hi));
       chains-next = λ j lo hi. ⊎-elim (λ (q : j ≡ tail). rw (q, top) ch) (λ (lt : j < tail). rw (same j lt) (chain-keep v x z (i .chains-next j lo lt))) (below-or hi);
       past = λ d u l r. in-push tail v (omega (arith, i .stop-tail, i .head-stop)) (i .past d u l r);
@@ -146,10 +148,10 @@ push {g} {back} {queue} {head} {tail} {stop} {depth} v x i here lv z nz ch =
     same : (j : ℕ) → j < tail → getD (set queue tail v) j 0 ≡ getD queue j 0
     same j l = getD-set-other queue tail j v 0 (λ q. omega arith)
 
-    listed′ : (w : ℕ) → w < g .k → (getD (set back v x) w 0 ≡ 0 → ⊥) → Dec (w ≡ v) → InQueue (set queue tail v) (tail + 1) w
-    listed′ w lw nw (yes q) = record { place = tail; below = omega arith; holds = top ∙ sym q }
-    listed′ w lw nw (no ne) =
-        in-more (omega arith) (in-push tail v (le-refl tail) (i .listed w lw (λ e. nw (getD-set-other back v w x 0 ne ∙ e))))
+    listed′ : (w : ℕ) → (getD (set back v x) w 0 ≡ 0 → ⊥) → Dec (w ≡ v) → InQueue (set queue tail v) (tail + 1) w
+    listed′ w nw (yes q) = record { place = tail; below = omega arith; holds = top ∙ sym q }
+    listed′ w nw (no ne) =
+        in-more (omega arith) (in-push tail v (le-refl tail) (i .listed w (λ e. nw (getD-set-other back v w x 0 ne ∙ e))))
 
 -- the level is done, and the next one is not empty
 pub enter : {g : Graph} {back queue : List ℕ} {head tail stop depth : ℕ} → Inv g back queue head tail stop depth → head ≡ stop → head < tail → Inv g back queue head tail tail (depth + 1)
@@ -162,6 +164,7 @@ enter {g} {back} {queue} {head} {tail} {stop} {depth} i at more =
       count = i .count;
       full = i .full;
       deep = λ h. omega (arith, i .deep more);
+      inside = i .inside;
       listed = i .listed;
       chains = λ j lo hi. rw add-one (i .chains-next j (omega arith) hi);
       chains-next = λ j lo hi. absurd (omega arith);
@@ -173,7 +176,7 @@ enter {g} {back} {queue} {head} {tail} {stop} {depth} i at more =
     next : {d u : ℕ} → d ≤ depth + 1 → GraphReach g d u → InQueue queue tail u
     next l (begin {v} lv s) = in-more (i .stop-tail) (i .level zero v (omega arith) (begin lv s))
     next l (step {d} {u} {e} {v} r le lv ed ne) =
-        i .listed v lv (onward i (in-more (omega arith) (i .level d u (omega arith) r)) le lv ed .seen)
+        i .listed v (onward i (in-more (omega arith) (i .level d u (omega arith) r)) le lv ed .seen)
 
 -- the turn of the node at `head` begins
 pub take-up : {g : Graph} {back queue : List ℕ} {head tail stop depth : ℕ} → Inv g back queue head tail stop depth → head < stop → Turn g back queue head tail stop depth (getD queue head 0) 0 0
@@ -246,6 +249,7 @@ end-turn {g} {back} {queue} {head} {tail} {stop} {depth} {u} t l =
       count = i .count;
       full = i .full;
       deep = λ h. i .deep (omega arith);
+      inside = i .inside;
       listed = i .listed;
       chains = λ j lo hi. i .chains j (omega arith) hi;
       chains-next = i .chains-next;
@@ -264,7 +268,7 @@ nothing {g} {back} {queue} {head} {tail} i h =
   where
     all : {d u : ℕ} → GraphReach g d u → InQueue queue head u
     all (begin {v} lv s) = in-more (omega (arith, i .stop-tail)) (i .level zero v (omega arith) (begin lv s))
-    all (step {v} r le lv ed ne) = in-more h (i .listed v lv (onward i (all r) le lv ed .seen))
+    all (step {v} r le lv ed ne) = in-more h (i .listed v (onward i (all r) le lv ed .seen))
 
 -- the level's steps would arrive beyond the bound. All levels before it are done, and there are more nodes than levels
 pub stopped : {g : Graph} {back queue : List ℕ} {head tail stop depth b : ℕ} → Inv g back queue head tail stop depth → head < tail → b ≤ depth → NoneFound g b
@@ -313,27 +317,6 @@ marks-next back v x n l m =
     (let here : mark (getD (set back v x) v 0) ≡ n = ap mark (getD-set-same back v x 0 l) ∙ m in
     omega (arith, marks-out back v v x (le-refl v)))
 
-pub seed-skip : {g : Graph} {back queue : List ℕ} {tail v : ℕ} → Seeding g back queue tail v → v < g .k → (g .Start v → ⊥) → Seeding g (set back v 0) queue tail (v + 1)
-seed-skip {g} {back} {queue} {tail} {v} s lv ns =
-    record {
-      back-room = simp length-set (s .back-room);
-      queue-room = s .queue-room;
-      within = omega arith;
-      count = omega (arith, marks-next back v 0 0 v-in (mark-zero 0 refl), s .count);
-      full = omega (arith, s .full);
-      listed = λ w l nz. ⊎-elim (λ (q : w ≡ v). absurd (nz (rw q (getD-set-same back v 0 0 v-in)))) (λ (lt : w < v). s .listed w lt (λ e. nz (other w lt ∙ e))) (below-or l);
-      roots = λ i l. root-keep v 0 (s .old i l) (s .roots i l);
-      old = λ i l. omega (arith, s .old i l);
-      rising = s .rising;
-      starts = λ w l st. ⊎-elim (λ (q : w ≡ v). absurd (ns (subst (g .Start) q st))) (λ (lt : w < v). λ e. s .starts w lt st (sym (other w lt) ∙ e)) (below-or l);
-    }
-  where
-    v-in : v < length back
-    v-in = omega (arith, s .back-room)
-
-    other : (w : ℕ) → w < v → getD (set back v 0) w 0 ≡ getD back w 0
-    other w l = getD-set-other back v w 0 0 (λ q. omega arith)
-
 pub seed-visit : {g : Graph} {back queue : List ℕ} {tail v : ℕ} → Seeding g back queue tail v → v < g .k → g .Start v → Seeding g (set back v (g .k + 1)) (set queue tail v) (tail + 1) (v + 1)
 seed-visit {g} {back} {queue} {tail} {v} s lv st =
     record {
@@ -364,8 +347,25 @@ seed-visit {g} {back} {queue} {tail} {v} s lv st =
     other : (w : ℕ) → w < v → getD (set back v (g .k + 1)) w 0 ≡ getD back w 0
     other w l = getD-set-other back v w (g .k + 1) 0 (λ q. omega arith)
 
-pub seed-end : {g : Graph} {back queue : List ℕ} {tail v : ℕ} → Seeding g back queue tail v → g .k ≤ v → Inv g back queue 0 tail tail 0
-seed-end {g} {back} {queue} {tail} {v} s l =
+-- the queue lists what is visited
+pub seed-visited : {g : Graph} {back queue : List ℕ} {tail v : ℕ} → Seeding g back queue tail v → Cleared back v → Visited queue back tail
+seed-visited {back = back} {queue} {tail} {v} s C =
+    record {
+      room = omega (arith, s .full, s .within, s .queue-room);
+      inside = λ i h. omega (arith, s .old i h, s .within, s .back-room);
+      listed = λ w nz. listed′ w nz (decLe v w);
+    }
+  where
+    listed′ : (w : ℕ) → (getD back w 0 ≡ 0 → ⊥) → Dec (v ≤ w) → InQueue queue tail w
+    listed′ w nz (yes h) = absurd (nz (C .at w h))
+    listed′ w nz (no h) = s .listed w (omega arith) nz
+
+pub inv-visited : {g : Graph} {back queue : List ℕ} {head tail stop depth : ℕ} → Inv g back queue head tail stop depth → Visited queue back tail
+inv-visited i =
+    record { room = omega (arith, i .full, i .queue-room); inside = λ j l. omega (arith, i .inside j l, i .back-room); listed = i .listed }
+
+pub seed-end : {g : Graph} {back queue : List ℕ} {tail v : ℕ} → Seeding g back queue tail v → g .k ≤ v → Cleared back v → Inv g back queue 0 tail tail 0
+seed-end {g} {back} {queue} {tail} {v} s l C =
     record {
       back-room = s .back-room;
       queue-room = s .queue-room;
@@ -374,7 +374,8 @@ seed-end {g} {back} {queue} {tail} {v} s l =
       count = subst (λ (n : ℕ). marks back n ≡ tail) all (s .count);
       full = omega (arith, s .full);
       deep = λ h. h;
-      listed = λ w lw nz. s .listed w (omega arith) nz;
+      inside = λ i h. omega (arith, s .old i h);
+      listed = seed-visited s C .listed;
       chains = λ i lo hi. let r : Root g back (getD queue i 0) = s .roots i hi in root (r .bound) (r .starts) (r .parent);
       chains-next = λ i lo hi. absurd (omega arith);
       past = λ d u l. absurd (omega arith);

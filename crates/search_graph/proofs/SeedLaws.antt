@@ -1,10 +1,11 @@
 -- The starts of a search: what the context at each place comes to, and how the code keeps what is known.
-use mathlib.Core.Path.{_≡_, sym, _∙_, ap, ap₂, subst}
+use mathlib.Core.Path.{_≡_, refl, sym, _∙_, ap, ap₂, subst}
 use mathlib.Core.Bool.{Bool, true, false, not}
 use mathlib.Core.List.{List, []}
 use mathlib.Core.Logic.{⊎-elim}
 use Prim.Native.Nat.{ℕ, _+_, _*_, _^_, _≤_, _<_}
 use native.Mathlib.Nat.{mul-le-mul-right, zero-mul, lt-of-lt-of-le}
+use native.Mathlib.Decide.{decLe}
 use native.Mathlib.Omega.{arith}
 use borrow.Author.Tests.{not-true, not-false}
 use lib.Arith.{digits-lt}
@@ -14,20 +15,19 @@ use lib.Seq.{getD-set-same, getD-set-other}
 use Rattle.base.specs.Bits.{bit}
 use Rattle.policy_image.specs.declared.counts.Counts.{Counts}
 use Rattle.policy_image.specs.Layout.{countsOf}
-use Rattle.policy_image.specs.Policy.{policyOf}
 use Rattle.context.specs.declared.Context.{Context}
 use Rattle.context.specs.Codes.{contextOf}
 use Rattle.context.specs.Ranges.{ContextInRange}
-use Rattle.context.specs.inner.Places.{contextCount, contextAtIndex, OfType}
+use Rattle.context.specs.inner.Places.{contextCount, contextAtIndex, firstPlace, OfType}
 use Rattle.context.proofs.PlaceLaws.{at-in-range}
 use Rattle.paths.specs.Model.{Model}
 use Rattle.paths.specs.inner.Monitor.{Start}
 use Rattle.goal_model.specs.Images.{inRange, meetsρμ}
-use Rattle.plan.specs.inner.Plan.{PlanCounts}
+use Rattle.plan.specs.inner.Plan.{PlanCounts, ruled}
 use Rattle.plan.specs.inner.Sets.{setsOf}
-use Rattle.context.proofs.TypeLaws.{of-below}
-use Rattle.search_steps.specs.inner.Steps.{heldBy}
-use Rattle.search_steps.proofs.OfferLaws.{held-is}
+use Rattle.plan.specs.inner.Meets.{heldBy}
+use Rattle.context.proofs.TypeLaws.{of-below, start-le}
+use Rattle.plan.proofs.MeetsLaws.{held-is}
 use Rattle.search_graph.specs.declared.arrival.Arrival.{Arrival}
 use Rattle.search_graph.specs.declared.arrival.Arrival.the-variants.{Enter, Dropped, Broken}
 use Rattle.search_graph.specs.declared.task.Task.{Task}
@@ -38,8 +38,10 @@ use Rattle.search_graph.specs.inner.Watching.{Started}
 use Rattle.search_graph.specs.inner.Arrivals.{Arrived, Lands}
 use Rattle.base.proofs.Numbers.{below-or}
 use Rattle.search_graph.specs.inner.Tasks.{statesIn, Readable, Given, modelBy, watchBy, graphOf}
-use Rattle.search_graph.specs.inner.Seeds.{Cleared, Roomy, Begins, Beginning, SownNodes, SownStart}
-use Rattle.search_graph.proofs.SearchLaws.{seed-begin, seed-pass, seed-visit, seed-end}
+use Rattle.search_graph.specs.inner.Starts.{NoStart}
+use Rattle.search_graph.specs.inner.Visits.{Cleared}
+use Rattle.search_graph.specs.inner.Seeds.{Roomy, Begins, Beginning, SownNodes, SownStart}
+use Rattle.search_graph.proofs.SearchLaws.{seed-begin, seed-pass, seed-visit, seed-visited, seed-end}
 use Rattle.search_graph.proofs.NodeLaws.{place-of, state-of}
 use Rattle.search_graph.proofs.ModelLaws.{bounded, begin-below, states-some}
 use Rattle.base.proofs.BoolLaws.{clash, to-true, of-true}
@@ -76,13 +78,18 @@ module _ {s plan : List ℕ} {t : Task} (A : Given s plan t) where
     here = code-of-place N h
 
     held : heldBy n plan o y ≡ M .held (codeAt n y)
-    held = held-is (A .planned .policy) H ∙ ap (meetsρμ (policyOf s)) (sym here)
+    held = held-is (A .planned .policy) H ∙ ap (meetsρμ (ruled s plan)) (sym here)
 
     pub no-set : {into : ℕ} {b : Bool} → into ≡ setsOf n plan (contextAtIndex n y) → b ≡ bit into 0 → not b ≡ true → Begins M n W K y Dropped
     no-set {into} {b} S p k z = absurd (clash (to-true (M .σ 0 (codeAt n y)) (z .starts)) (sym (into-of s plan t N h S 0) ∙ sym p ∙ not-true b k))
 
     pub no-held : {b : Bool} → b ≡ heldBy n plan o y → not b ≡ true → Begins M n W K y Dropped
     no-held {b} p k z = absurd (clash (to-true (M .held (codeAt n y)) (z .meets)) (sym held ∙ sym p ∙ not-true b k))
+
+    pub never-start : NoStart n plan o → Start M (codeAt n y) → ⊥
+    never-start Z z =
+        ⊎-elim (λ q. clash (to-true (M .σ 0 (codeAt n y)) (z .starts)) (sym (into-of s plan t N h refl 0) ∙ q))
+        (λ q. clash (to-true (M .held (codeAt n y)) (z .meets)) (sym held ∙ q)) (Z .at y H)
 
     pub start-of : {into : ℕ} {a b : Bool} → into ≡ setsOf n plan (contextAtIndex n y) → a ≡ bit into 0 → not a ≡ false → b ≡ heldBy n plan o y → not b ≡ false → Start M (codeAt n y)
     start-of {into} {a} {b} S p p′ r r′ =
@@ -122,11 +129,11 @@ pub record SowingBy (s plan : List ℕ) (t : Task) (back queue : List ℕ) (tail
   pub seeding : Seeding (graphOf s plan t) back queue tail (y * statesIn t)
   pub none : (z : ℕ) → z < y → BadStart (modelBy s plan t) (watchBy s plan t) (codeAt (t .counts) z) → ⊥
 
-begin-by : {s plan : List ℕ} {t : Task} {queue back : List ℕ} → Given s plan t → Roomy t queue back → {back′ : List ℕ} → length back′ ≡ length back → SowingBy s plan t back′ queue 0 0
-begin-by {s} {plan} {t} {queue} A R {back′} e =
+begin-by : {s plan : List ℕ} {t : Task} {queue back : List ℕ} → Given s plan t → Roomy t queue back → SowingBy s plan t back queue 0 0
+begin-by {s} {plan} {t} {queue} {back} A R =
     record {
       given = A;
-      seeding = subst (λ (k : ℕ). Seeding (graphOf s plan t) back′ queue 0 k) (sym (zero-mul (statesIn t))) (seed-begin back′ queue (omega (arith, R .back-room)) (R .queue-room));
+      seeding = subst (λ (k : ℕ). Seeding (graphOf s plan t) back queue 0 k) (sym (zero-mul (statesIn t))) (seed-begin back queue (R .back-room) (R .queue-room));
       none = λ z h. absurd (omega arith);
     }
 
@@ -146,7 +153,25 @@ module _ {s plan : List ℕ} {t : Task} {back queue : List ℕ} {tail y : ℕ} (
   abbrev K₀ : ℕ
   K₀ = statesIn t
 
-  module _ (h : y < contextCount n₀) (C : Cleared back (y * K₀) (contextCount n₀ * K₀)) where
+  -- places that are no starts are passed
+  pass-by : (b : ℕ) → y ≤ b → b ≤ contextCount n₀ → Cleared back (y * K₀) → ((z : ℕ) → y ≤ z → z < b → Start M₀ (codeAt n₀ z) → ⊥)
+      → SowingBy s plan t back queue tail b
+  pass-by b lo hi C k =
+      record {
+        given = S .given;
+        seeding = seed-pass (b * K₀) (S .seeding) (mul-le-mul-right K₀ lo) most (λ w l r. C .at w l)
+            (λ w l r st. k (placeOf K₀ w) (place-le (states-some t) l) (place-lt (states-some t) r) (st .begins));
+        none = λ z r Z. none′ z r Z (decLe y z);
+      }
+    where
+      most : b * K₀ ≤ contextCount n₀ * K₀
+      most = mul-le-mul-right K₀ hi
+
+      none′ : (z : ℕ) → z < b → BadStart M₀ W₀ (codeAt n₀ z) → Dec (y ≤ z) → ⊥
+      none′ z r Z (yes l) = k z l r (Z .begins)
+      none′ z r Z (no l) = S .none z (omega arith) Z
+
+  module _ (h : y < contextCount n₀) (C : Cleared back (y * K₀)) where
     block : (y + 1) * K₀ ≤ contextCount n₀ * K₀
     block = let k : y + 1 ≤ contextCount n₀ = omega arith in mul-le-mul-right K₀ k
 
@@ -158,7 +183,7 @@ module _ {s plan : List ℕ} {t : Task} {back queue : List ℕ} {tail y : ℕ} (
         record {
           given = S .given;
           seeding = seed-pass ((y + 1) * K₀) (S .seeding) (omega (arith, next-block y K₀)) block
-              (λ w lo hi. C .at w lo (omega (arith, block)))
+              (λ w lo hi. C .at w lo)
               (λ w lo hi st. let z = starts-at A y w lo hi st in z .1 (N (z .0) .arrives));
           none = more-none (λ b. N (b .begins) .good (b .ends .verdict));
         }
@@ -196,33 +221,25 @@ module _ {s plan : List ℕ} {t : Task} {back queue : List ℕ} {tail y : ℕ} (
             given = S .given;
             seeding = seed-pass ((y + 1) * K₀)
                 (seed-visit
-                (seed-pass v (S .seeding) (omega (arith, node)) (omega (arith, sow-below)) (λ w lo hi. C .at w lo (omega (arith, sow-below)))
+                (seed-pass v (S .seeding) (omega (arith, node)) (omega (arith, sow-below)) (λ w lo hi. C .at w lo)
                 (λ w lo hi st. let q : w ≡ v = only w lo (omega (arith, inside)) st in omega arith))
                 sow-below start-at)
                 (omega (arith, inside)) block
-                (λ w lo hi. getD-set-other back v w (contextCount n₀ * K₀ + 1) 0 (λ q. omega arith) ∙ C .at w (omega (arith, node)) (omega (arith, block)))
+                (λ w lo hi. getD-set-other back v w (contextCount n₀ * K₀ + 1) 0 (λ q. omega arith) ∙ C .at w (omega (arith, node)))
                 (λ w lo hi st. let q : w ≡ v = only w (omega (arith, node)) hi st in omega arith);
             none = more-none (λ b. O .1 .outside (b .ends .arrives));
           }
 
-    broken-by : {v : ℕ} → Begins M₀ n₀ W₀ K₀ y (Broken v) → SownStart s plan t y
-    broken-by Z = record { below = h; bad = record { begins = Z .0; ends = Z .1 .ends } }
+    broken-by : {v : ℕ} → Begins M₀ n₀ W₀ K₀ y (Broken v) → SownStart s plan t queue back y tail
+    broken-by Z = record { visited = seed-visited (S .seeding) C; below = h; bad = record { begins = Z .0; ends = Z .1 .ends } }
 
-  end-by : contextCount n₀ ≤ y → SownNodes s plan t queue back tail
-  end-by h = record { inv = seed-end (S .seeding) (mul-le-mul-right K₀ h); none = none }
+  end-by : contextCount n₀ ≤ y → Cleared back (y * K₀) → SownNodes s plan t queue back tail
+  end-by h C = record { inv = seed-end (S .seeding) (mul-le-mul-right K₀ h) C; none = none }
     where
       none : (x : ℕ) → BadStart M₀ W₀ x → ⊥
       none x b =
           let (z, l, q) = B A .placed x (b .begins .context-at) in
           S .none z (omega arith) (subst (BadStart M₀ W₀) (sym q) b)
-
--- ---- clearing
-pub clear-more : {back : List ℕ} {v : ℕ} → Cleared back 0 v → v < length back → Cleared (set back v 0) 0 (v + 1)
-clear-more {back} {v} C h =
-    record {
-      at = λ w lo hi. ⊎-elim (λ (q : w ≡ v). rw q (getD-set-same back v 0 0 h))
-          (λ (k : w < v). getD-set-other back v w 0 0 (λ q. omega arith) ∙ C .at w lo k) (below-or hi);
-    }
 
 -- .. whatever the policy
 pub record Sowing (plan : List ℕ) (t : Task) (count nodes : ℕ) (back queue : List ℕ) (tail y : ℕ) : Type 0 where
@@ -233,12 +250,12 @@ pub record Sowing (plan : List ℕ) (t : Task) (count nodes : ℕ) (back queue :
   pub below : y ≤ contextCount (t .counts)
   pub full : tail ≤ y * statesIn t
   pub fits : tail ≤ nodes
-  pub clear : Cleared back (y * statesIn t) (contextCount (t .counts) * statesIn t)
+  pub clear : Cleared back (y * statesIn t)
   pub by : (s : List ℕ) → Given s plan t → SowingBy s plan t back queue tail y
 
 pub sow-begin : {plan : List ℕ} {t : Task} {count nodes : ℕ} {back queue : List ℕ} → Readable plan t → count ≡ contextCount (t .counts) → nodes ≡ contextCount (t .counts) * statesIn t
-    → Roomy t queue back → {back′ : List ℕ} → length back′ ≡ length back → Cleared back′ 0 nodes → Sowing plan t count nodes back′ queue 0 0
-sow-begin R q p room e C =
+    → Roomy t queue back → Sowing plan t count nodes back queue 0 0
+sow-begin R q p room =
     record {
       readable = R;
       contexts = q;
@@ -247,8 +264,8 @@ sow-begin R q p room e C =
       below = omega arith;
       full = omega arith;
       fits = omega arith;
-      clear = record { at = λ v lo hi. C .at v (omega arith) (omega (arith, p)) };
-      by = λ s A. begin-by A room e;
+      clear = record { at = λ v lo. room .fresh .at v (omega arith) };
+      by = λ s A. begin-by A room;
     }
 
 module _ {plan : List ℕ} {t : Task} {count nodes : ℕ} {back queue : List ℕ} {tail y : ℕ} (S : Sowing plan t count nodes back queue tail y) where
@@ -270,11 +287,11 @@ module _ {plan : List ℕ} {t : Task} {count nodes : ℕ} {back queue : List ℕ
           below = omega (arith, S .contexts);
           full = omega (arith, S .full, next-block y (statesIn t));
           fits = S .fits;
-          clear = record { at = λ w lo hi. S .clear .at w (omega (arith, next-block y (statesIn t))) hi };
+          clear = record { at = λ w lo. S .clear .at w (omega (arith, next-block y (statesIn t))) };
           by = λ s A. skip-by (S .by s A) in-count (S .clear) (begun q s A);
         }
 
-    pub sow-broken : {v : ℕ} → r ≡ Broken v → (s : List ℕ) → Given s plan t → SownStart s plan t y
+    pub sow-broken : {v : ℕ} → r ≡ Broken v → (s : List ℕ) → Given s plan t → SownStart s plan t queue back y tail
     sow-broken q s A = broken-by (S .by s A) in-count (S .clear) (begun q s A)
 
     module _ {v : ℕ} (q : r ≡ Enter v) where
@@ -295,14 +312,39 @@ module _ {plan : List ℕ} {t : Task} {count nodes : ℕ} {back queue : List ℕ
             full = omega (arith, S .full, Z .low v q, Z .high v q);
             fits = omega (arith, sow-room, S .nodes-are);
             clear = record {
-              at = λ w lo hi. getD-set-other back v w (nodes + 1) 0 (λ z. omega (arith, Z .high v q)) ∙ S .clear .at w (omega (arith, next-block y (statesIn t))) hi;
+              at = λ w lo. getD-set-other back v w (nodes + 1) 0 (λ z. omega (arith, Z .high v q)) ∙ S .clear .at w (omega (arith, next-block y (statesIn t)));
             };
             by = λ s A. subst (λ (k : ℕ). SowingBy s plan t (set back v (k + 1)) (set queue tail v) (tail + 1) (y + 1)) (sym (S .nodes-are))
                 (enter-by (S .by s A) in-count (S .clear) (begun q s A));
           }
 
+  -- a type is passed over
+  pub sow-pass : {o b : ℕ} → OfType (t .counts) o y → NoStart (t .counts) plan o → b ≡ firstPlace (t .counts) (o + 1) → Sowing plan t count nodes back queue tail b
+  sow-pass {o} {b} H Z q =
+      record {
+        readable = S .readable;
+        contexts = S .contexts;
+        nodes-are = S .nodes-are;
+        few = S .few;
+        below = most;
+        full = omega (arith, S .full, more);
+        fits = S .fits;
+        clear = record { at = λ w lo. S .clear .at w (omega (arith, more)) };
+        by = λ s A. pass-by (S .by s A) b next most (S .clear)
+            (λ z lo hi. never-start A (record { type = H .type; low = omega (arith, H .low); high = omega (arith, q) }) Z);
+      }
+    where
+      next : y ≤ b
+      next = omega (arith, H .high)
+
+      most : b ≤ contextCount (t .counts)
+      most = rw q (start-le (S .readable .sets .counts .countable) (o + 1) (omega (arith, H .type .high)))
+
+      more : y * statesIn t ≤ b * statesIn t
+      more = mul-le-mul-right (statesIn t) next
+
   pub sow-end : count ≤ y → (s : List ℕ) → Given s plan t → SownNodes s plan t queue back tail
-  sow-end h s A = end-by (S .by s A) (omega (arith, S .contexts))
+  sow-end h s A = end-by (S .by s A) (omega (arith, S .contexts)) (S .clear)
 
 -- the node of a start is among those of its context
 module _ {plan : List ℕ} {t : Task} {o y state into : ℕ} (R : Readable plan t) (H : OfType (t .counts) o y) (S : into ≡ setsOf (t .counts) plan (contextAtIndex (t .counts) y))

@@ -6,7 +6,7 @@ use goal_image::sets::EVENT_CHAINS;
 use paths::stages::advance;
 use paths::tracker::track;
 ghost use mathlib.Core.Path.{_≡_};
-ghost use Prim.Native.Nat.{_<_};
+ghost use Prim.Native.Nat.{_<_, _≤_};
 ghost use Rattle.search_graph.specs.inner.Watching.{isOrder, stagesFrom, Started, Stepped, Judged};
 
 // What a search looks for: an end of a path that breaks order, one that breaks events, or any end.
@@ -53,7 +53,7 @@ fn stages_from(mode: Mode, state: u32) -> u32
 
 // The state after a step. From no stage none is reached, so that a step has to tell order alone from the other modes.
 pub fn step_state(task: Task, state: u32, by: u32, into: u32) -> u32
-    requires { ⌜ (0 < task .legs .count) × (task .legs .count < 32) ⌝ }
+    requires { ⌜ (0 < task .legs .count) × (task .legs .count ≤ 7) ⌝ }
     ensures { λ r. ⌜ Stepped (task .mode) (task .legs) state by into r ⌝ }
 {
     let mode = task.mode;

@@ -2,22 +2,23 @@
 use crate::arrival::Arrival;
 use crate::arrival::land;
 use crate::monitor::start_state;
+use crate::starts::may_start;
+use crate::starts::pairs_start;
 use crate::task::Task;
 use crate::task::states_in;
 use base::bits::has_bit;
 use context::Context;
+use context::places::first_place;
+use plan::meets::is_held;
 use plan::sets::sets_at;
-use search_steps::targets::is_held;
-ghost use Prim.Native.Nat.{_≤_};
-ghost use lib.ListN.{length};
 ghost use Rattle.context.specs.inner.Places.{OfType};
-ghost use Rattle.search_graph.specs.inner.Seeds.{Cleared, Roomy, Beginning, AllSown};
+ghost use Rattle.search_graph.specs.inner.Seeds.{Roomy, Beginning, AllSown};
 ghost use Rattle.search_graph.specs.inner.Tasks.{Readable};
 
-// How many nodes are in the queue, in rising order; or the place of the first start that is a bad end.
+// How many nodes are in the queue, in rising order; or the place of the first start that is a bad end, and how many were put there before it.
 pub enum Seeded {
     Nodes(usize),
-    Start(u32),
+    Start(u32, usize),
 }
 
 // What the context at place y, of the type, comes to as a start: where it is none, it is dropped.
@@ -36,20 +37,7 @@ fn start_at(plan: &[u32], task: Task, ty: u32, y: u32) -> Arrival
     land(task, into, y, start_state(task, into))
 }
 
-// No node is visited.
-fn clear(back: &mut [u32], nodes: u32)
-    requires { ⌜ nodes ≤ length (now back) ⌝ }
-    ensures { λ _. ⌜ Cleared (now (back .exit)) 0 nodes ⌝ }
-{
-    let mut v = 0;
-    while v < nodes {
-        let at = v as usize;
-        back[at] = 0;
-        v += 1;
-    }
-}
-
-// Puts the starts that are no ends into the queue.
+// Puts the starts that are no ends into the queue, by place. A type that has none is passed over.
 pub fn seed(plan: &[u32], task: Task, queue: &mut [u32], back: &mut [u32]) -> Seeded
     requires { ⌜ Readable (now plan) task × Roomy task (now queue) (now back) ⌝ }
     ensures { λ r. ⌜ AllSown (now (plan .entry)) task (now (queue .exit)) (now (back .exit)) r ⌝ }
@@ -57,14 +45,18 @@ pub fn seed(plan: &[u32], task: Task, queue: &mut [u32], back: &mut [u32]) -> Se
     let counts = task.counts;
     let count = Context::count(counts);
     let nodes = count * states_in(task);
-    clear(back, nodes);
+    let paired = pairs_start(counts, plan);
     let mut tail: usize = 0;
     let mut y: u32 = 0;
     while y < count {
         let ty = Context::at(y, counts).ty;
+        if !may_start(counts, plan, paired, ty) {
+            y = first_place(counts, ty + 1);
+            continue;
+        }
         match start_at(plan, task, ty, y) {
             Arrival::Broken(_) => {
-                return Seeded::Start(y);
+                return Seeded::Start(y, tail);
             }
             Arrival::Dropped => {}
             Arrival::Enter(v) => {

@@ -10,7 +10,6 @@ use lib.ListN.{getD, set}
 use Rattle.base.specs.Ranges.{Within}
 use Rattle.base.proofs.BoolLaws.{first-false}
 use Rattle.policy_image.specs.declared.counts.Counts.{Counts}
-use Rattle.policy_image.specs.Policy.{policyOf}
 use Rattle.context.specs.declared.Context.{Context}
 use Rattle.context.specs.Codes.{eventOf}
 use Rattle.context.specs.inner.Places.{contextCount, contextAtIndex, pairCount, firstPlace, OfType}
@@ -44,6 +43,7 @@ use Rattle.search_memory.specs.inner.Memory.{AskerOf, TakenUp, FirstFrom
 use Rattle.search_memory.proofs.StandLaws.{asks-from}
 use Rattle.search_memory.proofs.MemoryLaws.{passed, edge-like, memory-opened, memory-swept, memory-spent}
 use Rattle.search_memory.proofs.ShutLaws.{first-step-law}
+use Rattle.plan.specs.inner.Plan.{ruled}
 
 -- what a search holds: the links back, the queue, what it remembers, the ends of the queue and of the level, and the level's number
 pub record Search : Type 0 where
@@ -79,14 +79,14 @@ pub record InTurn (s plan : List ℕ) (t : Task) (z : Search) (u : ℕ) (v : Nod
 pub record Middle (s plan : List ℕ) (t : Task) (z : Search) (u : ℕ) (v : Node) (o : Offer) : Type 0 where
   pub within : InTurn s plan t z u v
   pub high : o .step ≤ stepsEnd
-  pub ahead : o .step < stepsEnd → Ahead (policyOf s) (t .counts) plan (z .swept) (v .asker) (v .x) o
+  pub ahead : o .step < stepsEnd → Ahead (ruled s plan) (t .counts) plan (z .swept) (v .asker) (v .x) o
   pub turn : Done s plan t z u (o .step / 4096) (firstPlace (t .counts) (o .step % 4096) * statesIn t)
 
 -- .. and of the offer's step, the targets at places below y
 pub record Inner (s plan : List ℕ) (t : Task) (z : Search) (u : ℕ) (v : Node) (o : Offer) (y : ℕ) : Type 0 where
   pub within : InTurn s plan t z u v
   pub below : o .step < stepsEnd
-  pub ahead : Ahead (policyOf s) (t .counts) plan (z .swept) (v .asker) (v .x) o
+  pub ahead : Ahead (ruled s plan) (t .counts) plan (z .swept) (v .asker) (v .x) o
   pub low : firstPlace (t .counts) (o .step % 4096) ≤ y
   pub high : y ≤ firstPlace (t .counts) (o .step % 4096 + 1)
   pub turn : Done s plan t z u (o .step / 4096) (y * statesIn t)
@@ -94,10 +94,10 @@ pub record Inner (s plan : List ℕ) (t : Task) (z : Search) (u : ℕ) (v : Node
 -- the pairs of a set, to which the step of the offer flows; of the others of its type none is left, or it does not flow there
 pub record Todo (s plan : List ℕ) (t : Task) (opens : List ℕ) (v : Node) (o : Offer) (pairs : List ℕ) : Type 0 where
   pub key : getD opens (slotOf (t .counts .types) (o .step % 4096) (keptOf (v .asker) (eventSetsAt plan (o .step / 4096)))) 0 ≡ openKey (o .step % 4096) (keptOf (v .asker) (eventSetsAt plan (o .step / 4096)))
-  pub flows : (j : ℕ) → j < pairsEnd → inPairs pairs j ≡ true → (j < pairCount (t .counts)) × (flow (policyOf s) (eventOf (o .step / 4096)) (v .x) (pairAt (t .counts) (o .step % 4096) j) ≡ true)
+  pub flows : (j : ℕ) → j < pairsEnd → inPairs pairs j ≡ true → (j < pairCount (t .counts)) × (flow (ruled s plan) (eventOf (o .step / 4096)) (v .x) (pairAt (t .counts) (o .step % 4096) j) ≡ true)
   pub rest : (j : ℕ) → j < pairCount (t .counts) → inPairs pairs j ≡ false
       → (openAt opens (slotOf (t .counts .types) (o .step % 4096) (keptOf (v .asker) (eventSetsAt plan (o .step / 4096)))) j ≡ false)
-      ⊎ (flow (policyOf s) (eventOf (o .step / 4096)) (v .x) (pairAt (t .counts) (o .step % 4096) j) ≡ false)
+      ⊎ (flow (ruled s plan) (eventOf (o .step / 4096)) (v .x) (pairAt (t .counts) (o .step % 4096) j) ≡ false)
 
 -- the node at the head of the queue, whose level is the one under way or the next
 pub node-below : {G : Graph} {back queue : List ℕ} {head tail stop depth : ℕ} → Inv G back queue head tail stop depth → head < tail → getD queue head 0 < G .k
@@ -121,7 +121,7 @@ module _ {s plan : List ℕ} {t : Task} {z : Search} {u : ℕ} {v : Node} (A : G
             (λ j w lw _ b ed. passed A N (U .stands) lu (U .asker) lw ed (F .none j _ (range-at A (U .stands) lw) b (edge-free A (U .stands) ed) (edge-flow A (U .stands) lw ed)));
       }
     where
-      F : FirstStep (policyOf s) (t .counts) plan (z .swept) (v .asker) (v .x) o
+      F : FirstStep (ruled s plan) (t .counts) plan (z .swept) (v .asker) (v .x) o
       F = first-step-law (A .ready) (A .planned) (U .stands .range) (asks-from A U) F₀
 
       start : Done s plan t z u 0 0
@@ -134,7 +134,7 @@ module _ {s plan : List ℕ} {t : Task} {z : Search} {u : ℕ} {v : Node} (A : G
       zero = ap (λ (i : ℕ). i * t .counts .users * statesIn t) (zero-mul (t .counts .roles)) ∙ ap (λ (i : ℕ). i * statesIn t) (zero-mul (t .counts .users)) ∙ zero-mul (statesIn t)
 
 -- ---- numbers of an offer
-module _ {s plan swept : List ℕ} {t : Task} {a : Asker} {x : Context} {o : Offer} (A : Given s plan t) (O : Ahead (policyOf s) (t .counts) plan swept a x o) where
+module _ {s plan swept : List ℕ} {t : Task} {a : Asker} {x : Context} {o : Offer} (A : Given s plan t) (O : Ahead (ruled s plan) (t .counts) plan swept a x o) where
   pub event-few : o .step / 4096 < 1024
   event-few = omega (arith, O .offering .event .high, A .ready .sound .range .classes .high)
 
@@ -149,7 +149,7 @@ module _ {s plan : List ℕ} {t : Task} {z : Search} {u : ℕ} {v : Node} {o : O
     pub middle-end : Inv (graphOf s plan t) (z .back) (z .queue) (z .head + 1) (z .tail) (z .stop) (z .depth)
     middle-end = end-turn (I .turn) (omega arith)
 
-    pub middle-spent : {asks : Bool} {spent′ : List ℕ} → Asks (policyOf s) (t .counts) plan (v .x) asks → Remembered (z .spent) spent′ (v .x .ty) (v .asker .state) asks
+    pub middle-spent : {asks : Bool} {spent′ : List ℕ} → Asks (ruled s plan) (t .counts) plan (v .x) asks → Remembered (z .spent) spent′ (v .x .ty) (v .asker .state) asks
         → Memory s plan t (z .back) (z .swept) spent′ (z .opens)
     middle-spent C R =
         let w = I .within in
@@ -209,7 +209,7 @@ module _ {s plan : List ℕ} {t : Task} {z : Search} {u : ℕ} {v : Node} {o : O
                 (O .none j _ (range-at A S lw) d b (edge-flow A S lw ed)));
           }
         where
-          O : NextOffer (policyOf s) plan swept′ (v .asker) (v .x) (o .step + 1) r
+          O : NextOffer (ruled s plan) plan swept′ (v .asker) (v .x) (o .step + 1) r
           O = next-law (A .ready) (A .planned) (S .range) O₀
 
           here : Done s plan t z u ((o .step + 1) / 4096) (firstPlace (t .counts) ((o .step + 1) % 4096) * statesIn t)
@@ -250,8 +250,8 @@ module _ {s plan : List ℕ} {t : Task} {z : Search} {u : ℕ} {v : Node} {o : O
         inner-dropped q = dropped A S (I .turn) inner-place (lands q)
 
         -- where the context is a target
-        module _ (flows : flow (policyOf s) (eventOf (o .step / 4096)) (v .x) (contextAtIndex (t .counts) y) ≡ true) where
-          faced : Faced (policyOf s) (t .counts) plan (v .x) (o .step / 4096) y
+        module _ (flows : flow (ruled s plan) (eventOf (o .step / 4096)) (v .x) (contextAtIndex (t .counts) y) ≡ true) where
+          faced : Faced (ruled s plan) (t .counts) plan (v .x) (o .step / 4096) y
           faced =
               record {
                 high = let k = inner-place in omega arith;

@@ -16,7 +16,6 @@ use Rattle.base.proofs.Numbers.{split-eq, split-le, zeros}
 use Rattle.base.specs.Ranges.{Within}
 use Rattle.base.proofs.BoolLaws.{and-first, and-yes, or-cases, or-left, first-false, true-or-false, clash}
 use Rattle.policy_image.specs.declared.counts.Counts.{Counts}
-use Rattle.policy_image.specs.Policy.{policyOf}
 use Rattle.context.specs.declared.Context.{Context}
 use Rattle.context.specs.Codes.{eventOf}
 use Rattle.context.specs.inner.Places.{Countable, contextCount, contextAtIndex, firstPlace}
@@ -24,8 +23,8 @@ use Rattle.access.specs.Authorization.{flow}
 use Rattle.goal_image.specs.Goal.{γeChain}
 use Rattle.paths.specs.Model.{Model}
 use Rattle.goal_model.specs.Images.{meetsρμ}
-use Rattle.plan.specs.inner.Entries.{eventSetsAt}
-use Rattle.plan.specs.inner.Plan.{special}
+use Rattle.plan.specs.inner.Entries.{countedAt, eventSetsAt}
+use Rattle.plan.specs.inner.Plan.{special, ruled}
 use Rattle.context.proofs.TypeLaws.{type-le}
 use Rattle.search_constraints.specs.inner.Asked.{pairAt}
 use Rattle.search_steps.specs.declared.nearest.Asker.{Asker}
@@ -149,8 +148,8 @@ module _ {s plan : List ℕ} {t₀ : Task} (A : Given s plan t₀) where
   place-in h = place-lt (states-some t₀) h
 
   -- an event that flows is one of a class of the policy
-  event-in : (e : ℕ) (x y : Context) → flow (policyOf s) (eventOf e) x y ≡ true → e / 32 < 32
-  event-in e x y f = let w = flow-class {s = s} (eventOf e) x y (A .ready .sound) f .high in omega (arith, A .ready .sound .range .classes .high)
+  event-in : (e : ℕ) (x y : Context) → flow (ruled s plan) (eventOf e) x y ≡ true → e / 32 < 32
+  event-in e x y f = let w = flow-class {s = s} (countedAt plan) (eventOf e) x y (A .ready .sound) f .high in omega (arith, A .ready .sound .range .classes .high)
 
   by-at : (e : ℕ) → By M e (eventSetsAt plan e)
   by-at e = by-of s plan t₀ refl
@@ -158,7 +157,7 @@ module _ {s plan : List ℕ} {t₀ : Task} (A : Given s plan t₀) where
   -- an edge from another node to w, as one from u by another event
   module _ {u state : ℕ} {x : Context} (S : Stands t₀ u x state) (first : ¬ T (M .σ (M .legs) (codeOf n K u))) (free : excepted n plan x ≡ false) where
     pub edge-from : (u′ e e₀ w : ℕ) → w < G .k → G .Edge u′ e w → barred plan e₀ ≡ false
-        → flow (policyOf s) (eventOf e₀) x (contextAtIndex n (placeOf K w)) ≡ true
+        → flow (ruled s plan) (eventOf e₀) x (contextAtIndex n (placeOf K w)) ≡ true
         → W .step (stateOf K u′) e (codeOf n K w) ≡ W .step state e₀ (codeOf n K w) → G .Edge u e₀ w
     edge-from u′ e e₀ w lw ed freeE f q =
         let st : stateOf K w ≡ W .step state e₀ (codeOf n K w) = ed .state ∙ q in
@@ -186,7 +185,7 @@ module _ {s plan : List ℕ} {t₀ : Task} (A : Given s plan t₀) where
 
     -- an event in the same sets that flows to the same context leads to the same node
     pub edge-like : ¬ T (M .σ (M .legs) (codeOf n K u)) → {i e w : ℕ} → w < G .k → G .Edge u i w → eventSetsAt plan e ≡ eventSetsAt plan i
-        → flow (policyOf s) (eventOf e) x (contextAtIndex n (placeOf K w)) ≡ true → G .Edge u e w
+        → flow (ruled s plan) (eventOf e) x (contextAtIndex n (placeOf K w)) ≡ true → G .Edge u e w
     edge-like first {i} {e} {w} lw ed q f =
         let few : state < 64 = subst (λ (k : ℕ). k < 64) (Q .state-is) (Q .few) in
         let free : barred plan e ≡ false = ap (λ (k : ℕ). bit k γeChain) q ∙ edge-freeE A S ed in
@@ -194,7 +193,7 @@ module _ {s plan : List ℕ} {t₀ : Task} (A : Given s plan t₀) where
         (ap (λ (k : ℕ). W .step k i (codeOf n K w)) (sym (S .at)) ∙ step-by-kept m state state (codeOf n K w) few few (by-at i) (by-at e) (ap (λ (k : ℕ). kept m state k) (sym q)))
 
     -- ---- the contexts of a type are swept
-    module _ {queue : List ℕ} {head tail stop depth : ℕ} {o : Offer} (O : Ahead (policyOf s) n plan swept a x o)
+    module _ {queue : List ℕ} {head tail stop depth : ℕ} {o : Offer} (O : Ahead (ruled s plan) n plan swept a x o)
         (t : Turn G back queue head tail stop depth u (o .step / 4096) (firstPlace n (o .step % 4096 + 1) * K)) where
       abbrev e₀ : ℕ
       e₀ = o .step / 4096
@@ -216,7 +215,7 @@ module _ {s plan : List ℕ} {t₀ : Task} (A : Given s plan t₀) where
 
       -- an edge to a context that the event flows to from u is one from u
       target-clear : (u′ e w : ℕ) → w < G .k → G .Edge u′ e w → typeOf t₀ w ≡ o .step % 4096 → keptOf a (eventSetsAt plan e₀) ≡ keptBy m plan (stateOf K u′) e
-          → flow (policyOf s) (eventOf e₀) x (contextAtIndex n (placeOf K w)) ≡ true → Clear G back w
+          → flow (ruled s plan) (eventOf e₀) x (contextAtIndex n (placeOf K w)) ≡ true → Clear G back w
       target-clear u′ e w lw ed ty key f =
           t .targets w below (edge-from S (chain-open A (turn-chain t)) (O .free) u′ e e₀ w lw ed not-excepted f (kept-step u′ e w key))
         where
@@ -229,7 +228,7 @@ module _ {s plan : List ℕ} {t₀ : Task} (A : Given s plan t₀) where
 
       -- the pairs that the step leads to are taken out of what is left
       module _ {opens′ pairs : List ℕ} {settled : Bool} (key : getD opens slot 0 ≡ openKey (o .step % 4096) kept₀)
-          (flows : (j : ℕ) → j < 256 → inPairs pairs j ≡ true → flow (policyOf s) (eventOf e₀) x (pairAt n (o .step % 4096) j) ≡ true)
+          (flows : (j : ℕ) → j < 256 → inPairs pairs j ≡ true → flow (ruled s plan) (eventOf e₀) x (pairAt n (o .step % 4096) j) ≡ true)
           (P : PairsTaken n opens opens′ (o .step % 4096) kept₀ pairs settled) where
         left : (j : ℕ) → j < 256 → openAt opens′ slot j ≡ (openAt opens slot j && not (inPairs pairs j))
         left j h = P .words (j / 64) (omega arith) .at (j % 64)
@@ -239,7 +238,7 @@ module _ {s plan : List ℕ} {t₀ : Task} (A : Given s plan t₀) where
             ⊎-elim
             (λ (b : inPairs pairs (nodePair t₀ w) ≡ true).
             target-clear u′ e w lw ed (sym (D .0)) (D .1)
-            (ap (λ (y : Context). flow (policyOf s) (eventOf e₀) x y) (sym (pair-is A lw) ∙ ap (λ (i : ℕ). pairAt n i (nodePair t₀ w)) (sym (D .0))) ∙ flows (nodePair t₀ w) (pair-few A lw) b))
+            (ap (λ (y : Context). flow (ruled s plan) (eventOf e₀) x y) (sym (pair-is A lw) ∙ ap (λ (i : ℕ). pairAt n i (nodePair t₀ w)) (sym (D .0))) ∙ flows (nodePair t₀ w) (pair-few A lw) b))
             (λ (b : inPairs pairs (nodePair t₀ w) ≡ false).
             N .left .clear slot u′ e w few lu′ lw ed (key ∙ q)
             (sym (and-yes (openAt opens slot (nodePair t₀ w)) (not (inPairs pairs (nodePair t₀ w))) (ap not b)) ∙ sym (left (nodePair t₀ w) (pair-few A lw)) ∙ f))
@@ -287,17 +286,17 @@ module _ {s plan : List ℕ} {t₀ : Task} (A : Given s plan t₀) where
 
     -- ---- the steps of a state are taken
     module _ {queue : List ℕ} {head tail stop depth at v : ℕ} (t : Turn G back queue head tail stop depth u (at / 4096) v) (end : 4194304 ≤ at) where
-      spent-edge : excepted n plan x ≡ false → meetsρμ (policyOf s) x ≡ true → (u′ e w : ℕ) → u′ < G .k → w < G .k → G .Edge u′ e w → special (policyOf s) (eventOf e) ≡ false
+      spent-edge : excepted n plan x ≡ false → meetsρμ (ruled s plan) x ≡ true → (u′ e w : ℕ) → u′ < G .k → w < G .k → G .Edge u′ e w → special (ruled s plan) (eventOf e) ≡ false
           → typeOf t₀ u′ ≡ x .ty → state ≡ stateOf K u′ → Clear G back w
       spent-edge free meets u′ e w lu′ lw ed plain ty st =
           let f = edge-flow A (stands-any A u′ lu′) lw ed in
           let y : Context = contextAtIndex n (placeOf K w) in
-          let f₀ : flow (policyOf s) (eventOf e) x y ≡ true = plain-same (policyOf s) (eventOf e) (contextAtIndex n (placeOf K u′)) x y plain ty meets f in
+          let f₀ : flow (ruled s plan) (eventOf e) x y ≡ true = plain-same (ruled s plan) (eventOf e) (contextAtIndex n (placeOf K u′)) x y plain ty meets f in
           let few : e < at / 4096 = (let h = event-in e (contextAtIndex n (placeOf K u′)) y f in omega arith) in
           t .events e w few lw
           (edge-from S (chain-open A (turn-chain t)) free u′ e e w lw ed (edge-freeE A (stands-any A u′ lu′) ed) f₀ (ap (λ (i : ℕ). W .step i e (codeOf n K w)) (sym st)))
 
-      pub memory-spent : {asks : Bool} {spent′ : List ℕ} → Asks (policyOf s) n plan x asks → Remembered spent spent′ (x .ty) state asks → Memory s plan t₀ back swept spent′ opens
+      pub memory-spent : {asks : Bool} {spent′ : List ℕ} → Asks (ruled s plan) n plan x asks → Remembered spent spent′ (x .ty) state asks → Memory s plan t₀ back swept spent′ opens
       memory-spent C R =
           record {
             left = N .left;

@@ -14,12 +14,11 @@ use Rattle.base.specs.Ranges.{Within}
 use Rattle.base.proofs.Numbers.{split-eq, zeros}
 use Rattle.base.proofs.BoolLaws.{and-first, and-second, and-true, clash}
 use Rattle.policy_image.specs.declared.counts.Counts.{Counts}
-use Rattle.policy_image.specs.Policy.{policyOf}
 use Rattle.context.specs.Codes.{eventOf}
 use Rattle.context.specs.inner.Places.{contextAtIndex, pairCount, firstPlace, OfType}
 use Rattle.context.proofs.TypeLaws.{own-type, of-pair, of-same}
 use Rattle.goal_model.specs.Images.{meetsρμ}
-use Rattle.plan.specs.inner.Plan.{PlanCounts}
+use Rattle.plan.specs.inner.Plan.{PlanCounts, ruled}
 use Rattle.plan.proofs.ContextLaws.{pairs-few, meets-at}
 use Rattle.search_constraints.specs.inner.Asked.{pairAt}
 use Rattle.search_steps.proofs.FlowLaws.{flow-held}
@@ -94,11 +93,11 @@ module _ {s plan : List ℕ} {t : Task} (A : Given s plan t) where
   pair-context {o} {j} w h =
       sym (of-same (C .countable) (pair-place w h) refl) ∙ ap (pairAt n o) (let e : firstPlace n o + j - firstPlace n o ≡ j = omega arith in e)
 
-  pair-meets : {o j : ℕ} → Within 1 (n .types) o → j < pairCount n → pairHeld plan o j ≡ meetsρμ (policyOf s) (pairAt n o j)
+  pair-meets : {o j : ℕ} → Within 1 (n .types) o → j < pairCount n → pairHeld plan o j ≡ meetsρμ (ruled s plan) (pairAt n o j)
   pair-meets {o} {j} w h =
       ap (pairHeld plan o) (let e : j ≡ firstPlace n o + j - firstPlace n o = omega arith in e)
       ∙ meets-at (A .planned .policy) (pair-place w h) refl
-      ∙ ap (meetsρμ (policyOf s)) (pair-context w h)
+      ∙ ap (meetsρμ (ruled s plan)) (pair-context w h)
 
   -- .. and a node's context a pair of its type
   of-node : {w : ℕ} → w < G .k → OfType n (typeOf t w) (placeOf K w)
@@ -117,9 +116,9 @@ module _ {s plan : List ℕ} {t : Task} (A : Given s plan t) where
   type-within lw = of-node lw .type
 
   -- what an edge arrives at meets ρ and μ
-  pub edge-held : {u e w : ℕ} → u < G .k → w < G .k → G .Edge u e w → meetsρμ (policyOf s) (contextAtIndex n (placeOf K w)) ≡ true
+  pub edge-held : {u e w : ℕ} → u < G .k → w < G .k → G .Edge u e w → meetsρμ (ruled s plan) (contextAtIndex n (placeOf K w)) ≡ true
   edge-held {u} {e} {w} lu lw ed =
-      flow-held (policyOf s) (eventOf e) (contextAtIndex n (placeOf K u)) (contextAtIndex n (placeOf K w)) (edge-flow A (stands-any A u lu) lw ed) .1
+      flow-held (ruled s plan) (eventOf e) (contextAtIndex n (placeOf K u)) (contextAtIndex n (placeOf K w)) (edge-flow A (stands-any A u lu) lw ed) .1
 
   -- ---- a slot is looked up
   module _ {back old new r : List ℕ} {o k : ℕ} (w : Within 1 (n .types) o) (lk : k < 64) (O : Opens s plan t back old) (P : SlotOpened n plan old new o k r) where
@@ -131,7 +130,7 @@ module _ {s plan : List ℕ} {t : Task} (A : Given s plan t) where
       fresh : (j : ℕ) → j < 256 → openAt new slot j ≡ (ltb j (pairCount n) && pairHeld plan o j)
       fresh j h = held-at j (F (j / 64) (omega arith))
 
-      fresh-held : (j : ℕ) → j < 256 → openAt new slot j ≡ true → (j < pairCount n) × (meetsρμ (policyOf s) (pairAt n o j) ≡ true)
+      fresh-held : (j : ℕ) → j < 256 → openAt new slot j ≡ true → (j < pairCount n) × (meetsρμ (ruled s plan) (pairAt n o j) ≡ true)
       fresh-held j h b =
           let c = sym (fresh j h) ∙ b in
           let l : j < pairCount n = ltb-true j (pairCount n) (and-first (ltb j (pairCount n)) (pairHeld plan o j) c) in
@@ -140,7 +139,7 @@ module _ {s plan : List ℕ} {t : Task} (A : Given s plan t) where
       fresh-clear : (u e v : ℕ) → u < G .k → v < G .k → G .Edge u e v → typeOf t v ≡ o → openAt new slot (nodePair t v) ≡ true
       fresh-clear u e v lu lv ed q =
           let l = pair-in lv in
-          let m : meetsρμ (policyOf s) (pairAt n o (nodePair t v)) ≡ true = ap (λ (i : ℕ). meetsρμ (policyOf s) (pairAt n i (nodePair t v))) (sym q) ∙ ap (meetsρμ (policyOf s)) (pair-is lv) ∙ edge-held lu lv ed in
+          let m : meetsρμ (ruled s plan) (pairAt n o (nodePair t v)) ≡ true = ap (λ (i : ℕ). meetsρμ (ruled s plan) (pairAt n i (nodePair t v))) (sym q) ∙ ap (meetsρμ (ruled s plan)) (pair-is lv) ∙ edge-held lu lv ed in
           fresh (nodePair t v) (pair-few lv) ∙ and-true (ltb (nodePair t v) (pairCount n)) (pairHeld plan o (nodePair t v)) (lt-ltb (nodePair t v) (pairCount n) l) (pair-meets w l ∙ m)
 
     pub opens-opened : Opens s plan t back new
@@ -151,11 +150,11 @@ module _ {s plan : List ℕ} {t : Task} (A : Given s plan t) where
           clear = λ i u e v li lu lv ed q f. ⊎-elim (here-clear i u e v li lu lv ed q f) (λ d. let S = P .others i li d in O .clear i u e v li lu lv ed (sym (S .key) ∙ q) (sym (same-open (nodePair t v) (pair-few lv) S) ∙ f)) (split-eq i slot);
         }
       where
-        here-held : (i o′ k′ j : ℕ) → k′ < 64 → j < 256 → getD new i 0 ≡ openKey o′ k′ → openAt new i j ≡ true → i ≡ slot → (j < pairCount n) × (meetsρμ (policyOf s) (pairAt n o′ j) ≡ true)
+        here-held : (i o′ k′ j : ℕ) → k′ < 64 → j < 256 → getD new i 0 ≡ openKey o′ k′ → openAt new i j ≡ true → i ≡ slot → (j < pairCount n) × (meetsρμ (ruled s plan) (pairAt n o′ j) ≡ true)
         here-held i o′ k′ j lk′ lj e b q =
             ⊎-elim
             (λ S. O .held slot o′ k′ j (slot-few (n .types) o k) lk′ lj (sym (S .key) ∙ at-slot) (sym (same-open j lj S) ∙ left))
-            (λ F. subst (λ (v : ℕ). (j < pairCount n) × (meetsρμ (policyOf s) (pairAt n v j) ≡ true)) (key-same o k o′ k′ lk lk′ (sym (P .key) ∙ at-slot) .0) (fresh-held F j lj left))
+            (λ F. subst (λ (v : ℕ). (j < pairCount n) × (meetsρμ (ruled s plan) (pairAt n v j) ≡ true)) (key-same o k o′ k′ lk lk′ (sym (P .key) ∙ at-slot) .0) (fresh-held F j lj left))
             (P .here)
           where
             at-slot : getD new slot 0 ≡ openKey o′ k′

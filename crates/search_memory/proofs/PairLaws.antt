@@ -45,6 +45,7 @@ use Rattle.search_memory.specs.inner.Memory.{keptBy, Memory}
 use Rattle.search_memory.proofs.OpenLaws.{start-pairs, pair-context, pair-in, pair-is}
 use Rattle.search_memory.proofs.MemoryLaws.{kept-is}
 use Rattle.search_memory.proofs.LoopLaws.{Search, sweptTo, enteredTo, Done, Middle, Inner, Todo, event-few, other-type, inner-begin, inner-next}
+use Rattle.plan.specs.inner.Plan.{ruled}
 
 -- ---- what a step asks
 module _ {s plan : List ℕ} {t : Task} (A : Given s plan t) where
@@ -60,8 +61,8 @@ module _ {s plan : List ℕ} {t : Task} (A : Given s plan t) where
         before = B;
       }
 
-  pub facing : {swept : List ℕ} {a : Asker} {x : Context} {o : Offer} → Ahead (policyOf s) (t .counts) plan swept a x o
-      → Facing (policyOf s) plan x (o .step / 4096) (o .step % 4096) (o .entry) (specialBy plan (o .step / 4096))
+  pub facing : {swept : List ℕ} {a : Asker} {x : Context} {o : Offer} → Ahead (ruled s plan) (t .counts) plan swept a x o
+      → Facing (ruled s plan) plan x (o .step / 4096) (o .step % 4096) (o .entry) (specialBy plan (o .step / 4096))
   facing O = record { meets = O .meets; offering = O .offering; conditions = special-is (A .planned .policy) (event-few A O) }
 
   pub in-policy : {u state : ℕ} {x : Context} → Stands t u x state → ContextInRange (policyOf s .counts) x
@@ -89,7 +90,7 @@ module _ {s plan : List ℕ} {t : Task} {z : Search} {u : ℕ} {v : Node} {o : O
   few-pairs = pairs-few (A₁ .planned .policy .counts)
 
   abbrev flowsTo : ℕ → Bool
-  flowsTo j = flow (policyOf s) (eventOf (o .step / 4096)) (v .x) (pairAt (t .counts) (o .step % 4096) j)
+  flowsTo j = flow (ruled s plan) (eventOf (o .step / 4096)) (v .x) (pairAt (t .counts) (o .step % 4096) j)
 
   abbrev keeps : ℕ
   keeps = keptOf (v .asker) (eventSetsAt plan (o .step / 4096))
@@ -98,7 +99,7 @@ module _ {s plan : List ℕ} {t : Task} {z : Search} {u : ℕ} {v : Node} {o : O
   slot = slotOf (t .counts .types) (o .step % 4096) keeps
 
   pub todo-of : {old among pairs : List ℕ} → SlotOpened (t .counts) plan old (z .opens) (o .step % 4096) keeps among
-      → StepPairs (policyOf s) (policyOf s .counts) (v .x) (o .step / 4096) (o .step % 4096) among pairs 4 → Todo s plan t (z .opens) v o pairs
+      → StepPairs (ruled s plan) (policyOf s .counts) (v .x) (o .step / 4096) (o .step % 4096) among pairs 4 → Todo s plan t (z .opens) v o pairs
   todo-of {among = among} {pairs} P F₀ =
       record {
         key = P .key;
@@ -111,13 +112,13 @@ module _ {s plan : List ℕ} {t : Task} {z : Search} {u : ℕ} {v : Node} {o : O
             (true-or-false (inPairs among j));
       }
     where
-      F : StepPairs (policyOf s) (t .counts) (v .x) (o .step / 4096) (o .step % 4096) among pairs 4
-      F = subst (λ (c : Counts). StepPairs (policyOf s) c (v .x) (o .step / 4096) (o .step % 4096) among pairs 4) (sym (A₁ .ready .same)) F₀
+      F : StepPairs (ruled s plan) (t .counts) (v .x) (o .step / 4096) (o .step % 4096) among pairs 4
+      F = subst (λ (c : Counts). StepPairs (ruled s plan) c (v .x) (o .step / 4096) (o .step % 4096) among pairs 4) (sym (A₁ .ready .same)) F₀
 
       same : (j : ℕ) → j < 256 → inPairs among j ≡ openAt (z .opens) slot j
       same j h = ap (λ (w : ℕ). bit w (j % 64)) (P .words (j / 64) (omega arith))
 
-      held : (j : ℕ) → j < 256 → inPairs among j ≡ true → (j < pairCount (t .counts)) × (meetsρμ (policyOf s) (pairAt (t .counts) (o .step % 4096) j) ≡ true)
+      held : (j : ℕ) → j < 256 → inPairs among j ≡ true → (j < pairCount (t .counts)) × (meetsρμ (ruled s plan) (pairAt (t .counts) (o .step % 4096) j) ≡ true)
       held j h b =
           I .within .memory .left .held slot (o .step % 4096) keeps j (omega arith) (kept-few (v .asker) (eventSetsAt plan (o .step / 4096)) (I .within .asker .few)) h (P .key) (sym (same j h) ∙ b)
 
@@ -163,9 +164,9 @@ inner-jump {s} {plan} {t} {z} {u} {v} {o} {pairs} {from} {k} T I lf N =
         ⊎-elim
         (λ (f : openAt (z .opens) slot₀ (nodePair t w) ≡ false).
         I .within .memory .left .clear slot₀ u (o .step / 4096) w (omega arith) (chain-bound (turn-chain (I .turn))) lw ed (T .key ∙ ap₂ openKey (sym is) kept-same) f)
-        (λ (f : flow (policyOf s) (eventOf (o .step / 4096)) (v .x) (pairAt n (o .step % 4096) (nodePair t w)) ≡ false).
+        (λ (f : flow (ruled s plan) (eventOf (o .step / 4096)) (v .x) (pairAt n (o .step % 4096) (nodePair t w)) ≡ false).
         absurd (clash (edge-flow A (I .within .stands) lw ed)
-        (ap (flow (policyOf s) (eventOf (o .step / 4096)) (v .x)) (sym (pair-is A lw) ∙ ap (λ (i : ℕ). pairAt n i (nodePair t w)) is) ∙ f)))
+        (ap (flow (ruled s plan) (eventOf (o .step / 4096)) (v .x)) (sym (pair-is A lw) ∙ ap (λ (i : ℕ). pairAt n i (nodePair t w)) is) ∙ f)))
         (T .rest (nodePair t w) (pair-in A lw) (N .none (nodePair t w) (let q = at in omega arith) (pair-in A lw) (below-next (let q = at in omega arith))))
       where
         slot₀ : ℕ
@@ -188,7 +189,7 @@ pub record Pairing (s plan : List ℕ) (t : Task) (z : Search) (u : ℕ) (v : No
 
 pub pairing-begin : {s plan : List ℕ} {t : Task} {z : Search} {u : ℕ} {v : Node} {o : Offer} {opens′ among pairs : List ℕ} {k : ℕ} → Middle s plan t z u v o → o .step < stepsEnd
     → SlotOpened (t .counts) plan (z .opens) opens′ (o .step % 4096) (keptOf (v .asker) (eventSetsAt plan (o .step / 4096))) among
-    → StepPairs (policyOf s) (policyOf s .counts) (v .x) (o .step / 4096) (o .step % 4096) among pairs 4 → NextPair pairs 0 (pairCount (t .counts)) k
+    → StepPairs (ruled s plan) (policyOf s .counts) (v .x) (o .step / 4096) (o .step % 4096) among pairs 4 → NextPair pairs 0 (pairCount (t .counts)) k
     → Pairing s plan t (sweptTo z (z .swept) opens′) u v o pairs k
 pairing-begin {s} {plan} {t} {z} {u} {v} {o} {opens′} {among} {pairs} {k} M h P F N =
     record { inner = inner-jump T (subst (Inner s plan t (sweptTo z (z .swept) opens′) u v o) (sym (add-zero (firstPlace (t .counts) (o .step % 4096)))) I) (omega arith) N; todo = T; has = N .has }
@@ -224,8 +225,8 @@ module _ {s plan : List ℕ} {t : Task} {z : Search} {u : ℕ} {v : Node} {o : O
     pub pair-below : firstPlace (t .counts) (o .step % 4096) + k < firstPlace (t .counts) (o .step % 4096 + 1)
     pair-below = let e = end₀ in let l = pair-low in omega arith
 
-    pub pair-flows : flow (policyOf s) (eventOf (o .step / 4096)) (v .x) (contextAtIndex (t .counts) (firstPlace (t .counts) (o .step % 4096) + k)) ≡ true
-    pair-flows = ap (flow (policyOf s) (eventOf (o .step / 4096)) (v .x)) (pair-context (L .inner .within .given) type₀ pair-low) ∙ L .todo .flows k h (L .has h) .1
+    pub pair-flows : flow (ruled s plan) (eventOf (o .step / 4096)) (v .x) (contextAtIndex (t .counts) (firstPlace (t .counts) (o .step % 4096) + k)) ≡ true
+    pair-flows = ap (flow (ruled s plan) (eventOf (o .step / 4096)) (v .x)) (pair-context (L .inner .within .given) type₀ pair-low) ∙ L .todo .flows k h (L .has h) .1
 
     -- the next pair, with what is entered
     pub pair-next : {back′ queue′ : List ℕ} {tail′ k′ : ℕ} → Memory s plan t back′ (z .swept) (z .spent) (z .opens)

@@ -10,10 +10,9 @@ use Rattle.base.proofs.BitLaws.{bit-zero}
 use Rattle.base.proofs.Numbers.{zeros}
 use Rattle.base.proofs.BoolLaws.{or-cases, or-left, or-true, true-or-false, clash}
 use Rattle.policy_image.specs.declared.counts.Counts.{Counts}
-use Rattle.policy_image.specs.Policy.{policyOf}
 use Rattle.context.specs.declared.Context.{Context}
 use Rattle.context.specs.Ranges.{ContextInRange}
-use Rattle.plan.specs.inner.Plan.{Ready, Planned}
+use Rattle.plan.specs.inner.Plan.{Ready, Planned, ruled}
 use Rattle.plan.specs.inner.Entries.{eventSetsAt}
 use Rattle.search_steps.specs.declared.nearest.Asker.{Asker}
 use Rattle.search_steps.specs.declared.nearest.Offer.{Offer}
@@ -99,7 +98,7 @@ module _ {plan swept shut : List ℕ} {a : Asker} {o : ℕ} (R : Recalls plan sw
 
 -- what it is for a node at x
 pub first-step-law : {s plan swept : List ℕ} {n : Counts} {v : Node} {r : Offer} → Ready s n → Planned s n plan → ContextInRange n (v .x)
-    → Asks (policyOf s) n plan (v .x) (v .asks) → FirstFrom plan swept v r → FirstStep (policyOf s) n plan swept (v .asker) (v .x) r
+    → Asks (ruled s plan) n plan (v .x) (v .asks) → FirstFrom plan swept v r → FirstStep (ruled s plan) n plan swept (v .asker) (v .x) r
 first-step-law {v = v} {r} Y P h A F =
     ⊎-elim (λ (k : v .asks ≡ true). some-step A k (next-law Y P h (F .nearest k))) (λ (k : v .asks ≡ false). subst (FirstStep _ _ _ _ _ _) (at-none k) (no-step A k)) (true-or-false (v .asks))
   where

@@ -7,7 +7,6 @@ use native.Mathlib.Nat.{div-lt-iff-lt-mul, mod-lt, lt-of-lt-of-le}
 use native.Mathlib.Omega.{arith}
 use lib.ListN.{getD}
 use Rattle.base.specs.Bits.{bit}
-use Rattle.policy_image.specs.Policy.{policyOf}
 use Rattle.context.specs.declared.Context.{Context}
 use Rattle.context.specs.inner.Places.{contextCount, contextAtIndex}
 use Rattle.context.proofs.PlaceLaws.{at-in-range}
@@ -25,6 +24,7 @@ use Rattle.search_graph.proofs.ArrivalLaws.{asks-of}
 use Rattle.search_graph.proofs.LevelLaws.{place-lt}
 use Rattle.search_memory.specs.declared.turn.Node.{Node}
 use Rattle.search_memory.specs.inner.Memory.{keepsOf, keptBy, TakenUp}
+use Rattle.plan.specs.inner.Plan.{ruled}
 
 -- what does not change
 pub record Around (plan : List ℕ) (t : Task) (states : ℕ) : Type 0 where
@@ -71,9 +71,9 @@ taken-up {plan} {t} {states} {u} {x} R S q e a =
     }
 
 -- steps are asked from the node that is taken up, or are not
-pub asks-from : {s plan : List ℕ} {t : Task} {spent : List ℕ} {u : ℕ} {v : Node} → Given s plan t → TakenUp plan t spent u v → Asks (policyOf s) (t .counts) plan (v .x) (v .asks)
+pub asks-from : {s plan : List ℕ} {t : Task} {spent : List ℕ} {u : ℕ} {v : Node} → Given s plan t → TakenUp plan t spent u v → Asks (ruled s plan) (t .counts) plan (v .x) (v .asks)
 asks-from {s} {plan} {t} {u = u} {v} A T =
-    subst (λ (x : Context). Asks (policyOf s) (t .counts) plan x (v .asks)) (sym (T .stands .place))
+    subst (λ (x : Context). Asks (ruled s plan) (t .counts) plan x (v .asks)) (sym (T .stands .place))
     (asks-of (A .planned .policy) (own-place (A .readable .sets .counts .countable) (T .stands .below) (T .stands .place)) (T .asked))
 
 -- every node stands somewhere

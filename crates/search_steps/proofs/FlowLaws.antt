@@ -12,6 +12,8 @@ use Rattle.base.specs.Ranges.{Within}
 use Rattle.base.proofs.BoolLaws.{or-cases, or-left, or-true, and-true, and-first, and-second, true-or-false, clash}
 use Rattle.policy_image.specs.Layout.{rootOf}
 use Rattle.policy_image.specs.Policy.{Policy, policyOf}
+use Rattle.policy_image.specs.inner.Counting.{counting}
+use Rattle.relations.proofs.CountedLaws.{gamma-counted}
 use Rattle.policy_image.specs.OfKind.{some}
 use Rattle.policy_fields.specs.Fields.{WithinLimits, limitsOf, FieldsInRange}
 use Rattle.policy_links.proofs.KindLaws.{some-yes, some-record, every-yes}
@@ -152,13 +154,13 @@ module _ (p : Policy) (e : Event) where
       reads = α p (y .ty) (x′ .ty) e && readLike p e
 
 -- the class of an event that flows
-pub flow-class : {s : List ℕ} (e : Event) (x y : Context) → Sound s → flow (policyOf s) e x y ≡ true → Within 1 (policyOf s .counts .classes) (e .class)
-flow-class {s} e x y S t = defined-class (policyOf s) e (S .fields) (flow-defined (policyOf s) e x y t)
+pub flow-class : {s : List ℕ} (f : ℕ → Bool) (e : Event) (x y : Context) → Sound s → flow (counting f (policyOf s)) e x y ≡ true → Within 1 (policyOf s .counts .classes) (e .class)
+flow-class {s} f e x y S t = defined-class (policyOf s) e (S .fields) (sym (gamma-counted f (policyOf s) e) ∙ flow-defined (counting f (policyOf s)) e x y t)
 
 -- .. whose code is below 1024, then
-pub flow-code : {s : List ℕ} (e : ℕ) (x y : Context) → Sound s → flow (policyOf s) (eventOf e) x y ≡ true → e < 1024
-flow-code {s} e x y S t =
-    let w = flow-class {s = s} (eventOf e) x y S t in
+pub flow-code : {s : List ℕ} (f : ℕ → Bool) (e : ℕ) (x y : Context) → Sound s → flow (counting f (policyOf s)) (eventOf e) x y ≡ true → e < 1024
+flow-code {s} f e x y S t =
+    let w = flow-class {s = s} f (eventOf e) x y S t in
     let h = w .high in
     let c = S .range .classes .high in
     omega arith

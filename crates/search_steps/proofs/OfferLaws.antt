@@ -3,7 +3,7 @@ use Prim.Native.Nat.{ℕ, _+_, _*_, _/_, _%_, _≤_, _<_}
 use mathlib.Core.Bool.{Bool, true, false, not, _&&_, _||_}
 use mathlib.Core.List.{List}
 use mathlib.Core.Logic.{_⊎_, inl, inr, ⊎-elim}
-use mathlib.Core.Path.{_≡_, refl, sym, ap, ap₂, subst, _∙_}
+use mathlib.Core.Path.{_≡_, sym, ap, ap₂, subst, _∙_}
 use native.Mathlib.Omega.{arith}
 use borrow.Author.Tests.{not-true, not-false}
 use lib.Bits.{bitOr}
@@ -20,27 +20,26 @@ use Rattle.context.specs.declared.Context.{Context}
 use Rattle.context.specs.declared.Event.{Event}
 use Rattle.context.specs.Codes.{eventAt, eventOf, isTransition}
 use Rattle.context.specs.Ranges.{ContextInRange}
-use Rattle.context.specs.inner.Places.{contextAtIndex, OfType}
 use Rattle.relations.specs.Relations.{α, writeLike, readLike}
 use Rattle.constraints.specs.Constraints.{constraintsHold}
 use Rattle.access.specs.Authorization.{flow}
 use Rattle.access.proofs.RoleLaws.{mayBecome, rule-free, rule-asked}
 use Rattle.goal_model.specs.Images.{meetsρμ}
-use Rattle.plan.specs.inner.Plan.{Ready, special, EntryOf, OfferBlock, Alike, Leader, Leads, PolicyPlan, Planned}
+use Rattle.plan.specs.inner.Plan.{Ready, special, EntryOf, OfferBlock, Alike, ruled, Leader, Leads, PolicyPlan, Planned}
 use Rattle.plan.specs.inner.Regions.{blockEntries, eventEntries}
-use Rattle.plan.proofs.ContextLaws.{meets-at}
-use Rattle.plan.specs.inner.Entries.{specialAt, firstAt, keyAt, writesAt, readsAt, typeSpecialAt, leadsAt}
+use Rattle.plan.specs.inner.Entries.{countedAt, specialAt, firstAt, keyAt, writesAt, readsAt, typeSpecialAt, leadsAt}
 use Rattle.search_steps.specs.declared.nearest.Asker.{Asker}
 use Rattle.search_steps.specs.declared.nearest.Offer.{Offer}
 use Rattle.search_steps.specs.inner.Nearest.{stepOf, closed, PassedOver, PassedAt, StepBlock, Nearest, NearestOf, StepBlockOf}
-use Rattle.search_steps.specs.inner.Steps.{specialBy, heldBy, Offering, NextOffer, FirstOffer}
+use Rattle.search_steps.specs.inner.Steps.{specialBy, Offering, NextOffer, FirstOffer}
+use Rattle.relations.proofs.CountedLaws.{gamma-counted}
 use Rattle.search_steps.proofs.FlowLaws.{alpha-defined, defined-class, flow-class, flow-held, flow-by, plain-conditions, conditions}
 use Rattle.search_steps.proofs.NearestLaws.{perm-of, all-passed, none-open}
 use Rattle.search_steps.proofs.AlikeLaws.{special-same, conditions-same}
 
 module _ {s : List ℕ} {n : Counts} {plan : List ℕ} (R : Ready s n) (P : Planned s n plan) where
   abbrev p : Policy
-  p = policyOf s
+  p = ruled s plan
 
   pub type-in : {x : Context} → ContextInRange n x → Within 1 (p .counts .types) (x .ty)
   type-in {x} h = subst (λ (k : Counts). Within 1 (k .types) (x .ty)) (R .same) (h .ty)
@@ -49,10 +48,10 @@ module _ {s : List ℕ} {n : Counts} {plan : List ℕ} (R : Ready s n) (P : Plan
   type-few h = let w = type-in h .high in omega (arith, R .sound .range .types .high)
 
   block-of : {x : Context} → ContextInRange n x → OfferBlock p (x .ty) plan (firstAt plan (x .ty)) (firstAt plan (x .ty + 1))
-  block-of {x} h = P .policy .index .blocks (x .ty) (type-in h)
+  block-of {x} h = P .index .blocks (x .ty) (type-in h)
 
   pub block-top : {x : Context} → ContextInRange n x → firstAt plan (x .ty + 1) ≤ blockEntries
-  block-top {x} h = P .policy .index .tops (x .ty) (type-in h)
+  block-top {x} h = P .index .tops (x .ty) (type-in h)
 
   pub block-order : {x : Context} → ContextInRange n x → firstAt plan (x .ty) ≤ firstAt plan (x .ty + 1)
   block-order h = block-of h .order
@@ -60,7 +59,7 @@ module _ {s : List ℕ} {n : Counts} {plan : List ℕ} (R : Ready s n) (P : Plan
   pub block-law : {x : Context} → ContextInRange n x → StepBlock plan (firstAt plan (x .ty)) (firstAt plan (x .ty + 1))
   block-law {x} h =
       record {
-        size = omega (arith, P .policy .size);
+        size = omega (arith, P .size);
         high = block-top h;
         rising = block-of h .rising;
         small = λ j l k. omega (arith, block-of h .ranged j l k .class .high);
@@ -73,7 +72,7 @@ module _ {s : List ℕ} {n : Counts} {plan : List ℕ} (R : Ready s n) (P : Plan
         type = let z = type-few h in omega arith;
         order = block-order h;
         block = block-law h;
-        type-special = P .policy .type-special (x .ty) (type-in h);
+        type-special = P .type-special (x .ty) (type-in h);
         among = λ j q l k b. P .leads (x .ty) j (type-in h) l k .among q b;
       }
 
@@ -101,8 +100,8 @@ module _ {s : List ℕ} {n : Counts} {plan : List ℕ} (R : Ready s n) (P : Plan
       defined : Within 1 (p .counts .classes) c
       defined =
           ⊎-elim
-          (λ a. defined-class p (eventAt c q) (R .sound .fields) (alpha-defined p (eventAt c q) (x .ty) o (and-first (α p (x .ty) o (eventAt c q)) (writeLike p (eventAt c q)) (sym (block-of h .writes j q l k lq) ∙ a))))
-          (λ a. defined-class p (eventAt c q) (R .sound .fields) (alpha-defined p (eventAt c q) o (x .ty) (and-first (α p o (x .ty) (eventAt c q)) (readLike p (eventAt c q)) (sym (block-of h .reads j q l k lq) ∙ a))))
+          (λ a. defined-class (policyOf s) (eventAt c q) (R .sound .fields) (sym (gamma-counted (countedAt plan) (policyOf s) (eventAt c q)) ∙ alpha-defined p (eventAt c q) (x .ty) o (and-first (α p (x .ty) o (eventAt c q)) (writeLike p (eventAt c q)) (sym (block-of h .writes j q l k lq) ∙ a))))
+          (λ a. defined-class (policyOf s) (eventAt c q) (R .sound .fields) (sym (gamma-counted (countedAt plan) (policyOf s) (eventAt c q)) ∙ alpha-defined p (eventAt c q) o (x .ty) (and-first (α p o (x .ty) (eventAt c q)) (readLike p (eventAt c q)) (sym (block-of h .reads j q l k lq) ∙ a))))
           (or-cases (bit (writesAt plan j) q) (bit (readsAt plan j) q) (sym (bit-or (writesAt plan j) (readsAt plan j) q) ∙ bears))
 
       offering-at : (e o′ : ℕ) → c ≡ e / 32 → q ≡ e % 32 → o ≡ o′ → Offering p plan (x .ty) e o′ j
@@ -139,7 +138,7 @@ module _ {s : List ℕ} {n : Counts} {plan : List ℕ} (R : Ready s n) (P : Plan
 
     module _ (i : ℕ) (y : Context) (r : ContextInRange (p .counts) y) (t : flow p (eventOf i) x y ≡ true) where
       small : i / 32 < 32
-      small = let w = flow-class {s = s} (eventOf i) x y (R .sound) t .high in omega (arith, R .sound .range .classes .high)
+      small = let w = flow-class {s = s} (countedAt plan) (eventOf i) x y (R .sound) t .high in omega (arith, R .sound .range .classes .high)
 
       few : y .ty < 4096
       few = let w = r .ty .high in omega (arith, R .sound .range .types .high)
@@ -294,12 +293,9 @@ none-special {plan} {swept} {t} {a} {start} {entry} B spent z₀ = none-open sta
         (λ (f : bit (specialAt plan (keyAt plan j / 4096 % 32)) q ≡ false). inr (unasked j q lq class f))
         (true-or-false (bit (specialAt plan (keyAt plan j / 4096 % 32)) q))
 
--- what the plan says of special events, of ρ and μ, the policy says
-pub special-is : {s : List ℕ} {n : Counts} {plan : List ℕ} {e : ℕ} → PolicyPlan s n plan → e < eventEntries → specialBy plan e ≡ special (policyOf s) (eventOf e)
+-- what the plan says of special events the policy says
+pub special-is : {p : Policy} {n : Counts} {plan : List ℕ} {e : ℕ} → PolicyPlan p n plan → e < eventEntries → specialBy plan e ≡ special p (eventOf e)
 special-is {e = e} P h = P .tables .special-at (e / 32) (e % 32) (omega arith)
-
-pub held-is : {s : List ℕ} {n : Counts} {plan : List ℕ} {o place : ℕ} → PolicyPlan s n plan → OfType n o place → heldBy n plan o place ≡ meetsρμ (policyOf s) (contextAtIndex n place)
-held-is P H = meets-at P H refl
 
 -- ---- whether a step that an entry offers flows
 yes-then : (a b c d : Bool) → c ≡ true → d ≡ true → (a || b) ≡ true → ((a && c) || (b && d)) ≡ true
@@ -346,7 +342,7 @@ roles-few {s} {n} {x} R h =
     let o : n .roles ≤ 15 = subst (λ (k : Counts). k .roles ≤ 15) (sym (R .same)) (R .sound .range .roles .high) in
     omega (arith, h .role .high)
 
-pub event-few : {s : List ℕ} {plan : List ℕ} {t e o entry : ℕ} → Sound s → Offering (policyOf s) plan t e o entry → e < eventEntries
+pub event-few : {s : List ℕ} {plan : List ℕ} {t e o entry : ℕ} → Sound s → Offering (ruled s plan) plan t e o entry → e < eventEntries
 event-few S O = omega (arith, O .event .high, S .range .classes .high)
 
 module _ {p : Policy} {plan : List ℕ} {e entry : ℕ} (x y : Context) (hx : meetsρμ p x ≡ true) (hy : meetsρμ p y ≡ true) (O : Offering p plan (x .ty) e (y .ty) entry) where

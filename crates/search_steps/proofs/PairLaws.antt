@@ -20,6 +20,8 @@ use Rattle.base.proofs.LowestLaws.{lowest-has, lowest-first}
 use Rattle.base.proofs.Numbers.{split-eq, split-le, zeros}
 use Rattle.policy_image.specs.declared.counts.Counts.{Counts}
 use Rattle.policy_image.specs.Policy.{Policy, policyOf}
+use Rattle.policy_image.specs.inner.Counting.{counting}
+use Rattle.constraints.proofs.CountedLaws.{constraints-counted}
 use Rattle.policy_check.specs.inner.Sound.{Sound}
 use Rattle.context.specs.declared.Context.{Context}
 use Rattle.context.specs.Codes.{eventAt, eventOf, isTransition}
@@ -32,7 +34,7 @@ use Rattle.access.specs.Authorization.{flow}
 use Rattle.access.proofs.RoleLaws.{mayBecome, rule-free, rule-asked}
 use Rattle.goal_model.specs.Images.{meetsρμ}
 use Rattle.plan.specs.inner.Entries.{groupsAt, writesAt, readsAt}
-use Rattle.plan.specs.inner.Plan.{Tabled, Grouped}
+use Rattle.plan.specs.inner.Plan.{Tabled, Grouped, ruled}
 use Rattle.search_constraints.specs.declared.asked.Ask.{Ask}
 use Rattle.search_constraints.specs.inner.Pairs.{RowsOf}
 use Rattle.search_constraints.specs.inner.Asked.{Askable, AskedWord, AskedBefore, pairAt, actingAt, actedAt}
@@ -143,6 +145,11 @@ rule-none {a = a} d =
 pub way-none : {p : Policy} {m : Bool} {a : Ask} → m ≡ false → WayWord p m a 0
 way-none {p} {m} {a} f = record { at = λ j lj h. bit-zero j ∙ sym (ap (λ (c : Bool). c && conditions p (eventOf (a .event)) (actingAt (p .counts) a j) (actedAt (p .counts) a j)) f) }
 
+-- which allow records count is nothing to what constraints say
+pub asked-counted : (f : ℕ → Bool) {p : Policy} {a : Ask} {v : ℕ} → AskedWord p a v → AskedWord (counting f p) a v
+asked-counted f {p} {a} W =
+    record { at = λ j lj h. W .at j lj h ∙ sym (constraints-counted f p (actingAt (p .counts) a j) (actedAt (p .counts) a j) (eventOf (a .event))) }
+
 -- what is asked of another event
 abbrev pub askLike : Ask → ℕ → Ask
 askLike a e = record { event = e; x = a .x; ty = a .ty; word = a .word; acts = a .acts }
@@ -169,7 +176,7 @@ abbrev pub stepAsk : Context → ℕ → ℕ → ℕ → Bool → Ask
 stepAsk x e o w acts = record { event = e; x = x; ty = o; word = w; acts = acts }
 
 pub step-askable : {s plan : List ℕ} {x : Context} {e o entry w : ℕ} {c : Bool} (acts : Bool) → Sound s → ContextInRange (policyOf s .counts) x
-    → Facing (policyOf s) plan x e o entry c → w < 4 → Askable (stepAsk x e o w acts)
+    → Facing (ruled s plan) plan x e o entry c → w < 4 → Askable (stepAsk x e o w acts)
 step-askable acts S H F hw =
     record {
       event = event-few S (F .offering);

@@ -19,6 +19,7 @@ ghost use mathlib.Core.Path.{_≡_};
 ghost use Prim.Native.Nat.{_≤_, _<_};
 ghost use lib.ListN.{length, getD};
 ghost use Rattle.policy_image.specs.Policy.{policyOf};
+ghost use Rattle.plan.specs.inner.Plan.{ruled};
 ghost use Rattle.context.specs.Ranges.{ContextInRange};
 ghost use Rattle.plan.specs.inner.Regions.{roleEntries, eventEntries, planEntries};
 ghost use Rattle.search_constraints.specs.inner.Asked.{Askable, AskedBefore};
@@ -83,7 +84,7 @@ fn way_word(
     a: Ask,
 ) -> u64
     requires { ⌜ Asking (now policy) (now plan) (now rows) (now marks) (now memo) × Askable a ⌝ }
-    ensures { λ r. ⌜ WayWord (policyOf (now (policy .entry))) may a r × AskedBefore (policyOf (now (policy .entry))) (now (marks .entry)) (now (memo .exit)) ⌝ }
+    ensures { λ r. ⌜ WayWord (ruled (now (policy .entry)) (now (plan .entry))) may a r × AskedBefore (policyOf (now (policy .entry))) (now (marks .entry)) (now (memo .exit)) ⌝ }
 {
     if !may {
         return 0;
@@ -110,8 +111,8 @@ fn step_word(
     sweep: Sweep,
     word: u32,
 ) -> u64
-    requires { ⌜ Asking (now policy) (now plan) (now rows) (now marks) (now memo) × ContextInRange (policyOf (now policy) .counts) x × Facing (policyOf (now policy)) (now plan) x (sweep .event) (sweep .ty) (sweep .entry) (sweep .special) × (word < 4) ⌝ }
-    ensures { λ r. ⌜ StepWord (policyOf (now (policy .entry))) x (sweep .event) (sweep .ty) word r × AskedBefore (policyOf (now (policy .entry))) (now (marks .entry)) (now (memo .exit)) ⌝ }
+    requires { ⌜ Asking (now policy) (now plan) (now rows) (now marks) (now memo) × ContextInRange (policyOf (now policy) .counts) x × Facing (ruled (now policy) (now plan)) (now plan) x (sweep .event) (sweep .ty) (sweep .entry) (sweep .special) × (word < 4) ⌝ }
+    ensures { λ r. ⌜ StepWord (ruled (now (policy .entry)) (now (plan .entry))) x (sweep .event) (sweep .ty) word r × AskedBefore (policyOf (now (policy .entry))) (now (marks .entry)) (now (memo .exit)) ⌝ }
 {
     if !sweep.special {
         return ALL;
@@ -150,8 +151,8 @@ pub fn step_pairs(
     sweep: Sweep,
     among: &[u64; 4],
 ) -> [u64; 4]
-    requires { ⌜ Asking (now policy) (now plan) (now rows) (now marks) (now memo) × ContextInRange (policyOf (now policy) .counts) x × Facing (policyOf (now policy)) (now plan) x (sweep .event) (sweep .ty) (sweep .entry) (sweep .special) ⌝ }
-    ensures { λ r. ⌜ StepPairs (policyOf (now (policy .entry))) (policyOf (now (policy .entry)) .counts) x (sweep .event) (sweep .ty) (now (among .entry)) r 4 × AskedBefore (policyOf (now (policy .entry))) (now (marks .entry)) (now (memo .exit)) ⌝ }
+    requires { ⌜ Asking (now policy) (now plan) (now rows) (now marks) (now memo) × ContextInRange (policyOf (now policy) .counts) x × Facing (ruled (now policy) (now plan)) (now plan) x (sweep .event) (sweep .ty) (sweep .entry) (sweep .special) ⌝ }
+    ensures { λ r. ⌜ StepPairs (ruled (now (policy .entry)) (now (plan .entry))) (policyOf (now (policy .entry)) .counts) x (sweep .event) (sweep .ty) (now (among .entry)) r 4 × AskedBefore (policyOf (now (policy .entry))) (now (marks .entry)) (now (memo .exit)) ⌝ }
 {
     let mut pairs = [0u64; 4];
     let mut w: u32 = 0;

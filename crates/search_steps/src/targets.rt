@@ -3,11 +3,8 @@ use base::bits::has_bit;
 use constraints::constraints_hold;
 use context::Context;
 use context::Event;
-use context::places::first_place;
 use plan::regions::CHANGES_START;
-use plan::regions::HOLDERS_START;
 use plan::regions::READS_START;
-use plan::regions::ROLES_START;
 use plan::regions::SPECIAL_START;
 use plan::regions::WRITES_START;
 use policy_image::counts::Counts;
@@ -15,17 +12,16 @@ ghost use mathlib.Core.Path.{_≡_};
 ghost use mathlib.Core.Bool.{true, _&&_};
 ghost use Prim.Native.Nat.{_≤_, _<_};
 ghost use lib.ListN.{length};
-ghost use Rattle.policy_image.specs.Policy.{policyOf};
 ghost use Rattle.context.specs.Codes.{eventOf};
 ghost use Rattle.context.specs.Ranges.{ContextInRange};
-ghost use Rattle.context.specs.inner.Places.{contextCount, contextAtIndex, OfType};
+ghost use Rattle.context.specs.inner.Places.{contextCount, contextAtIndex};
 ghost use Rattle.access.specs.Authorization.{roleRule, flow};
 ghost use Rattle.constraints.specs.Constraints.{constraintsHold};
 ghost use Rattle.goal_model.specs.Images.{meetsρμ};
 ghost use Rattle.policy_check.specs.inner.Sound.{Sound};
-ghost use Rattle.plan.specs.inner.Plan.{Ready, PlanCounts, PolicyPlan};
+ghost use Rattle.plan.specs.inner.Plan.{Ready, Planned, ruled};
 ghost use Rattle.plan.specs.inner.Regions.{roleEntries, eventEntries, planEntries};
-ghost use Rattle.search_steps.specs.inner.Steps.{specialBy, heldBy, Conditions, Offering, Facing};
+ghost use Rattle.search_steps.specs.inner.Steps.{specialBy, Conditions, Offering, Facing};
 
 // Whether the event is one whose flow depends on more than types, ρ and μ.
 pub fn is_special(plan: &[u32], event: u32) -> bool
@@ -38,8 +34,8 @@ pub fn is_special(plan: &[u32], event: u32) -> bool
 
 // Whether the event may be, by types, ρ and μ, and the constraints on it and the role rule hold: x acts, y is acted on.
 fn may_act(policy: &[u8], plan: &[u32], event: u32, may: bool, x: Context, y: Context) -> bool
-    requires { ⌜ Sound (now policy) × Conditions (policyOf (now policy)) (now plan) × (event < eventEntries) × (x .role < roleEntries) × (y .role < roleEntries) ⌝ }
-    ensures { λ r. ⌜ r ≡ (may && (constraintsHold (policyOf (now (policy .entry))) (eventOf event) x y && roleRule (policyOf (now (policy .entry))) (eventOf event) x y)) ⌝ }
+    requires { ⌜ Sound (now policy) × Conditions (ruled (now policy) (now plan)) (now plan) × (event < eventEntries) × (x .role < roleEntries) × (y .role < roleEntries) ⌝ }
+    ensures { λ r. ⌜ r ≡ (may && (constraintsHold (ruled (now (policy .entry)) (now (plan .entry))) (eventOf event) x y && roleRule (ruled (now (policy .entry)) (now (plan .entry))) (eventOf event) x y)) ⌝ }
 {
     if !may {
         return false;
@@ -57,8 +53,8 @@ fn may_act(policy: &[u8], plan: &[u32], event: u32, may: bool, x: Context, y: Co
 
 // Whether the event flows from x to y, both of which meet ρ and μ: the entry says which way it may.
 fn flows_by(policy: &[u8], plan: &[u32], event: u32, entry: usize, x: Context, y: Context) -> bool
-    requires { ⌜ Sound (now policy) × Conditions (policyOf (now policy)) (now plan) × (x .role < roleEntries) × (y .role < roleEntries) × (meetsρμ (policyOf (now policy)) x ≡ true) × (meetsρμ (policyOf (now policy)) y ≡ true) × Offering (policyOf (now policy)) (now plan) (x .ty) event (y .ty) entry ⌝ }
-    ensures { λ r. ⌜ r ≡ flow (policyOf (now (policy .entry))) (eventOf event) x y ⌝ }
+    requires { ⌜ Sound (now policy) × Conditions (ruled (now policy) (now plan)) (now plan) × (x .role < roleEntries) × (y .role < roleEntries) × (meetsρμ (ruled (now policy) (now plan)) x ≡ true) × (meetsρμ (ruled (now policy) (now plan)) y ≡ true) × Offering (ruled (now policy) (now plan)) (now plan) (x .ty) event (y .ty) entry ⌝ }
+    ensures { λ r. ⌜ r ≡ flow (ruled (now (policy .entry)) (now (plan .entry))) (eventOf event) x y ⌝ }
 {
     let perm = event % 32;
     let out = has_bit(plan[WRITES_START + entry], perm);
@@ -67,16 +63,6 @@ fn flows_by(policy: &[u8], plan: &[u32], event: u32, entry: usize, x: Context, y
     }
     let back = has_bit(plan[READS_START + entry], perm);
     may_act(policy, plan, event, back, y, x)
-}
-
-// Whether the context at the place, of the type, meets ρ and μ.
-pub fn is_held(counts: Counts, plan: &[u32], ty: u32, place: u32) -> bool
-    requires { ⌜ PlanCounts counts × (planEntries ≤ length (now plan)) × OfType counts ty place ⌝ }
-    ensures { λ r. ⌜ r ≡ heldBy counts (now (plan .entry)) ty place ⌝ }
-{
-    let own = ROLES_START + (ty as usize);
-    let pair = HOLDERS_START + ((place - first_place(counts, ty)) as usize);
-    plan[own] & plan[pair] != 0
 }
 
 // Whether the event flows from x to the context at the place, which meets ρ and μ, and to whose type the entry offers it.
@@ -90,8 +76,8 @@ pub fn is_target(
     special: bool,
     place: u32,
 ) -> bool
-    requires { ⌜ Ready (now policy) counts × PolicyPlan (now policy) counts (now plan) × ContextInRange counts x × (place < contextCount counts) × Facing (policyOf (now policy)) (now plan) x event (contextAtIndex counts place .ty) entry special × (meetsρμ (policyOf (now policy)) (contextAtIndex counts place) ≡ true) ⌝ }
-    ensures { λ r. ⌜ r ≡ flow (policyOf (now (policy .entry))) (eventOf event) x (contextAtIndex counts place) ⌝ }
+    requires { ⌜ Ready (now policy) counts × Planned (now policy) counts (now plan) × ContextInRange counts x × (place < contextCount counts) × Facing (ruled (now policy) (now plan)) (now plan) x event (contextAtIndex counts place .ty) entry special × (meetsρμ (ruled (now policy) (now plan)) (contextAtIndex counts place) ≡ true) ⌝ }
+    ensures { λ r. ⌜ r ≡ flow (ruled (now (policy .entry)) (now (plan .entry))) (eventOf event) x (contextAtIndex counts place) ⌝ }
 {
     if !special {
         return true;

@@ -8,12 +8,16 @@ use native.Mathlib.Omega.{arith}
 use lib.ListN.{length}
 use Rattle.base.specs.Numbers.{Numbered}
 use Rattle.base.specs.Questions.{Question, ask, AllYes, RefusedWith}
-use Rattle.base.proofs.QuestionLaws.{passed-not-refused, one-number, refused-first}
-use Rattle.policy_image.specs.Layout.{countsOf}
+use Rattle.base.proofs.QuestionLaws.{passed-not-refused, one-number, refused-first, refused-then}
+use Rattle.policy_image.specs.Layout.{countsOf, recordCount}
 use Rattle.policy_image.specs.Policy.{policyOf}
 use Rattle.policy_image.specs.cases.Weir.{weir, weirAllow31}
 use Rattle.policy_check.specs.Questions.{policyQuestions}
 use Rattle.policy_check.proofs.Cases.{w9-refused, w10-short, w10-empty, w11}
+use Rattle.policy_writing.specs.declared.answer.Writing.the-variants as writing
+use Rattle.policy_writing.specs.Writing.{writingNumber}
+use Rattle.policy_writing.proofs.WritingLaws.{one-writing}
+use Rattle.join.specs.Join.{joinedImage, joinQuestions, JoinPromise}
 use Rattle.context.specs.declared.Context.{Context}
 use Rattle.context.specs.declared.Event.{Event}
 use Rattle.access.specs.Authorization.{authorized, flow}
@@ -28,7 +32,7 @@ use Rattle.bare_questions.proofs.BareLaws.{last, one-answer}
 use Rattle.goal_question.specs.declared.goal.Outcome.{Outcome}
 use Rattle.goal_question.specs.declared.goal.Outcome.the-variants as outcome
 use Rattle.goal_question.specs.GoalQuestion.{WorkFits, allQuestions, GoalPromise, outcomeNumber}
-use Rattle.goal_question.proofs.GoalLaws.{order-one, events-one, not-both, not-holds-order, not-holds-events, not-holds, least-one}
+use Rattle.goal_question.proofs.GoalLaws.{order-one, events-one, not-both, not-holds-order, not-holds-events, not-holds, least-one, either}
 use Rattle.goal_model.specs.cases.OwnGoals.{writeOnly}
 use Rattle.weir.specs.cases.Goals.{weirAllow41, empty, exceptType, endTypeOne, oneLeg, noStart}
 use Rattle.weir.specs.cases.Weir.{W5Slice}
@@ -42,43 +46,43 @@ use Rattle.weir.proofs.Theorem.{w12-first, w12-second, w5-slice}
 module _ (s g : List ℕ) (work1 work2 : ℕ) where
   pub refused-only : {k : ℕ} (before after : List ℕ) (r : Outcome) → RefusedWith (allQuestions s g work1 work2) k → GoalPromise s g work1 work2 before after r
       → (r ≡ outcome.Refused k) × (after ≡ before)
-  refused-only b a outcome.Holds h p = absurd (passed-not-refused (allQuestions s g work1 work2) _ (p .0) h)
-  refused-only b a (outcome.Order m) h p = absurd (passed-not-refused (allQuestions s g work1 work2) _ (p .0) h)
-  refused-only b a (outcome.Events m) h p = absurd (passed-not-refused (allQuestions s g work1 work2) _ (p .0) h)
+  refused-only b a outcome.Holds h p = absurd (passed-not-refused (allQuestions s g work1 work2) _ (p .0 .0) h)
+  refused-only b a (outcome.Order m) h p = absurd (passed-not-refused (allQuestions s g work1 work2) _ (p .0 .0) h)
+  refused-only b a (outcome.Events m) h p = absurd (passed-not-refused (allQuestions s g work1 work2) _ (p .0 .0) h)
   refused-only b a (outcome.Refused i) h p = (ap outcome.Refused (one-number (allQuestions s g work1 work2) i _ (p .0) h), p .1)
-  refused-only b a (outcome.NoRoom m) h p = absurd (passed-not-refused (allQuestions s g work1 work2) _ (p .0) h)
+  refused-only b a (outcome.NoRoom m) h p = absurd (passed-not-refused (allQuestions s g work1 work2) _ (either (p .0) .0) h)
 
   module _ (all : AllYes (allQuestions s g work1 work2)) where
     pub holds-only : (before after : List ℕ) (r : Outcome) → Holds (model s g) → GoalPromise s g work1 work2 before after r → (r ≡ outcome.Holds) × (after ≡ before)
-    holds-only b a outcome.Holds h p = (refl, p .2)
-    holds-only b a (outcome.Order m) h p = absurd (not-holds-order (model s g) m h (p .1))
-    holds-only b a (outcome.Events m) h p = absurd (not-holds-events (model s g) m h (p .1))
+    holds-only b a outcome.Holds h p = (refl, p .1)
+    holds-only b a (outcome.Order m) h p = absurd (not-holds-order (model s g) m h (p .0 .1))
+    holds-only b a (outcome.Events m) h p = absurd (not-holds-events (model s g) m h (p .0 .1))
     holds-only b a (outcome.Refused k) h p = absurd (passed-not-refused (allQuestions s g work1 work2) k all (p .0))
-    holds-only b a (outcome.NoRoom m) h p = absurd (not-holds (model s g) m h (p .1))
+    holds-only b a (outcome.NoRoom m) h p = absurd (not-holds (model s g) m h (either (p .0) .1))
 
     pub order-only : {m : ℕ} (before after : List ℕ) (r : Outcome) → OrderAt (model s g) m → 2 * m + 1 ≤ length before → GoalPromise s g work1 work2 before after r
         → r ≡ outcome.Order m
-    order-only b a outcome.Holds h room p = absurd (not-holds-order (model s g) _ (p .1) h)
-    order-only b a (outcome.Order i) h room p = ap outcome.Order (order-one (model s g) i _ (p .1) h)
-    order-only b a (outcome.Events i) h room p = absurd (not-both (model s g) _ i h (p .1))
+    order-only b a outcome.Holds h room p = absurd (not-holds-order (model s g) _ (p .0 .1) h)
+    order-only b a (outcome.Order i) h room p = ap outcome.Order (order-one (model s g) i _ (p .0 .1) h)
+    order-only b a (outcome.Events i) h room p = absurd (not-both (model s g) _ i h (p .0 .1))
     order-only b a (outcome.Refused k) h room p = absurd (passed-not-refused (allQuestions s g work1 work2) k all (p .0))
-    order-only {m} b a (outcome.NoRoom i) h room p = let e : i ≡ m = least-one (model s g) i m (p .1) (inl h) in absurd (omega (arith, p .2))
+    order-only {m} b a (outcome.NoRoom i) h room p = let e : i ≡ m = least-one (model s g) i m (either (p .0) .1) (inl h) in absurd (omega (arith, p .1))
 
     pub events-only : {m : ℕ} (before after : List ℕ) (r : Outcome) → EventsAt (model s g) m → 2 * m + 1 ≤ length before → GoalPromise s g work1 work2 before after r
         → r ≡ outcome.Events m
-    events-only b a outcome.Holds h room p = absurd (not-holds-events (model s g) _ (p .1) h)
-    events-only b a (outcome.Order i) h room p = absurd (not-both (model s g) i _ (p .1) h)
-    events-only b a (outcome.Events i) h room p = ap outcome.Events (events-one (model s g) i _ (p .1) h)
+    events-only b a outcome.Holds h room p = absurd (not-holds-events (model s g) _ (p .0 .1) h)
+    events-only b a (outcome.Order i) h room p = absurd (not-both (model s g) i _ (p .0 .1) h)
+    events-only b a (outcome.Events i) h room p = ap outcome.Events (events-one (model s g) i _ (p .0 .1) h)
     events-only b a (outcome.Refused k) h room p = absurd (passed-not-refused (allQuestions s g work1 work2) k all (p .0))
-    events-only {m} b a (outcome.NoRoom i) h room p = let e : i ≡ m = least-one (model s g) i m (p .1) (inr h) in absurd (omega (arith, p .2))
+    events-only {m} b a (outcome.NoRoom i) h room p = let e : i ≡ m = least-one (model s g) i m (either (p .0) .1) (inr h) in absurd (omega (arith, p .1))
 
     pub short-only : {m : ℕ} (before after : List ℕ) (r : Outcome) → OrderAt (model s g) m ⊎ EventsAt (model s g) m → length before < 2 * m + 1
         → GoalPromise s g work1 work2 before after r → (r ≡ outcome.NoRoom m) × (after ≡ before)
-    short-only {m} b a outcome.Holds h short p = absurd (not-holds (model s g) m (p .1) h)
-    short-only {m} b a (outcome.Order i) h short p = let e : i ≡ m = least-one (model s g) i m (inl (p .1)) h in absurd (omega (arith, p .2 .room))
-    short-only {m} b a (outcome.Events i) h short p = let e : i ≡ m = least-one (model s g) i m (inr (p .1)) h in absurd (omega (arith, p .2 .room))
+    short-only {m} b a outcome.Holds h short p = absurd (not-holds (model s g) m (p .0 .1) h)
+    short-only {m} b a (outcome.Order i) h short p = let e : i ≡ m = least-one (model s g) i m (inl (p .0 .1)) h in absurd (omega (arith, p .1 .room))
+    short-only {m} b a (outcome.Events i) h short p = let e : i ≡ m = least-one (model s g) i m (inr (p .0 .1)) h in absurd (omega (arith, p .1 .room))
     short-only b a (outcome.Refused k) h short p = absurd (passed-not-refused (allQuestions s g work1 work2) k all (p .0))
-    short-only {m} b a (outcome.NoRoom i) h short p = (ap outcome.NoRoom (least-one (model s g) i m (p .1) h), p .3)
+    short-only {m} b a (outcome.NoRoom i) h short p = (ap outcome.NoRoom (least-one (model s g) i m (either (p .0) .1) h), p .2)
 
 -- ---- the numbers that C gets
 pub refuses : {k : ℕ} (s g : List ℕ) (work1 work2 : ℕ) → RefusedWith (allQuestions s g work1 work2) k → Refuses s g work1 work2 k
@@ -130,6 +134,24 @@ policy-refuses : {k : ℕ} (s : List ℕ) → RefusedWith (policyQuestions s) k 
 policy-refuses {k} s r g work1 work2 =
     refuses s g work1 work2 (refused-first (policyQuestions s) (goalQuestions (countsOf s) g ++ (ask 11 (WorkFits s g work1 work2) ∷ [])) k r)
 
+-- .. of the join, by the maker's questions, or by the board's where the maker's are passed
+abbrev joinRoom : List ℕ → List ℕ → List ℕ → List Question
+joinRoom s t before = ask 15 (recordCount s + recordCount t ≤ 4095) ∷ ask 16 (length (joinedImage s t) ≤ length before) ∷ []
+
+module _ (s t before after : List ℕ) (n k : ℕ) (N : Numbered writingNumber (JoinPromise s t before after) n) where
+  join-refuses : RefusedWith (joinQuestions s t (length before)) k → (n ≡ 4 * k + 3) × (after ≡ before)
+  join-refuses r =
+      let o = one-writing (joinQuestions s t (length before)) (joinedImage s t) before after before (N .answer) (writing.Refused k) (N .promised) (r, refl) in
+      (N .number ∙ ap writingNumber (o .0), o .1)
+
+  maker-refuses : RefusedWith (policyQuestions s) k → (n ≡ 4 * k + 3) × (after ≡ before)
+  maker-refuses r = join-refuses (refused-first (policyQuestions s) (policyQuestions t ++ joinRoom s t before) k r)
+
+  board-refuses : AllYes (policyQuestions s) → RefusedWith (policyQuestions t) k → (n ≡ 4 * k + 3) × (after ≡ before)
+  board-refuses a r =
+      join-refuses
+      (refused-then (policyQuestions s) (policyQuestions t ++ joinRoom s t before) k a (refused-first (policyQuestions t) (joinRoom s t before) k r))
+
 -- what is so of the numbers of all questions is so of that of a refusal
 abbrev pub AllNumbers : (ℕ → Type 0) → List Question → Type 0
 AllNumbers P [] = Unit
@@ -177,6 +199,8 @@ weir-called =
       w9-flows = λ x y e. bare-refuses weirAllow31 (w9-refused .it) x y e (flow (policyOf weirAllow31) e x y);
       w9-steps = λ x y work1 work2. refuses-steps weirAllow31 x y work1 work2 (steps-cases .fourteen-before-13 x y work1 work2);
       w9-check = policy-refuses weirAllow31 (w9-refused .it);
+      w9-join-maker = λ t before after n N. maker-refuses weirAllow31 t before after n 14 N (w9-refused .it);
+      w9-join-board = λ s before after n a N. board-refuses s weirAllow31 before after n 14 N a (w9-refused .it);
       w9-short-goal = λ g work1 work2 h. (goals.short (countsOf weirAllow31) g h .it, policy-refuses weirAllow31 (w9-refused .it) g work1 work2);
       w10 = λ s g work1 work2 h. policy-refuses s (w10-short s h .it) g work1 work2;
       w10-empty = empty-passed;

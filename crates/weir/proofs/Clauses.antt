@@ -39,7 +39,7 @@ use Rattle.bare_questions.specs.Bare.{bareQuestions, AuthorizationAnswer, numbe
 use Rattle.goal_question.specs.GoalQuestion.{allQuestions, GoalPromise, outcomeNumber}
 use Rattle.bare_questions.proofs.BareLaws.{one-answer}
 use Rattle.bare_questions.proofs.Cases.{reads, reads-not, not-always-yes, not-always-no, second-user-2, not-refusing as never-refused}
-use Rattle.goal_question.proofs.GoalLaws.{order-one, events-one, least-one, one-outcome}
+use Rattle.goal_question.proofs.GoalLaws.{order-one, events-one, least-one, either, one-outcome}
 use Rattle.weir.specs.cases.Goals.{weirAllow41}
 use Rattle.weir.specs.cases.Wrong.{noMiddle, noEvents, twoStarts, eitherEnd}
 use Rattle.weir.specs.cases.Clauses.{short, long, fromThree, noStep, zeros, moreZeros, Clauses}
@@ -172,7 +172,7 @@ w5-not-0 N = go (N .answer) (N .promised) (N .number)
     go (outcome.NoRoom m) p q = omega arith
 
 w1-holds : GoalPromise weir goalG 32 32 [] [] outcome.Holds
-w1-holds = (w1-enough, w1, refl)
+w1-holds = ((w1-enough, w1), refl)
 
 w1-not-1 : Numbered outcomeNumber (GoalPromise weir goalG 32 32 [] []) 1 → ⊥
 w1-not-1 N =
@@ -206,12 +206,12 @@ clauses =
     record {
       holds-asked = record { hold = w1; rejected = not-one-slice [] [] };
       holds-none = record { hold = w5-enough; rejected = not-always-holds [] [] };
-      holds-unchanged = record { hold = (w1-enough, w1); rejected = λ p. changed (sym (p .2)) };
-      order-asked = record { hold = (w5, short-path, short-order); rejected = λ p. passed-not-refused (allQuestions weirAllow41 goalG 31 32) 11 (p .0) w5-refused };
+      holds-unchanged = record { hold = (w1-enough, w1); rejected = λ p. changed (sym (p .1)) };
+      order-asked = record { hold = (w5, short-path, short-order); rejected = λ p. passed-not-refused (allQuestions weirAllow41 goalG 31 32) 11 (p .0 .0) w5-refused };
       order-least =
           record {
             hold = (no-middle-enough, record { x = contextsIn long; e = eventsIn long; path = no-middle-path .path; breaks = no-middle-order }, no-middle-path, no-middle-order);
-            rejected = λ p. let e = order-one (model weirAllow41 noMiddle) 3 1 (p .1) no-middle-at in omega arith;
+            rejected = λ p. let e = order-one (model weirAllow41 noMiddle) 3 1 (p .0 .1) no-middle-at in omega arith;
           };
       order-shown =
           record {
@@ -220,9 +220,9 @@ clauses =
           };
       shown-whole = record { hold = (omega arith, behind short zeros refl, longer-path); rejected = λ s. let z : _≡_ {A = ℕ} 4 3 = s .whole in omega arith };
       shown-rest = record { hold = changed-path; rejected = λ s. let z : _≡_ {A = ℕ} 8 7 = s .rest 3 (omega arith) in omega arith };
-      order-breaks = record { hold = (two-starts-enough, two-starts-at, two-starts-path); rejected = λ p. two-starts-keeps (p .3) };
+      order-breaks = record { hold = (two-starts-enough, two-starts-at, two-starts-path); rejected = λ p. two-starts-keeps (p .2) };
       events-asked =
-          record { hold = (w2, write-only-path, write-only-events); rejected = λ p. passed-not-refused (allQuestions weir writeOnly 31 32) 11 (p .0) w2-refused };
+          record { hold = (w2, write-only-path, write-only-events); rejected = λ p. passed-not-refused (allQuestions weir writeOnly 31 32) 11 (p .0 .0) w2-refused };
       events-least =
           record {
             hold = (
@@ -232,7 +232,7 @@ clauses =
               no-events-path,
               no-events-events,
             );
-            rejected = λ p. let e = events-one (model weirAllow41 noEvents) 3 1 (p .1) no-events-at in omega arith;
+            rejected = λ p. let e = events-one (model weirAllow41 noEvents) 3 1 (p .0 .1) no-events-at in omega arith;
           };
       events-no-tie =
           record {
@@ -245,21 +245,21 @@ clauses =
             );
             rejected = not-events-on-tie short short 1;
           };
-      events-shown = record { hold = (w2-enough, w2, zeros-events); rejected = λ p. zeros-no-path (p .2) };
-      events-breaks = record { hold = (either-end-enough, either-end-at, either-end-path); rejected = λ p. either-end-follows (p .3) };
+      events-shown = record { hold = (w2-enough, w2, zeros-events); rejected = λ p. zeros-no-path (p .1) };
+      events-breaks = record { hold = (either-end-enough, either-end-at, either-end-path); rejected = λ p. either-end-follows (p .2) };
       refused-first = not-refusing [] [];
       refused-unchanged = record { hold = w12-first 32; rejected = λ p. changed (sym (p .1)) };
       no-room-asked =
-          record { hold = (inl w5, omega arith); rejected = λ p. passed-not-refused (allQuestions weirAllow41 goalG 31 32) 11 (p .0) w5-refused };
+          record { hold = (inl w5, omega arith); rejected = λ p. passed-not-refused (allQuestions weirAllow41 goalG 31 32) 11 (either (p .0) .0) w5-refused };
       no-room-some = record { hold = (w1-enough, (λ k h. w1 k), omega arith); rejected = not-unsearched [] [] 1 };
       no-room-least =
           record {
             hold = (no-middle-enough, record { x = contextsIn long; e = eventsIn long; path = no-middle-path .path; breaks = no-middle-order }, omega arith);
-            rejected = λ p. let e = least-one (model weirAllow41 noMiddle) 3 1 (p .1) (inl no-middle-at) in omega arith;
+            rejected = λ p. let e = least-one (model weirAllow41 noMiddle) 3 1 (either (p .0) .1) (inl no-middle-at) in omega arith;
           };
       no-room-short = record { hold = (w5-enough, inl w5); rejected = λ p. let z = not-other-room zeros zeros 1 p .1 in omega arith };
       no-room-unchanged =
-          record { hold = (w5-enough, inl w5); rejected = λ p. let z : _≡_ {A = ℕ} 273 0 = ap (λ (l : List ℕ). getD l 0 0) (p .3) in omega arith };
+          record { hold = (w5-enough, inl w5); rejected = λ p. let z : _≡_ {A = ℕ} 273 0 = ap (λ (l : List ℕ). getD l 0 0) (p .2) in omega arith };
       number-promised = record { hold = w5-enough; rejected = w5-not-0 };
       number-told = record { hold = w1-holds; rejected = w1-not-1 };
       yes-asked =

@@ -8,6 +8,7 @@ use Rattle.base.specs.Questions.{AllYes}
 use Rattle.policy_image.specs.declared.records.Record.{Record}
 use Rattle.policy_image.specs.Layout.{recordCount}
 use Rattle.policy_image.specs.Policy.{Policy, policyOf}
+use Rattle.policy_image.specs.inner.Sizes.{headerSize, sizeOf}
 use Rattle.policy_image.specs.inner.Writable.{WritableRecord, Writable}
 use Rattle.policy_image.proofs.EncodingLaws.{count-written, image-length}
 use Rattle.policy_links.proofs.KindLaws.{every-yes}
@@ -102,6 +103,7 @@ module _ (n : ℕ) where
 
 -- ---- two of them joined
 pub many-length : (n m : ℕ) → n ≤ 4095 → m ≤ 4095 → length (joinedImage (manyDomains n) (manyDomains m)) ≡ 24 + 12 * (n + m)
+unfolding headerSize sizeOf
 many-length n m a b =
     let C = many-passes n a .1 .1 .1 .0 in
     let D = many-passes m b .1 .1 .1 .0 in

@@ -4,6 +4,7 @@ pub mod Theorem
 pub mod StandIns
 pub mod Called
 pub mod Own
+pub mod Counted
 pub mod Bytes
 pub mod Shown
 pub mod Clauses

@@ -269,7 +269,7 @@ steps-changed = are changed-accepted (omega arith) (at 1 1 1) (at 4 1 1) (omega 
 same-printed : (before after : List ℕ) (n : ℕ) → 5 ≤ length before → Gives weirSameRole goalG 32 32 before after n → PrintsTwo before after
 same-printed before after n room G =
     let r = events-only weirSameRole goalG 32 32 same-enough {m = 2} before after (G .answer) same-now room (G .promised) in
-    let h = subst (λ (o : Outcome). GoalPromise weirSameRole goalG 32 32 before after o) r (G .promised) .2 in
+    let h = subst (λ (o : Outcome). GoalPromise weirSameRole goalG 32 32 before after o) r (G .promised) .1 in
     let q = same-path (contextsIn after) (eventsIn after) (h .path) in
     record { whole = h .whole; x0 = q .0; e0 = q .1; x1 = q .2; e1 = q .3; x2 = q .4; rest = h .rest }
 

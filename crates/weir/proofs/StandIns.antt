@@ -18,7 +18,7 @@ use Rattle.goal_model.specs.Images.{model}
 use Rattle.goal_question.specs.declared.goal.Outcome.{Outcome}
 use Rattle.goal_question.specs.declared.goal.Outcome.the-variants as outcome
 use Rattle.goal_question.specs.GoalQuestion.{WorkFits, allQuestions, GoalPromise, outcomeNumber}
-use Rattle.goal_question.proofs.GoalLaws.{order-one, not-both, not-holds-order, not-holds-events, not-holds, least-one}
+use Rattle.goal_question.proofs.GoalLaws.{order-one, not-both, not-holds-order, not-holds-events, not-holds, least-one, either}
 use Rattle.goal_model.specs.cases.OwnGoals.{writeOnly}
 use Rattle.weir.specs.cases.Goals.{weirAllow41}
 use Rattle.weir.proofs.Answers.{w1, w2, w5, w2-path}
@@ -32,17 +32,17 @@ W5 before after r = GoalPromise weirAllow41 goalG 32 32 before after r
 
 -- "a checker saying 'holds' always"
 pub not-always-holds : (before after : List ℕ) → W5 before after outcome.Holds → ⊥
-not-always-holds before after p = not-holds-order (model weirAllow41 goalG) 1 (p .1) w5
+not-always-holds before after p = not-holds-order (model weirAllow41 goalG) 1 (p .0 .1) w5
 
 -- "one always naming the same path", or giving any one answer: W5 and W2 have none in common
 pub not-always-same : (b a b′ a′ : List ℕ) (r : Outcome) → W5 b a r → GoalPromise weir writeOnly 32 32 b′ a′ r → ⊥
-not-always-same b a b′ a′ outcome.Holds p q = not-holds-order (model weirAllow41 goalG) 1 (p .1) w5
-not-always-same b a b′ a′ (outcome.Order m) p q = not-both (model weir writeOnly) m 3 (q .1) w2
-not-always-same b a b′ a′ (outcome.Events m) p q = not-both (model weirAllow41 goalG) 1 m w5 (p .1)
+not-always-same b a b′ a′ outcome.Holds p q = not-holds-order (model weirAllow41 goalG) 1 (p .0 .1) w5
+not-always-same b a b′ a′ (outcome.Order m) p q = not-both (model weir writeOnly) m 3 (q .0 .1) w2
+not-always-same b a b′ a′ (outcome.Events m) p q = not-both (model weirAllow41 goalG) 1 m w5 (p .0 .1)
 not-always-same b a b′ a′ (outcome.Refused k) p q = passed-not-refused (allQuestions weir writeOnly 32 32) k w2-enough (q .0)
 not-always-same b a b′ a′ (outcome.NoRoom m) p q =
-    let x = least-one (model weirAllow41 goalG) m 1 (p .1) (inl w5) in
-    let y = least-one (model weir writeOnly) m 3 (q .1) (inr w2) in
+    let x = least-one (model weirAllow41 goalG) m 1 (either (p .0) .1) (inl w5) in
+    let y = least-one (model weir writeOnly) m 3 (either (q .0) .1) (inr w2) in
     omega arith
 
 -- "or one leaving the path slice untouched"
@@ -55,29 +55,29 @@ not-refusing before after k p = passed-not-refused (allQuestions weir goalG 32 3
 
 -- "one following only the first leg": it would let W2 pass, whose leg 0 is done and whose leg 1 is not
 pub not-first-leg : (before after : List ℕ) → GoalPromise weir writeOnly 32 32 before after outcome.Holds → ⊥
-not-first-leg before after p = not-holds-events (model weir writeOnly) 3 (p .1) w2
+not-first-leg before after p = not-holds-events (model weir writeOnly) 3 (p .0 .1) w2
 
 -- "one inventing m": any other count, of either sort, or a path that is longer than need be
 pub not-invented : (before after : List ℕ) (m : ℕ) → W5 before after (outcome.Order m) → m ≡ 1
-not-invented before after m p = order-one (model weirAllow41 goalG) m 1 (p .1) w5
+not-invented before after m p = order-one (model weirAllow41 goalG) m 1 (p .0 .1) w5
 
 -- "one giving 12 unsearched": not where the goal holds, not with another count, and not where there is room
 pub not-unsearched : (before after : List ℕ) (m : ℕ) → GoalPromise weir goalG 32 32 before after (outcome.NoRoom m) → ⊥
-not-unsearched before after m p = not-holds (model weir goalG) m w1 (p .1)
+not-unsearched before after m p = not-holds (model weir goalG) m w1 (either (p .0) .1)
 
 pub not-other-room : (before after : List ℕ) (m : ℕ) → W5 before after (outcome.NoRoom m) → (m ≡ 1) × (length before < 3)
 not-other-room before after m p =
-    let e = least-one (model weirAllow41 goalG) m 1 (p .1) (inl w5) in
-    let l = p .2 in
+    let e = least-one (model weirAllow41 goalG) m 1 (either (p .0) .1) (inl w5) in
+    let l = p .1 in
     (e, omega arith)
 
 -- events on a tie: W5's path breaks both
 pub not-events-on-tie : (before after : List ℕ) (m : ℕ) → W5 before after (outcome.Events m) → ⊥
-not-events-on-tie before after m p = not-both (model weirAllow41 goalG) 1 m w5 (p .1)
+not-events-on-tie before after m p = not-both (model weirAllow41 goalG) 1 m w5 (p .0 .1)
 
 -- the path slice written on 12
 pub not-written-on-12 : (m : ℕ) → W5 [] (273 ∷ []) (outcome.NoRoom m) → ⊥
-not-written-on-12 m p = let z : _≡_ {A = ℕ} 1 0 = ap length (p .3) in omega arith
+not-written-on-12 m p = let z : _≡_ {A = ℕ} 1 0 = ap length (p .2) in omega arith
 
 -- an entry past the path changed
 pub not-past-the-path : (r : Outcome) → W5 (0 ∷ 0 ∷ 0 ∷ 7 ∷ []) (273 ∷ 64 ∷ 1057 ∷ 8 ∷ []) r → ⊥
@@ -88,13 +88,13 @@ not-past-the-path r p =
 
 -- the second work slice not asked
 pub not-one-slice : (before after : List ℕ) → GoalPromise weir goalG 32 31 before after outcome.Holds → ⊥
-not-one-slice before after p = passed-not-refused (allQuestions weir goalG 32 31) 11 (p .0) (w12-second 32)
+not-one-slice before after p = passed-not-refused (allQuestions weir goalG 32 31) 11 (p .0 .0) (w12-second 32)
 
 -- 11 asked with 2^(n−1): 16 entries are not enough
 pub not-half-the-work : (before after : List ℕ) → GoalPromise weir goalG 16 16 before after outcome.Holds → ⊥
 not-half-the-work before after p =
     let b = work-length in
-    passed-not-refused (allQuestions weir goalG 16 16) 11 (p .0) (refused-11 weir goalG 16 16 weir-accepted g-accepted (λ h. let a = h .first in omega arith))
+    passed-not-refused (allQuestions weir goalG 16 16) 11 (p .0 .0) (refused-11 weir goalG 16 16 weir-accepted g-accepted (λ h. let a = h .first in omega arith))
 
 -- a path one step too long, or too short: the count is the path's
 pub not-longer : (before after : List ℕ) → W5 before after (outcome.Order 2) → ⊥
@@ -106,7 +106,7 @@ not-shorter before after p = let e = not-invented before after 0 p in omega arit
 -- W2 has one path, and it is not W5's: 1 1 1, 2 0, 2 2 1, 2 1, 3 1 1, 2 0, 4 2 1 by their codes
 pub w2-slice : (before after : List ℕ) → GoalPromise weir writeOnly 32 32 before after (outcome.Events 3)
     → (getD after 0 0 ≡ 273) × (getD after 1 0 ≡ 64) × (getD after 2 0 ≡ 545) × (getD after 3 0 ≡ 65) × (getD after 4 0 ≡ 785) × (getD after 5 0 ≡ 64) × (getD after 6 0 ≡ 1057)
-w2-slice before after p = w2-path (contextsIn after) (eventsIn after) (p .2 .path)
+w2-slice before after p = w2-path (contextsIn after) (eventsIn after) (p .1 .path)
 
 -- "one always naming the same path": no slice shows both W5's path and W2's, whatever the outcomes beside it are
 pub not-same-path : (b b′ a : List ℕ) (r r′ : Outcome) → 3 ≤ length b → 7 ≤ length b′ → W5 b a r → GoalPromise weir writeOnly 32 32 b′ a r′ → ⊥
@@ -125,7 +125,7 @@ not-w5-path before p =
 
 -- the path slice written where the goal holds, or on a refusal before 12
 pub not-written-on-holds : GoalPromise weir goalG 32 32 (0 ∷ []) (273 ∷ []) outcome.Holds → ⊥
-not-written-on-holds p = let z : _≡_ {A = ℕ} 273 0 = ap (λ (l : List ℕ). getD l 0 0) (p .2) in omega arith
+not-written-on-holds p = let z : _≡_ {A = ℕ} 273 0 = ap (λ (l : List ℕ). getD l 0 0) (p .1) in omega arith
 
 pub not-written-on-11 : GoalPromise weir goalG 31 32 (0 ∷ []) (273 ∷ []) (outcome.Refused 11) → ⊥
 not-written-on-11 p = let z : _≡_ {A = ℕ} 273 0 = ap (λ (l : List ℕ). getD l 0 0) (p .1) in omega arith
@@ -139,7 +139,7 @@ not-goal-first work before after p =
 -- a goal that is refused, let pass: 0 bytes are no goal
 pub not-no-goal : (work : ℕ) (before after : List ℕ) → GoalPromise weir [] work work before after outcome.Holds → ⊥
 not-no-goal work before after p =
-    let a = passed-then (policyQuestions weir) (goalQuestions (countsOf weir) [] ++ (ask 11 (WorkFits weir [] work work) ∷ [])) (p .0) in
+    let a = passed-then (policyQuestions weir) (goalQuestions (countsOf weir) [] ++ (ask 11 (WorkFits weir [] work work) ∷ [])) (p .0 .0) in
     let h = a .0 .whole in
     omega arith
 

@@ -22,7 +22,7 @@ use Rattle.goal_question.specs.declared.goal.Outcome.the-variants as outcome
 use Rattle.paths.specs.Paths.{IsPath, OrderAt}
 use Rattle.paths.specs.Slice.{contextsIn, eventsIn, Shows}
 use Rattle.goal_question.specs.GoalQuestion.{allQuestions, GoalPromise}
-use Rattle.goal_question.proofs.GoalLaws.{order-one, not-both, not-holds-order, least-one}
+use Rattle.goal_question.proofs.GoalLaws.{order-one, not-both, not-holds-order, least-one, either}
 use Rattle.weir.specs.cases.Goals.{weirAllow41}
 use Rattle.weir.specs.cases.Weir.{W5Slice, Weir}
 use Rattle.weir.proofs.Accepted.{g-accepted, refused-11, work-length, w1-enough, w2-enough, w3-enough, w4-enough, w5-enough, w6-enough, w7-enough, w8-enough}
@@ -38,19 +38,19 @@ w12-second work = refused-11 weir goalG work 31 weir-accepted g-accepted (λ h. 
 -- ---- W5 by answer, count and path slice: of any image that has W5's steps, and W5's answer to G
 module _ (s : List ℕ) (all : AllYes (allQuestions s goalG 32 32)) (broken : OrderAt (model s goalG) 1) (covered : T (not (uncovered (policyOf s) steps41))) where
   pub slice-of-one : (before after : List ℕ) (r : Outcome) → 3 ≤ length before → GoalPromise s goalG 32 32 before after r → W5Slice before after r
-  slice-of-one before after outcome.Holds room p = absurd (not-holds-order (model s goalG) 1 (p .1) broken)
-  slice-of-one before after (outcome.Order m) room p = shown m (order-one (model s goalG) m 1 (p .1) broken) (p .2)
+  slice-of-one before after outcome.Holds room p = absurd (not-holds-order (model s goalG) 1 (p .0 .1) broken)
+  slice-of-one before after (outcome.Order m) room p = shown m (order-one (model s goalG) m 1 (p .0 .1) broken) (p .1)
     where
       shown : (m : ℕ) → m ≡ 1 → Shows (IsPath (model s goalG)) m before after → W5Slice before after (outcome.Order m)
       shown m e h =
           let k : Shows (IsPath (model s goalG)) 1 before after = subst (λ (i : ℕ). Shows (IsPath (model s goalG)) i before after) e h in
           let q = w5-path s covered (contextsIn after) (eventsIn after) (k .path) in
           record { answer = ap outcome.Order e; whole = k .whole; x0 = q .0; e0 = q .1; x1 = q .2; rest = k .rest }
-  slice-of-one before after (outcome.Events m) room p = absurd (not-both (model s goalG) 1 m broken (p .1))
+  slice-of-one before after (outcome.Events m) room p = absurd (not-both (model s goalG) 1 m broken (p .0 .1))
   slice-of-one before after (outcome.Refused k) room p = absurd (passed-not-refused (allQuestions s goalG 32 32) k all (p .0))
   slice-of-one before after (outcome.NoRoom m) room p =
-      let e = least-one (model s goalG) m 1 (p .1) (inl broken) in
-      let short = p .2 in
+      let e = least-one (model s goalG) m 1 (either (p .0) .1) (inl broken) in
+      let short = p .1 in
       absurd (omega arith)
 
 pub w5-slice : (before after : List ℕ) (r : Outcome) → 3 ≤ length before → GoalPromise weirAllow41 goalG 32 32 before after r → W5Slice before after r

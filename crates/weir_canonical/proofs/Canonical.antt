@@ -10,8 +10,11 @@ use Rattle.base.specs.Questions.{AllYes, RefusedWith}
 use Rattle.base.proofs.Numbers.{split-le}
 use Rattle.base.proofs.QuestionLaws.{passed-not-refused, one-number}
 use Rattle.policy_image.specs.Policy.{policyOf}
+use Rattle.policy_image.specs.inner.Sizes.{headerSize, sizeOf}
+use Rattle.policy_image.specs.cases.Weir.{weirAllow31}
 use Rattle.policy_image.proofs.EncodingLaws.{image-length}
 use Rattle.policy_check.specs.Questions.{policyQuestions}
+use Rattle.policy_check.proofs.Cases.{w9-refused}
 use Rattle.policy_facts.specs.Canonical.{canonicalOf}
 use Rattle.policy_writing.specs.declared.answer.Writing.{Writing}
 use Rattle.policy_writing.specs.declared.answer.Writing.the-variants as writing
@@ -36,6 +39,7 @@ of-canonical c P h = subst P (sym (c .written)) h
 -- ---- many records
 crowded-passed : {s : List ℕ} {records written : ℕ} → Crowded s records written → written ≤ 4095 → (output : ℕ) → 24 + 12 * written ≤ output
     → AllYes (canonicalQuestions s output)
+unfolding headerSize sizeOf
 crowded-passed {s} c h output room =
     let e = c .comes-to in
     let l = image-length (canonicalOf (policyOf s)) in
@@ -168,6 +172,7 @@ says-canonical {s} c = subst (SaysCanonical s) (c .written) (says-any s (c .acce
 
 -- an image that was written, written again
 written-again : {s image : List ℕ} → CanonicalIs s image → CanonicalIs image image
+unfolding headerSize sizeOf
 written-again {s} {image} c =
     let l = image-length (canonicalOf (policyOf s)) in
     let m = image-length (canonicalOf (policyOf image)) in
@@ -180,6 +185,7 @@ says-twice c = (says-canonical c, says-canonical (written-again c))
 
 -- THE TWELFTH THEOREM: the same of the call
 pub canonical-called : CanonicalCalled
+unfolding headerSize sizeOf
 canonical-called =
     record {
       weir-sorted = says-twice images.weir-sorted;
@@ -204,6 +210,7 @@ canonical-called =
       policy-first = λ s k r. refuses s k (canonical-cases .policy-first s k r);
       no-type-2 = refuses noType 2 (canonical-cases .no-type-2);
       leaning-14 = refuses leaning 14 (canonical-cases .leaning-14);
+      w9 = refuses weirAllow31 14 (canonical-cases .policy-first weirAllow31 14 (w9-refused .it));
       fifteen = λ s a h. refuses s 15 (canonical-cases .fifteen s a h);
       crowded-15 = refuses (crowded 1 oneFlow 4094) 15 (canonical-cases .crowded-15 .1);
       two-before-15 = refuses (crowded 0 oneFlow 4094) 2 (canonical-cases .two-before-15 .1);

@@ -1,5 +1,5 @@
 -- Pairs of named policies: those that are written in the same bytes say the same, and near ones do neither.
-use Prim.Native.Nat.{ℕ, zero, suc}
+use Prim.Native.Nat.{ℕ, zero, suc, _<_}
 use mathlib.Core.Bool.{Bool, true, false, not, _&&_, _||_}
 use mathlib.Core.List.{List, [], _∷_, _++_, append-nil}
 use mathlib.Core.Logic.{⊎-elim}
@@ -8,7 +8,7 @@ use native.Mathlib.Omega.{arith}
 use borrow.Author.Tests.{eqb-false, leb-true, not-true}
 use lib.Dec.{eqb, leb}
 use lib.ListN.{length, getD, drop}
-use Rattle.base.specs.inner.AllBytes.{AllBytes}
+use Rattle.base.specs.Bytes.{byteAt}
 use Rattle.base.proofs.BoolLaws.{clash, or-cases, and-first, and-second}
 use Rattle.policy_image.specs.declared.records.Record.{Record}
 use Rattle.policy_image.specs.cases.Weir.{weir}
@@ -50,18 +50,18 @@ abbrev bytesB : List ℕ → Bool
 bytesB [] = true
 bytesB (x ∷ s) = leb x 255 && bytesB s
 
-all-bytes : (s : List ℕ) → bytesB s ≡ true → AllBytes s
+all-bytes : (s : List ℕ) → bytesB s ≡ true → (i : ℕ) → byteAt s i < 256
 all-bytes [] e i = omega arith
 all-bytes (x ∷ s) e zero = let h = leb-true x 255 (and-first (leb x 255) (bytesB s) e) in omega arith
 all-bytes (x ∷ s) e (suc i) = all-bytes s (and-second (leb x 255) (bytesB s) e) i
 
-image-written : {s image : List ℕ} → CanonicalIs s image → ImageWritten s
-image-written {s} {image} c = record { output = length image; asked = enough c (length image) (omega arith) }
+image-written : {s image : List ℕ} → CanonicalIs s image → bytesB s ≡ true → ImageWritten s
+image-written {s} {image} c e = record { bytes = all-bytes s e; output = length image; asked = enough c (length image) (omega arith) }
 
 say-the-same : {s t image : List ℕ} → CanonicalIs s image → CanonicalIs t image → bytesB s ≡ true → bytesB t ≡ true → SayTheSame s t
 say-the-same {s} {t} c d e f =
     let h = c .written ∙ sym (d .written) in
-    record { same = equal-bytes s t (all-bytes s e) (all-bytes t f) (image-written c) (image-written d) .0 h; bytes = h }
+    record { same = equal-bytes s t (image-written c e) (image-written d f) .0 h; bytes = h }
 
 pub engineers-agree : SayTheSame firstEngineer secondEngineer
 engineers-agree = say-the-same images.first images.second refl refl

@@ -16,7 +16,6 @@ use Rattle.base.specs.inner.Decides.{Decides}
 use Rattle.base.proofs.BitLaws.{bit-zero}
 use Rattle.base.proofs.Numbers.{zeros}
 use Rattle.policy_image.specs.declared.counts.Counts.{Counts}
-use Rattle.policy_image.specs.Policy.{policyOf}
 use Rattle.context.specs.declared.Context.{Context}
 use Rattle.context.specs.Codes.{eventOf}
 use Rattle.context.specs.Ranges.{ContextInRange}
@@ -28,15 +27,16 @@ use Rattle.goal_image.specs.Goal.{γeChain}
 use Rattle.paths.specs.Model.{Model}
 use Rattle.goal_model.specs.Images.{meetsρμ}
 use Rattle.plan.specs.inner.Entries.{specialAt, eventSetsAt}
-use Rattle.plan.specs.inner.Plan.{special, PlanCounts}
+use Rattle.plan.specs.inner.Plan.{special, PlanCounts, ruled}
 use Rattle.plan.specs.inner.Sets.{setsOf}
+use Rattle.plan.specs.inner.Meets.{heldBy}
 use Rattle.search_steps.specs.declared.nearest.Asker.{Asker}
 use Rattle.search_steps.specs.declared.nearest.Offer.{Offer}
 use Rattle.search_steps.specs.inner.Nearest.{closed, PassedOver}
-use Rattle.search_steps.specs.inner.Steps.{heldBy, Offering, ResumesFrom, Facing, NextOffer}
+use Rattle.search_steps.specs.inner.Steps.{Offering, ResumesFrom, Facing, NextOffer}
 use Rattle.search_steps.proofs.FlowLaws.{flow-held}
 use Rattle.search_steps.proofs.FlowLaws as flow-laws
-use Rattle.search_steps.proofs.OfferLaws.{held-is}
+use Rattle.plan.proofs.MeetsLaws.{held-is}
 use Rattle.search_graph.specs.declared.arrival.Arrival.{Arrival}
 use Rattle.search_graph.specs.declared.arrival.Arrival.the-variants.{Enter, Dropped, Broken}
 use Rattle.search_graph.specs.inner.Nodes.{Watch, codeAt, placeOf}
@@ -58,7 +58,7 @@ use Rattle.search_memory.proofs.StandLaws.{Around, at-place, stand}
 pub record Looking (s plan : List ℕ) (t : Task) (u w : ℕ) (x : Context) (o : Offer) : Type 0 where
   pub high : o .step ≤ 4194304
   pub none : (j : ℕ) → 4096 * j + typeOf t w < o .step → graphOf s plan t .Edge u j w → ⊥
-  pub offers : o .step < 4194304 → Offering (policyOf s) plan (x .ty) (o .step / 4096) (o .step % 4096) (o .entry)
+  pub offers : o .step < 4194304 → Offering (ruled s plan) plan (x .ty) (o .step / 4096) (o .step % 4096) (o .entry)
   pub resumes : o .step < 4194304 → ResumesFrom plan x o
 
 module _ {s plan : List ℕ} {t : Task} (A : Given s plan t) {u w states : ℕ} (L : LinkedNodes (graphOf s plan t) u w) (St : States (bitsIn t) states) where
@@ -103,20 +103,20 @@ module _ {s plan : List ℕ} {t : Task} (A : Given s plan t) {u w states : ℕ} 
     from-range = stand u fixed (L .from) q .range
 
     -- an event that leads to w flows from x to w's context
-    flows : (j : ℕ) → graphOf s plan t .Edge u j w → flow (policyOf s) (eventOf j) x (contextAtIndex n (placeOf K w)) ≡ true
+    flows : (j : ℕ) → graphOf s plan t .Edge u j w → flow (ruled s plan) (eventOf j) x (contextAtIndex n (placeOf K w)) ≡ true
     flows j ed = edge-flow A (stand u fixed (L .from) q) (L .to) ed
 
     -- so x meets ρ and μ, since some event does
-    pub from-held : meetsρμ (policyOf s) x ≡ true
-    from-held = flow-held (policyOf s) (eventOf (L .event .which)) x (contextAtIndex n (placeOf K w)) (flows (L .event .which) (L .event .holds)) .0
+    pub from-held : meetsρμ (ruled s plan) x ≡ true
+    from-held = flow-held (ruled s plan) (eventOf (L .event .which)) x (contextAtIndex n (placeOf K w)) (flows (L .event .which) (L .event .holds)) .0
 
     -- x faces w's context by an event that is offered from its type to the other's
-    pub facing : {e entry : ℕ} {c : Bool} → OfferedBetween s plan t u e entry w → c ≡ special (policyOf s) (eventOf e)
-        → Facing (policyOf s) plan x e (contextAtIndex n (w / states) .ty) entry c
+    pub facing : {e entry : ℕ} {c : Bool} → OfferedBetween s plan t u e entry w → c ≡ special (ruled s plan) (eventOf e)
+        → Facing (ruled s plan) plan x e (contextAtIndex n (w / states) .ty) entry c
     facing {e} {entry} O k =
         record {
           meets = from-held;
-          offering = subst₂ (λ (a b : ℕ). Offering (policyOf s) plan a e b entry) (ap (λ (z : Context). z .ty) (sym place)) (ap (λ (i : ℕ). contextAtIndex n i .ty) place-w) O;
+          offering = subst₂ (λ (a b : ℕ). Offering (ruled s plan) plan a e b entry) (ap (λ (z : Context). z .ty) (sym place)) (ap (λ (i : ℕ). contextAtIndex n i .ty) place-w) O;
           conditions = k;
         }
       where
@@ -126,7 +126,7 @@ module _ {s plan : List ℕ} {t : Task} (A : Given s plan t) {u w states : ℕ} 
     -- the steps that are passed over do not lead from u to w: of w's type nothing is remembered, and no event before that is like another leads
     -- there
     pub passed : {a : Asker} {from : ℕ} {r : Offer} {swept : List ℕ} → AskerOf (t .mode) (replicate 256 0) x (u % states) a → getD swept (typeOf t w) 0 ≡ 0
-        → NextOffer (policyOf s) plan swept a x from r → ((e : ℕ) → 4096 * e + typeOf t w < from → graphOf s plan t .Edge u e w → ⊥)
+        → NextOffer (ruled s plan) plan swept a x from r → ((e : ℕ) → 4096 * e + typeOf t w < from → graphOf s plan t .Edge u e w → ⊥)
         → (j : ℕ) → from ≤ 4096 * j + typeOf t w → 4096 * j + typeOf t w < r .step → graphOf s plan t .Edge u j w → ⊥
     passed {a} {swept = swept} Q Z N past j lo hi ed =
         ⊎-elim (λ h. remembered A (memory-begin s plan t []) (stand u fixed (L .from) q) (L .from) Q (L .to) ed (forgotten h) .seen refl)
@@ -159,13 +159,13 @@ module _ {s plan : List ℕ} {t : Task} (A : Given s plan t) {u w states : ℕ} 
     pub no-event : {b : Bool} → b ≡ bit by γeChain → b ≡ true → graphOf s plan t .Edge u e w → ⊥
     no-event p k ed = clash (sym barred-is ∙ sym p ∙ k) (edge-freeE A stands ed)
 
-    pub no-flow : {b : Bool} {x′ : Context} → x′ ≡ contextAtIndex n (w / states) → b ≡ flow (policyOf s) (eventOf e) x x′ → not b ≡ true → graphOf s plan t .Edge u e w → ⊥
+    pub no-flow : {b : Bool} {x′ : Context} → x′ ≡ contextAtIndex n (w / states) → b ≡ flow (ruled s plan) (eventOf e) x x′ → not b ≡ true → graphOf s plan t .Edge u e w → ⊥
     no-flow {b} q′ p k ed =
         clash (edge-flow A stands (L .to) ed)
-        (ap (λ (i : ℕ). flow (policyOf s) (eventOf e) x (contextAtIndex n i)) place-w ∙ ap (flow (policyOf s) (eventOf e) x) (sym q′) ∙ sym p ∙ not-true b k)
+        (ap (λ (i : ℕ). flow (ruled s plan) (eventOf e) x (contextAtIndex n i)) place-w ∙ ap (flow (ruled s plan) (eventOf e) x) (sym q′) ∙ sym p ∙ not-true b k)
 
     pub no-held : {b : Bool} {o : ℕ} → OfType n o (w / states) → b ≡ heldBy n plan o (w / states) → not b ≡ true → graphOf s plan t .Edge u e w → ⊥
-    no-held {b} H p k = no-flow refl (sym (flow-laws.no-flow (policyOf s) (eventOf e) x (contextAtIndex n (w / states)) (sym (held-is (A .planned .policy) H) ∙ sym p ∙ not-true b k))) refl
+    no-held {b} H p k = no-flow refl (sym (flow-laws.no-flow (ruled s plan) (eventOf e) x (contextAtIndex n (w / states)) (sym (held-is (A .planned .policy) H) ∙ sym p ∙ not-true b k))) refl
 
     -- what arriving at w's place comes to: the sets there, the state after the step, and what landing there says
     module _ {into i : ℕ} (S : into ≡ setsOf n plan (contextAtIndex n (w / states))) (after : Stepped (t .mode) (t .legs) (u % states) by into i) (r : Arrival) (Z : Arrived t into (w / states) i r) where
@@ -184,7 +184,7 @@ module _ {s plan : List ℕ} {t : Task} (A : Given s plan t) {u w states : ℕ} 
           = subst (Lands M n W K (w / states) (W .step (u % states) e (codeAt n (w / states)))) k lands in
           no-end (z .ends .arrives)
 
-      module _ {b c : Bool} {x′ : Context} (p : b ≡ bit by γeChain) (off : b ≡ false) (q′ : x′ ≡ contextAtIndex n (w / states)) (f : c ≡ flow (policyOf s) (eventOf e) x x′) (on : not c ≡ false) where
+      module _ {b c : Bool} {x′ : Context} (p : b ≡ bit by γeChain) (off : b ≡ false) (q′ : x′ ≡ contextAtIndex n (w / states)) (f : c ≡ flow (ruled s plan) (eventOf e) x x′) (on : not c ≡ false) where
         pub decided : (v : ℕ) → r ≡ Enter v → Decides (eqb v w) (graphOf s plan t .Edge u e w)
         decided v k = go (eqb v w) refl
           where
@@ -196,7 +196,7 @@ module _ {s plan : List ℕ} {t : Task} (A : Given s plan t) {u w states : ℕ} 
                 edge-at A stands e (w / states) to-below (sym (eqb-true v w i) ∙ z .node)
                 (bounded A .steps (u % states) e (codeAt n (w / states)) (z .outside))
                 (L .event .holds .edge .first) (edge-free A stands (L .event .holds)) (sym barred-is ∙ sym p ∙ off)
-                (ap (flow (policyOf s) (eventOf e) x) (sym q′) ∙ sym f ∙ not-false c on) (λ j. absurd (z .outside j))
+                (ap (flow (ruled s plan) (eventOf e) x) (sym q′) ∙ sym f ∙ not-false c on) (λ j. absurd (z .outside j))
             go false i = λ ed. eqb-false v w i (z .node ∙ sym (only-at A stands e (w / states) w place-w ed))
 
   pub type-is : {y : Context} → y ≡ contextAtIndex n (w / states) → y .ty ≡ typeOf t w
@@ -220,21 +220,21 @@ module _ {s plan : List ℕ} {t : Task} (A : Given s plan t) {u w states : ℕ} 
   type-small = omega (arith, type-entry)
 
   module _ {x : Context} (q : x ≡ contextAtIndex n (u / states)) {a : Asker} (Q : AskerOf (t .mode) (replicate 256 0) x (u % states) a) where
-    pub look-begin : {r : Offer} {swept : List ℕ} → getD swept (typeOf t w) 0 ≡ 0 → NextOffer (policyOf s) plan swept a x 0 r → Looking s plan t u w x r
+    pub look-begin : {r : Offer} {swept : List ℕ} → getD swept (typeOf t w) 0 ≡ 0 → NextOffer (ruled s plan) plan swept a x 0 r → Looking s plan t u w x r
     look-begin Z N =
         record { high = N .high; none = λ j h. passed q Q Z N (λ e k. absurd (omega arith)) j (omega arith) h; offers = N .offers; resumes = N .resumes }
 
     module _ {o : Offer} (K : Looking s plan t u w x o) where
       pub offered : {y : Context} → y ≡ contextAtIndex n (w / states) → o .step < 4194304 → o .step % 4096 ≡ y .ty → OfferedBetween s plan t u (o .step / 4096) (o .entry) w
       offered q′ h k =
-          subst₂ (λ (a b : ℕ). Offering (policyOf s) plan a (o .step / 4096) b (o .entry)) (ap (λ (z : Context). z .ty) (stand u fixed (L .from) q .place)) (k ∙ type-is q′)
+          subst₂ (λ (a b : ℕ). Offering (ruled s plan) plan a (o .step / 4096) b (o .entry)) (ap (λ (z : Context). z .ty) (stand u fixed (L .from) q .place)) (k ∙ type-is q′)
           (K .offers h)
 
       -- a step at the offer is by its event to its type
       pub only-here : (j : ℕ) → o .step ≡ 4096 * j + typeOf t w → (o .step / 4096 ≡ j) × (o .step % 4096 ≡ typeOf t w)
       only-here j h = let k = type-small in (omega arith, omega arith)
 
-      pub look-more : {r : Offer} {swept : List ℕ} → getD swept (typeOf t w) 0 ≡ 0 → NextOffer (policyOf s) plan swept a x (o .step + 1) r → ((j : ℕ) → o .step ≡ 4096 * j + typeOf t w → graphOf s plan t .Edge u j w → ⊥)
+      pub look-more : {r : Offer} {swept : List ℕ} → getD swept (typeOf t w) 0 ≡ 0 → NextOffer (ruled s plan) plan swept a x (o .step + 1) r → ((j : ℕ) → o .step ≡ 4096 * j + typeOf t w → graphOf s plan t .Edge u j w → ⊥)
           → Looking s plan t u w x r
       look-more {r} Z N here =
           record { high = N .high; none = λ j h ed. go j h ed (decLt (4096 * j + typeOf t w) (o .step)); offers = N .offers; resumes = N .resumes }

@@ -1,6 +1,8 @@
 // The path to the end that a search found, written from that end by the links that the search left.
+use crate::step::SWEPT;
 use crate::step::least_event;
 use context::Context;
+use plan_tables::TYPES;
 use policy_image::counts::Counts;
 use search::levels::LastStep;
 use search::levels::LeastEnd;
@@ -46,6 +48,7 @@ fn write_path(
 {
     let counts = task.counts;
     let states = states_in(task);
+    let mut swept = [SWEPT; TYPES];
     let to = last.to;
     let mut i = last.depth as usize + 1;
     path[2 * i] = code_of(counts, states, to);
@@ -61,7 +64,7 @@ fn write_path(
         let next = w;
         let at = next as usize;
         w = back[at] - 1;
-        e = least_event(policy, plan, task, w, next);
+        e = least_event(policy, plan, task, &mut swept, w, next);
     }
 }
 

@@ -1,4 +1,5 @@
-//! What the outward promises rest on: from the `ensures` of the outward calls to the last definition and declared type.
+//! What the outward promises rest on, from the `ensures` of the outward calls to the last definition and declared type; and likewise what the
+//! theorems beside them rest on, from their statements.
 use crate::modules::{Module, Type};
 use crate::rattle_file::{Declaration, Function, RattleFile};
 use crate::scope::references;
@@ -7,7 +8,7 @@ use crate::tree::Tree;
 use std::collections::{BTreeMap, BTreeSet};
 
 /// A name of a module.
-type Name = (Module, String);
+pub type Name = (Module, String);
 
 #[derive(Default)]
 pub struct Closure {
@@ -40,7 +41,7 @@ fn known(file: &SpecFile, head: &str) -> Option<Name> {
 }
 
 /// What a path stands for, by the module and the name there; nothing for what is bound or is the prelude's.
-fn resolve(file: &SpecFile, path: &[String]) -> Option<Name> {
+pub fn resolve(file: &SpecFile, path: &[String]) -> Option<Name> {
     let (head, last) = (path.first()?, path.last()?);
     if let Some(name) = known(file, head) {
         return Some(name);
@@ -73,7 +74,14 @@ fn refers_to(tree: &Tree, file: &SpecFile, definition: &Definition) -> Vec<Name>
 /// The clauses of a file of code, as definitions over its `ghost use` lines.
 fn as_definition(function: &Function) -> Definition {
     let stretch = Stretch { bound: function.parameters(), tokens: function.promised(), clause: false };
-    Definition { name: function.name.clone(), line: 0, stretches: vec![stretch], fields: vec![], constructors: vec![] }
+    Definition {
+        name: function.name.clone(),
+        line: 0,
+        text: String::new(),
+        stretches: vec![stretch],
+        fields: vec![],
+        constructors: vec![],
+    }
 }
 
 impl Closure {
@@ -82,10 +90,19 @@ impl Closure {
         for (path, code) in tree.outward() {
             closure.start(tree, path, code);
         }
-        while let Some(((module, name), from)) = closure.left.pop() {
-            closure.follow(tree, module, name, &from);
+        closure.followed(tree)
+    }
+
+    /// What these definitions rest on, they themselves among it; each comes with who speaks of it.
+    pub fn from(tree: &Tree, names: Vec<(Name, String)>) -> Closure {
+        Closure { left: names, ..Closure::default() }.followed(tree)
+    }
+
+    fn followed(mut self, tree: &Tree) -> Closure {
+        while let Some(((module, name), from)) = self.left.pop() {
+            self.follow(tree, module, name, &from);
         }
-        closure
+        self
     }
 
     fn start(&mut self, tree: &Tree, path: &str, code: &RattleFile) {

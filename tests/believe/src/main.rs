@@ -1,5 +1,5 @@
-//! What has to be believed for the outward promises, computed from the files, and whether the files and `docs/BELIEVE.md` are
-//! in step with it. Only the names of the outward crates are written down here.
+//! What has to be believed for the outward promises, and what the theorems beside them say, computed from the files, and whether the files and
+//! `docs/BELIEVE.md` are in step with it. Only the names of the outward crates and of the theorems are written down here.
 mod closure;
 mod modules;
 mod page;
@@ -8,6 +8,7 @@ mod rattle_file;
 mod rules;
 mod scope;
 mod spec_file;
+mod theorems;
 mod tokens;
 mod tree;
 
@@ -21,8 +22,8 @@ const USAGE: &str = "usage: believe [--print] [ROOT]
   With --print: prints the tables of docs/BELIEVE.md as they should be.";
 
 /// One line for each rule that does not hold, and below it what is wrong; gives how many hold and how many do not.
-fn report(tree: &Tree, closure: &Closure) -> (usize, usize) {
-    let rules = rules::all(tree, closure);
+fn report(tree: &Tree, closure: &Closure, stated: &Closure) -> (usize, usize) {
+    let rules = rules::all(tree, closure, stated);
     for rule in rules.iter().filter(|rule| !rule.wrong.is_empty()) {
         println!("not so: {}", rule.says);
         for line in &rule.wrong {
@@ -41,11 +42,11 @@ fn main() {
         exit(2);
     }
     let tree = Tree::read(Path::new(arguments.first().map_or(".", String::as_str)));
-    let closure = Closure::of(&tree);
+    let (closure, stated) = (Closure::of(&tree), theorems::closure(&tree));
     if print {
-        return page::print(&tree, &closure);
+        return page::print(&tree, &closure, &stated);
     }
-    let (passed, failed) = report(&tree, &closure);
+    let (passed, failed) = report(&tree, &closure, &stated);
     println!("{passed} passed, {failed} failed");
     exit((failed > 0) as i32)
 }

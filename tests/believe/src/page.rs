@@ -4,6 +4,7 @@ use crate::modules::{Place, Type};
 use crate::rattle_file::Function;
 use crate::rules::shared;
 use crate::spec_file::SpecFile;
+use crate::theorems::{self, Cases, Theorem};
 use crate::tree::Tree;
 use std::collections::{BTreeMap, BTreeSet};
 
@@ -59,10 +60,32 @@ pub fn type_cells(tree: &Tree, ty: &Type) -> Option<[String; 3]> {
     Some([format!("`{} {}`", declared.kind, ty.name), link(&ty.file()), parts.join(", ")])
 }
 
-/// The toolchain's modules that the believed definitions speak of, with the names of each.
-pub fn library(closure: &Closure) -> BTreeMap<String, BTreeSet<String>> {
+/// The declared types that the promises and the theorems speak of.
+pub fn types(closure: &Closure, stated: &Closure) -> BTreeSet<Type> {
+    closure.types.union(&stated.types).cloned().collect()
+}
+
+/// The first cells of a theorem's row: its name and its file, the record that it has for its type and that record's file.
+pub fn theorem_cells(theorem: &Theorem) -> [String; 4] {
+    let (module, statement) = &theorem.statement;
+    [format!("`{}`", theorem.name), link(&theorem.file), format!("`{statement}`"), link(&module.file())]
+}
+
+/// The block of code that quotes what the theorems say.
+pub fn statements(tree: &Tree) -> Vec<String> {
+    let text = |theorem: &Theorem| theorems::definition(tree, &theorem.statement).map(|d| d.text.trim_end().to_string());
+    theorems::all(tree).iter().filter_map(text).collect()
+}
+
+/// The first cells of a row of the cases that the theorems rest on.
+pub fn case_cells(cases: &Cases) -> [String; 3] {
+    [link(&cases.file), cases.lines().to_string(), cases.sum()]
+}
+
+/// The toolchain's modules that the believed definitions and the theorems speak of, with the names of each.
+pub fn library(closure: &Closure, stated: &Closure) -> BTreeMap<String, BTreeSet<String>> {
     let mut modules: BTreeMap<String, BTreeSet<String>> = BTreeMap::new();
-    for (module, name) in &closure.library {
+    for (module, name) in closure.library.union(&stated.library) {
         modules.entry(module.clone()).or_default().insert(name.clone());
     }
     modules
@@ -98,43 +121,66 @@ fn file_rows(tree: &Tree, closure: &Closure) -> Vec<String> {
     files.into_iter().map(line).collect()
 }
 
-fn type_rows(tree: &Tree, closure: &Closure) -> Vec<String> {
+fn theorem_rows(tree: &Tree) -> Vec<String> {
+    let rows = rows(&tree.page);
+    let line = |[name, file, statement, at]: [String; 4]| {
+        let [says, paper] = words(&rows, |row| row.first() == Some(&name), [4, 5]);
+        row(&[name, file, statement, at, says, paper])
+    };
+    theorems::all(tree).iter().map(theorem_cells).map(line).collect()
+}
+
+fn case_rows(tree: &Tree, stated: &Closure) -> Vec<String> {
+    let rows = rows(&tree.page);
+    let line = |[file, lines, sum]: [String; 3]| {
+        let says = words(&rows, |row| row.first() == Some(&file), [3, 3])[0].clone();
+        row(&[file, lines, sum, says])
+    };
+    theorems::cases(tree, stated).iter().map(case_cells).map(line).collect()
+}
+
+fn type_rows(tree: &Tree, closure: &Closure, stated: &Closure) -> Vec<String> {
     let rows = rows(&tree.page);
     let line = |[what, file, parts]: [String; 3]| {
         let says = words(&rows, |row| row.first() == Some(&what), [3, 3])[0].clone();
         row(&[what, file, parts, says])
     };
-    closure.types.iter().filter_map(|ty| type_cells(tree, ty)).map(line).collect()
+    types(closure, stated).iter().filter_map(|ty| type_cells(tree, ty)).map(line).collect()
 }
 
-fn library_rows(tree: &Tree, closure: &Closure) -> Vec<String> {
+fn library_rows(tree: &Tree, closure: &Closure, stated: &Closure) -> Vec<String> {
     let rows = rows(&tree.page);
     let line = |[module, names]: [String; 2]| {
         let says = words(&rows, |row| row.first() == Some(&module), [2, 2])[0].clone();
         row(&[module, names, says])
     };
-    library(closure).iter().map(library_cells).map(line).collect()
+    library(closure, stated).iter().map(library_cells).map(line).collect()
 }
 
 /// What the page must have, with its own words kept, to be copied into it.
-pub fn print(tree: &Tree, closure: &Closure) {
+pub fn print(tree: &Tree, closure: &Closure, stated: &Closure) {
     println!("{}\n", total(tree, closure));
     println!("| part | file | lines | what it says | paper 01 |\n|---|---|---|---|---|");
     println!("{}\n", file_rows(tree, closure).join("\n"));
     let both: BTreeSet<String> = shared(tree, closure).into_iter().map(|(name, _)| format!("`{name}`")).collect();
     println!("{BOTH} {}\n", both.into_iter().collect::<Vec<_>>().join(" "));
     println!("```\n{}\n```\n", calls(tree));
+    println!("| theorem | proved in | says | stated in | in words | paper |\n|---|---|---|---|---|---|");
+    println!("{}\n", theorem_rows(tree).join("\n"));
+    println!("```\n{}\n```\n", statements(tree).join("\n\n"));
+    println!("| file | lines | sum | what it says |\n|---|---|---|---|");
+    println!("{}\n", case_rows(tree, stated).join("\n"));
     println!("| declared | file | fields or cases | what they are |\n|---|---|---|---|");
-    println!("{}\n", type_rows(tree, closure).join("\n"));
+    println!("{}\n", type_rows(tree, closure, stated).join("\n"));
     println!("| module | names | what they are |\n|---|---|---|");
-    println!("{}", library_rows(tree, closure).join("\n"));
+    println!("{}", library_rows(tree, closure, stated).join("\n"));
 }
 
-/// The files of `specs/` that the rows of the page link to, with the number beside each.
+/// The files of `specs/` that rows of the page link to in their second cell, with the number beside each.
 pub fn listed(page: &str) -> Vec<(String, String)> {
     let target = |cell: &String| {
         let file = cell.split_once("](../")?.1.strip_suffix(')')?.to_string();
-        file.ends_with(".antt").then_some(file)
+        (file.ends_with(".antt") && file.contains("/specs/")).then_some(file)
     };
     let row = |row: Vec<String>| Some((target(row.get(1)?)?, row.get(2)?.clone()));
     rows(page).into_iter().filter_map(row).collect()

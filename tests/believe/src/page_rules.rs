@@ -2,6 +2,7 @@
 use crate::closure::Closure;
 use crate::page;
 use crate::rules::shared;
+use crate::theorems;
 use crate::tree::Tree;
 use std::collections::BTreeSet;
 
@@ -48,13 +49,27 @@ fn rows(tree: &Tree, wanted: Vec<Vec<String>>, of_kind: impl Fn(&[String]) -> bo
     missing.chain(more.map(|row| format!("docs/BELIEVE.md has a row | {} |, which is not so", row.join(" | ")))).collect()
 }
 
-pub fn types(tree: &Tree, closure: &Closure) -> Vec<String> {
-    let wanted = closure.types.iter().filter_map(|ty| page::type_cells(tree, ty)).map(Vec::from).collect();
+pub fn theorems(tree: &Tree) -> Vec<String> {
+    let wanted = theorems::all(tree).iter().map(page::theorem_cells).map(Vec::from).collect();
+    let mut wrong = rows(tree, wanted, |row| row.get(1).is_some_and(|cell| cell.contains("/proofs/")));
+    let unquoted = page::statements(tree).into_iter().filter(|text| !tree.page.contains(&format!("\n{text}\n")));
+    let name = |text: String| text.lines().next().unwrap_or_default().to_string();
+    wrong.extend(unquoted.map(|text| format!("docs/BELIEVE.md does not quote {} as it stands", name(text))));
+    wrong
+}
+
+pub fn cases(tree: &Tree, stated: &Closure) -> Vec<String> {
+    let wanted = theorems::cases(tree, stated).iter().map(page::case_cells).map(Vec::from).collect();
+    rows(tree, wanted, |row| row.first().is_some_and(|cell| cell.starts_with('[') && cell.contains("/specs/")))
+}
+
+pub fn types(tree: &Tree, closure: &Closure, stated: &Closure) -> Vec<String> {
+    let wanted = page::types(closure, stated).iter().filter_map(|ty| page::type_cells(tree, ty)).map(Vec::from).collect();
     rows(tree, wanted, |row| row.get(1).is_some_and(|cell| cell.ends_with(".rt)")))
 }
 
-pub fn library(tree: &Tree, closure: &Closure) -> Vec<String> {
-    let wanted = page::library(closure).iter().map(page::library_cells).map(Vec::from).collect();
+pub fn library(tree: &Tree, closure: &Closure, stated: &Closure) -> Vec<String> {
+    let wanted = page::library(closure, stated).iter().map(page::library_cells).map(Vec::from).collect();
     rows(tree, wanted, |row| row.len() == 3 && row[0].starts_with('`') && row[0].contains('.'))
 }
 

@@ -4,7 +4,8 @@ use crate::modules::{Module, Place};
 use crate::page::outward;
 use crate::page_rules;
 use crate::spec_file::{SpecFile, Use};
-use crate::tree::{Tree, OUTWARD};
+use crate::theorems;
+use crate::tree::{Tree, OUTWARD, OUTWARD_FILES};
 use std::collections::{BTreeMap, BTreeSet};
 
 pub struct Rule {
@@ -107,6 +108,8 @@ fn no_duties(tree: &Tree) -> Vec<String> {
     }
     let has_calls = |of: &str| tree.outward_of(of).any(|(_, code)| code.functions.iter().any(|f| f.public));
     wrong.extend(OUTWARD.iter().filter(|of| !has_calls(of)).map(|of| format!("crates/{of}: has no `pub` function")));
+    let calls_in = |file: &str| tree.code.get(file).is_some_and(|code| code.functions.iter().any(|f| f.public));
+    wrong.extend(OUTWARD_FILES.iter().filter(|file| !calls_in(file)).map(|file| format!("{file}: has no `pub` function")));
     wrong
 }
 
@@ -155,7 +158,7 @@ fn cases_use(tree: &Tree) -> Vec<String> {
     cases.flat_map(|file| uses_of(file, |module| is_open(module) || module.place() == Place::Cases)).collect()
 }
 
-pub fn all(tree: &Tree, closure: &Closure) -> Vec<Rule> {
+pub fn all(tree: &Tree, closure: &Closure, stated: &Closure) -> Vec<Rule> {
     let rule = |says, wrong| Rule { says, wrong };
     vec![
         rule("all that the promises rest on can be found", followed(tree, closure)),
@@ -168,8 +171,12 @@ pub fn all(tree: &Tree, closure: &Closure) -> Vec<Rule> {
         rule("a file of cases uses nothing of inner or proofs", cases_use(tree)),
         rule("the page lists the files with their lines", page_rules::files(tree, closure)),
         rule("the page quotes the outward calls", page_rules::calls(tree)),
-        rule("the page lists the structs and enums", page_rules::types(tree, closure)),
-        rule("the page lists what is used of the toolchain's libraries", page_rules::library(tree, closure)),
+        rule("a theorem has the type of one closed record", theorems::unclosed(tree)),
+        rule("what a theorem says rests on what is believed and on cases alone", theorems::hidden(stated)),
+        rule("the page lists the theorems, and quotes what they say", page_rules::theorems(tree)),
+        rule("the page lists the cases that the theorems rest on, as they are", page_rules::cases(tree, stated)),
+        rule("the page lists the structs and enums", page_rules::types(tree, closure, stated)),
+        rule("the page lists what is used of the toolchain's libraries", page_rules::library(tree, closure, stated)),
         rule("the page lists the names that are both a definition and something else", page_rules::both(tree, closure)),
         rule("README points to the page, and to nothing wider", page_rules::readme(tree)),
     ]

@@ -27,6 +27,8 @@ pub struct Stretch {
 pub struct Definition {
     pub name: String,
     pub line: usize,
+    /// as it stands, without comments: what is bound for it, its type or header, and all below
+    pub text: String,
     pub stretches: Vec<Stretch>,
     /// a record's fields
     pub fields: Vec<String>,
@@ -39,6 +41,7 @@ pub struct Definition {
 struct Block {
     stretches: Vec<Stretch>,
     bound: Vec<String>,
+    text: String,
 }
 
 #[derive(Debug)]
@@ -87,6 +90,7 @@ impl SpecFile {
         let mut block = outer.clone();
         for item in items.iter().filter(|item| tokens_of(item).first().is_some_and(|t| t.is("open"))) {
             block.open(&tokens_of(item));
+            block.text += &text_of(item);
             self.lines += item.len();
         }
         for item in items {
@@ -157,12 +161,14 @@ impl SpecFile {
         let header = Stretch { bound: block.bound.clone(), tokens: tokens_of(head), clause: false };
         inner.bound.extend(binders(&header.tokens));
         inner.stretches.push(header);
+        inner.text += &text_of(head);
         self.block(body, &inner);
     }
 
-    fn start(&mut self, name: String, line: usize, block: &Block) -> &mut Definition {
+    fn start(&mut self, name: String, item: &[Line], block: &Block) -> &mut Definition {
         let stretches = block.stretches.clone();
-        self.definitions.push(Definition { name, line, stretches, fields: vec![], constructors: vec![] });
+        let text = block.text.clone() + &text_of(item);
+        self.definitions.push(Definition { name, line: item[0].number, text, stretches, fields: vec![], constructors: vec![] });
         self.definitions.last_mut().expect("a definition was pushed")
     }
 
@@ -170,7 +176,7 @@ impl SpecFile {
     fn record(&mut self, item: &[Line], tokens: &[Token], block: &Block) {
         let (head, body) = split_where(item);
         let Some(name) = named(&tokens[1..]) else { return self.unread(item) };
-        let definition = self.start(name, item[0].number, block);
+        let definition = self.start(name, item, block);
         let header = header_of(&tokens_of(head), block);
         let mut bound = [block.bound.clone(), binders(&header.tokens)].concat();
         definition.stretches.push(header);
@@ -185,7 +191,7 @@ impl SpecFile {
     fn data(&mut self, item: &[Line], tokens: &[Token], block: &Block) {
         let (head, body) = split_where(item);
         let Some(name) = named(&tokens[1..]) else { return self.unread(item) };
-        let definition = self.start(name, item[0].number, block);
+        let definition = self.start(name, item, block);
         let header = header_of(&tokens_of(head), block);
         let bound = [block.bound.clone(), binders(&header.tokens)].concat();
         definition.stretches.push(header);
@@ -200,11 +206,14 @@ impl SpecFile {
     fn function(&mut self, item: &[Line], tokens: &[Token], block: &Block) {
         let bound = block.bound.clone();
         if let Some((name, ty)) = signature(tokens) {
-            let definition = self.start(name, item[0].number, block);
+            let definition = self.start(name, item, block);
             return definition.stretches.push(Stretch { bound, tokens: ty, clause: false });
         }
         match self.definitions.last_mut() {
-            Some(last) => last.stretches.push(Stretch { bound, tokens: tokens.to_vec(), clause: true }),
+            Some(last) => {
+                last.text += &text_of(item);
+                last.stretches.push(Stretch { bound, tokens: tokens.to_vec(), clause: true })
+            }
             None => self.unread(item),
         }
     }
@@ -228,6 +237,11 @@ impl Block {
 /// Whether a path begins at a crate's library, and so needs no `use` line.
 pub fn is_whole(path: &[String]) -> bool {
     path.first().is_some_and(|first| first.starts_with("Rattle·") || first == "package")
+}
+
+/// The lines as they stand, without comments, each with its end.
+fn text_of(lines: &[Line]) -> String {
+    lines.iter().map(|line| format!("{}\n", line.text.trim_end())).collect()
 }
 
 /// The first token as a name.

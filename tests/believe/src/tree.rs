@@ -2,6 +2,7 @@
 use crate::modules::{Module, Type};
 use crate::rattle_file::RattleFile;
 use crate::spec_file::SpecFile;
+use crate::theorems;
 use std::collections::BTreeMap;
 use std::fs;
 use std::path::Path;
@@ -9,8 +10,13 @@ use std::path::Path;
 /// The crates whose `pub` functions are the outward calls, but for those of modules that a crate keeps to itself and has no C call in.
 pub const OUTWARD: [&str; 6] = ["bare_questions", "goal_question", "least_steps", "join", "canonical", "flowgoal"];
 
+/// The files of other crates whose `pub` functions are outward calls too: the number of an answer that two outward crates share.
+pub const OUTWARD_FILES: [&str; 1] = ["crates/policy_writing/src/answer.rt"];
+
 pub struct Tree {
     pub specs: BTreeMap<Module, SpecFile>,
+    /// the files of proofs that have the theorems beside the promises
+    pub proofs: BTreeMap<Module, SpecFile>,
     /// by the path from the root on
     pub code: BTreeMap<String, RattleFile>,
     pub page: String,
@@ -54,14 +60,19 @@ impl Tree {
                 code.insert(format!("crates/{of}/src/{path}"), RattleFile::read(&text));
             }
         }
+        let proofs = theorems::modules().into_iter().filter_map(|module| {
+            let text = fs::read_to_string(root.join(module.file())).ok()?;
+            Some((module.clone(), SpecFile::read(module, &text)))
+        });
         let page = fs::read_to_string(root.join("docs/BELIEVE.md")).unwrap_or_default();
         let readme = fs::read_to_string(root.join("README.md")).unwrap_or_default();
-        Tree { specs, code, page, readme }
+        Tree { specs, proofs: proofs.collect(), code, page, readme }
     }
 
     /// The files of the outward crates' code that have something to call.
     pub fn outward(&self) -> impl Iterator<Item = (&String, &RattleFile)> {
-        OUTWARD.into_iter().flat_map(|of| self.outward_of(of))
+        let files = OUTWARD_FILES.into_iter().filter_map(|file| self.code.get_key_value(file));
+        OUTWARD.into_iter().flat_map(|of| self.outward_of(of)).chain(files)
     }
 
     /// Those of one crate: for another crate, which is all of them where some file passes anything on by `pub use`, or for C, which asks no

@@ -79,8 +79,8 @@ const WRITINGS: [(u64, Writing); 13] = [
 ];
 
 /// Numbers with a bit that has no place in them: a refusal with no number, holds with a number or with steps, order with a number,
-/// a refusal other than 12 with steps, one that the question has not, and steps beyond any path's.
-const NO_OUTCOME: [u64; 13] = [3, 4, 256, 5, 6, 263, 303, 315, 55, 255, 1 << 40 | 1, 1 << 63, u64::MAX];
+/// a refusal other than 12 with steps, one that the question has not, and bits above the 32 of the steps.
+const NO_OUTCOME: [u64; 14] = [3, 4, 256, 5, 6, 263, 303, 315, 55, 255, 1 << 40, 1 << 40 | 1, 1 << 63, u64::MAX];
 
 /// The same of the bare questions, which tell of no steps and have no refusal from 7 to 12.
 const NO_ANSWER: [u64; 13] = [2, 3, 4, 5, 31, 51, 63, 256, 257, 311, 315, 1 << 63, u64::MAX];

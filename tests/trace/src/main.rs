@@ -1,9 +1,11 @@
-//! Holds the pages of the trace, docs/TRACE.md and docs/trace/, and the glossary to the repository: what they name is there, no
-//! row is lost, and no name has two meanings. With --write-edits it makes docs/trace/edits.md. Its last line is 'N passed, M failed'.
+//! Holds the pages of the trace, docs/TRACE.md and docs/trace/, the glossary, docs/ARCHITECTURE.md and docs/DECISIONS.md to the repository: what
+//! they name is there, no row is lost, and no name has two meanings. With --write-edits it makes docs/trace/edits.md. Its last line is
+//! 'N passed, M failed'.
 mod edits;
 mod index;
 mod names;
 mod pages;
+mod prose;
 mod quote;
 mod repository;
 mod rows;
@@ -20,7 +22,7 @@ use std::collections::BTreeSet;
 use std::fs;
 use std::path::Path;
 use std::process::exit;
-use trials::{Trial, EDIT_TRIALS, TRIALS, WORD_TRIALS};
+use trials::{Trial, EDIT_TRIALS, PROSE_TRIALS, TRIALS, WORD_TRIALS};
 use words::GLOSSARY;
 
 const USAGE: &str = "usage: trace-test [--write-edits] ROOT";
@@ -36,7 +38,8 @@ struct Checked {
 /// The names of the pages and their texts.
 fn texts(root: &Path) -> Vec<(String, String)> {
     let pages = listed(&root.join("docs/trace")).into_iter().map(|path| format!("docs/trace/{}", name_of(&path)));
-    let names = [index::INDEX.to_string(), GLOSSARY.to_string()].into_iter().chain(pages.filter(|name| name.ends_with(".md")));
+    let others = [index::INDEX, GLOSSARY].into_iter().chain(prose::PAGES).map(str::to_string);
+    let names = others.chain(pages.filter(|name| name.ends_with(".md")));
     names.map(|name| (name.clone(), fs::read_to_string(root.join(&name)).unwrap_or_default())).collect()
 }
 
@@ -60,6 +63,16 @@ fn check_page(page: &Page, rows: &BTreeSet<rows::Number>, repository: &Repositor
     (Checked { what: format!("{}: {counts}", page.name), wrong }, all.labels)
 }
 
+/// Everything that one page of prose names.
+fn check_prose(page: &Page, rows: &BTreeSet<rows::Number>, repository: &Repository) -> Checked {
+    let (all, mut wrong) = prose::check(page, repository);
+    for unit in &page.units {
+        let stale = rows::stale(unit, rows, repository).into_iter().chain(index::dead(page, unit, &repository.root));
+        wrong.extend(stale.map(|what| format!("{}: {}: {what}", page.name, unit.at)));
+    }
+    Checked { what: format!("{}: {} paths, {} names, {} labels", page.name, all.paths, all.names, all.labels.len()), wrong }
+}
+
 /// Edits that do not say why, and edits that no row speaks of.
 fn check_edits(pages: &[Page], named: &BTreeSet<String>, repository: &Repository) -> Vec<String> {
     let mut wrong = Vec::new();
@@ -78,9 +91,11 @@ fn check_edits(pages: &[Page], named: &BTreeSet<String>, repository: &Repository
 /// All checks but that of the logs.
 fn check(texts: &[(String, String)], repository: &Repository) -> Vec<Checked> {
     let pages = texts.iter().map(|(name, text)| Page::read(name, text));
-    let (glossaries, pages): (Vec<Page>, Vec<Page>) = pages.partition(|page| page.name == GLOSSARY);
+    let (prose, pages): (Vec<Page>, Vec<Page>) = pages.partition(|page| prose::PAGES.contains(&page.name.as_str()));
+    let (glossaries, pages): (Vec<Page>, Vec<Page>) = pages.into_iter().partition(|page| page.name == GLOSSARY);
     let rows = rows::numbers(&pages);
     let (mut checked, mut named) = (Vec::new(), BTreeSet::new());
+    checked.extend(prose.iter().map(|page| check_prose(page, &rows, repository)));
     for page in pages.iter().chain(&glossaries) {
         let (result, labels) = check_page(page, &rows, repository);
         checked.push(result);
@@ -125,7 +140,8 @@ fn try_damage(texts: &[(String, String)], repository: &Repository) -> Vec<Checke
     again.definitions.extend(repository.definitions.first().map(|(_, name)| ("another".to_string(), name.clone())));
     let twice = tried("a name that two crates define", "crates/*/specs", count(texts, &again));
     let trials = TRIALS.map(page(DAMAGED)).into_iter().chain(WORD_TRIALS.map(page(GLOSSARY)));
-    trials.chain(EDIT_TRIALS.map(edit)).chain([twice]).collect()
+    let prose = prose::PAGES.into_iter().flat_map(|name| PROSE_TRIALS.map(page(name)));
+    trials.chain(prose).chain(EDIT_TRIALS.map(edit)).chain([twice]).collect()
 }
 
 /// The page of the edits against their logs, and whether quotes of errors that no log has are noticed.

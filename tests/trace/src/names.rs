@@ -26,11 +26,11 @@ enum Place<'a> {
 }
 
 /// A command of a person or of the tests, and no name of the repository's.
-fn is_command(code: &str) -> bool {
+pub fn is_command(code: &str) -> bool {
     code.starts_with("rt ") || code.starts_with("./")
 }
 
-fn is_path(code: &str) -> bool {
+pub fn is_path(code: &str) -> bool {
     code.contains('/') && !code.contains(' ')
 }
 

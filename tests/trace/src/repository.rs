@@ -18,6 +18,9 @@ pub struct Repository {
     pub decisions: BTreeSet<String>,
     /// the names that the specs and the code's types of each crate declare, those of written-out cases aside
     pub definitions: Vec<(String, String)>,
+    pub crates: BTreeSet<String>,
+    /// all names that stand in some file, comments and imports of Rattle aside, and the names of the files and folders
+    pub words: BTreeSet<String>,
 }
 
 /// What stands in a folder, in order; nothing where there is no such folder.
@@ -56,6 +59,26 @@ fn has_word(text: &str, name: &str) -> bool {
         let (before, after) = (text[..at].chars().next_back(), text[at + name.len()..].chars().next());
         !before.is_some_and(in_name) && !after.is_some_and(in_name)
     })
+}
+
+/// The files below a folder, those of the pages and of what is built aside.
+fn files_below(folder: &Path) -> Vec<PathBuf> {
+    const ASIDE: [&str; 3] = ["target", "docs", ".git"];
+    let (folders, files): (Vec<PathBuf>, Vec<PathBuf>) = listed(folder).into_iter().partition(|path| path.is_dir());
+    let folders = folders.iter().filter(|path| !ASIDE.contains(&name_of(path).as_str()));
+    files.into_iter().chain(folders.flat_map(|path| files_below(path))).collect()
+}
+
+/// The names that stand in the files below a folder, with those of the files and of the folders that they are in.
+fn words_below(root: &Path) -> BTreeSet<String> {
+    let mut words = BTreeSet::new();
+    for file in files_below(root).into_iter().filter(|file| file.extension().is_none_or(|ending| ending != "md")) {
+        let parts = file.strip_prefix(root).unwrap_or(&file).iter().map(|part| part.to_string_lossy().into_owned());
+        words.extend(parts);
+        let text = code_of(&file).or_else(|| fs::read_to_string(&file).ok()).unwrap_or_default();
+        words.extend(text.split(|c| !in_name(c)).filter(|word| !word.is_empty()).map(str::to_string));
+    }
+    words
 }
 
 /// The functions that a file of code has.
@@ -120,7 +143,8 @@ impl Repository {
         let decisions = fs::read_to_string(root.join("docs/DECISIONS.md")).unwrap_or_default();
         let number = |line: &str| Some(line.strip_prefix("### ")?.split_once(". ")?.0.to_string());
         let decisions = decisions.lines().filter_map(number).collect();
-        Repository { root: root.to_path_buf(), functions, edits, decisions, definitions }
+        let crates = listed(&root.join("crates")).iter().map(|path| name_of(path)).collect();
+        Repository { root: root.to_path_buf(), functions, edits, decisions, definitions, crates, words: words_below(root) }
     }
 
     /// The file of an edit.
@@ -144,6 +168,14 @@ impl Repository {
 
     pub fn has_file(&self, path: &str) -> bool {
         self.place(path).is_file()
+    }
+
+    /// Whether each name of a piece of code stands in some file; `plan_` is what names begin with.
+    pub fn knows(&self, code: &str) -> bool {
+        let is_number = |word: &str| word.chars().all(|c| c.is_ascii_digit() || c == '-');
+        let begins = |word: &str| word.ends_with('_') && self.words.range(word.to_string()..).next().is_some_and(|next| next.starts_with(word));
+        let is_known = |word: &str| is_number(word) || self.words.contains(word) || begins(word);
+        self.words.contains(code) || code.split(|c| !in_name(c)).all(is_known)
     }
 
     /// Whether a name stands in a file; of `A::b` each part does.

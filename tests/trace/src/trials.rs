@@ -21,6 +21,16 @@ pub const TRIALS: [Trial; 10] = [
     Trial { what: "a row that is gone", damage: without_last },
 ];
 
+/// Of a page of prose.
+pub const PROSE_TRIALS: [Trial; 6] = [
+    Trial { what: "a path of prose that is not there", damage: |page| added(page, "`base/specs/Stale.antt`") },
+    Trial { what: "a name of prose that no file has", damage: |page| added(page, &format!("`{}`", ["stale", "prose"].join("_"))) },
+    Trial { what: "a name that the file after it does not have", damage: |page| added(page, &format!("`accepted`, `has_bit` in `{CASES}`")) },
+    Trial { what: "a name that the file in brackets does not have", damage: |page| added(page, &format!("`has_bit` (`{CASES}`)")) },
+    Trial { what: "a decision of prose that was not taken", damage: |page| added(page, "as D9999 says") },
+    Trial { what: "a link of prose that leads nowhere", damage: |page| added(page, "[here](stale.md)") },
+];
+
 /// Of the glossary.
 pub const WORD_TRIALS: [Trial; 2] = [
     Trial { what: "a word that stands for what is not there", damage: |page| format!("{page}| stale | is gone | `{CASES}` `stale` |\n") },

@@ -1,5 +1,5 @@
 //! What the calls answer, by name. A call gives the number 256m + 4k + answer, for m steps, or the m bytes that it wrote, and the
-//! refusal k; it is put together and taken apart here alone.
+//! refusal k, where m takes 32 bits; it is put together and taken apart here alone.
 use crate::is_policy_length;
 use std::fmt;
 
@@ -62,7 +62,7 @@ fn number(m: u32, k: u32, answer: u64) -> u64 {
     256 * m as u64 + 4 * k as u64 + answer
 }
 
-/// m, k and the answer; of an m that no call gives, only a part.
+/// m, k and the answer, without what stands above the 32 bits of m.
 fn fields(raw: u64) -> (u32, u32, u64) {
     ((raw / 256) as u32, (raw / 4 % 64) as u32, raw % 4)
 }

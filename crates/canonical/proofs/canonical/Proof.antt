@@ -1,5 +1,5 @@
 -- The questions in order, then the writing.
-use Prim.Native.Nat.{ℕ, _+_, _*_, _≤_}
+use Prim.Native.Nat.{ℕ, _+_, _≤_}
 use mathlib.Core.List.{List}
 use mathlib.Core.Path.{_≡_, refl, sym, subst, _∙_}
 use native.Mathlib.Omega.{arith}
@@ -8,6 +8,7 @@ use borrow.Author.Needs.{needs}
 use Rattle.policy_image.specs.declared.counts.Counts.{Counts}
 use Rattle.policy_image.specs.declared.counts.Checked.the-variants.{Accepted}
 use Rattle.policy_image.specs.Policy.{policyOf}
+use Rattle.policy_image.specs.inner.Sizes.{imageSize, mostRecords}
 use Rattle.policy_check.specs.inner.Answer.{PolicyAnswer}
 use Rattle.policy_check.specs.inner.Sound.{Sound}
 use Rattle.policy_check.proofs.AnswerLaws.{sound}
@@ -62,7 +63,7 @@ module _ (K : tie.After-count-kinds) where
   abbrev of : List ℕ
   of = K .count-kinds .result
 
-  few-of : (k : ℕ) → 1 ≤ k → k ≤ 9 → getD of k 0 ≤ 4095
+  few-of : (k : ℕ) → 1 ≤ k → k ≤ 9 → getD of k 0 ≤ mostRecords
   few-of k l h =
       let n = most-length (policyOf (s accepted) .rec) k (policyOf (s accepted) .size) in
       omega (arith, K .count-kinds .ensures k l h, n, image accepted .exact .few)
@@ -81,14 +82,18 @@ returns-2 c =
 
 returns-3 : tie.Need-returns-3
 returns-3 c =
-    let K = c .before .before in
+    let I = c .before in
+    let K = I .before .before in
     let A = accepted K in
-    (too-short (s A) (room A) (passed A) (made K .make-table .ensures .1) (of K) (K .count-kinds .ensures) (omega arith) (omega arith), refl)
+    (too-short (s A) (room A) (passed A) (made K .make-table .ensures .1) (of K) (K .count-kinds .ensures) (omega arith) (omega (arith, I .image-size .ensures .0)), refl)
 
 -- the policy is accepted, the result has few enough records, and there is room
 module _ (F : tie.Else2) where
+  abbrev sized : tie.After-image-size
+  sized = F .before
+
   abbrev counted : tie.After-count-kinds
-  counted = F .before .before
+  counted = sized .before .before
 
   abbrev first : tie.After-known-told
   first = accepted counted
@@ -96,11 +101,11 @@ module _ (F : tie.Else2) where
   abbrev records : ℕ
   records = made counted .make-table .result + (getD (of counted) 8 0 + getD (of counted) 9 0)
 
-  few : records ≤ 4095
+  few : records ≤ mostRecords
   few = omega arith
 
-  fits : 24 + 12 * records ≤ room first
-  fits = omega arith
+  fits : imageSize records ≤ room first
+  fits = omega (arith, sized .image-size .ensures .0)
 
 write-requires : tie.Need-write-requires
 write-requires c κs =
@@ -119,12 +124,12 @@ returns-4 c =
     let T = made K .make-table .ensures .1 in
     let O = K .count-kinds .ensures in (
       all-passed (s A) (room A) (passed A) T (of K) O (few F) (fits F),
-      sym (result-length (s A) (room A) (passed A) T (of K) O (few F)),
-      past-result (s A) (room A) (passed A) T (of K) O (few F) (fits F) _ _ (w .write .ensures),
+      sized F .image-size .ensures .0 ∙ sym (result-length (s A) (room A) (passed A) T (of K) O (few F)),
+      past-result (s A) (room A) (passed A) T (of K) O (few F) (fits F) _ (sized F .image-size .ensures .0) _ _ (w .write .ensures),
     )
 
 pub canonical-spec : {M : Type 1} → statement M
 canonical-spec =
     tie.close
     (tie.spec (λ c κs. search needs) (λ c. search needs) (λ c. search needs) (λ c κs. search needs) returns (λ c. search needs) (λ c. search needs) make-table-requires count-kinds-requires (λ c. search needs)
-    (λ c. search needs) add-records add-records-2 returns-2 (λ c. search needs) (λ c. search needs) returns-3 (λ c. search needs) (λ c. search needs) write-requires (λ c. search needs) (λ c. search needs) returns-4)
+    (λ c. search needs) add-records add-records-2 returns-2 (λ c κs. search needs) returns-3 (λ c. search needs) (λ c. search needs) write-requires (λ c. search needs) (λ c. search needs) returns-4)

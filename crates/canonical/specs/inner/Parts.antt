@@ -1,5 +1,5 @@
 -- What the parts of the canonical image hand on to each other.
-use Prim.Native.Nat.{ℕ, _+_, _*_, _≤_}
+use Prim.Native.Nat.{ℕ, _≤_}
 use mathlib.Core.Path.{_≡_}
 use mathlib.Core.Bool.{cond}
 use mathlib.Core.List.{List}
@@ -9,6 +9,7 @@ use Rattle.base.specs.inner.AllBytes.{AllBytes}
 use Rattle.policy_image.specs.declared.counts.Counts.{Counts}
 use Rattle.policy_image.specs.Layout.{recordCount, countsOf}
 use Rattle.policy_image.specs.Policy.{policyOf}
+use Rattle.policy_image.specs.inner.Sizes.{imageSize, mostRecords}
 use Rattle.policy_check.specs.inner.Sound.{Sound}
 use Rattle.policy_facts.specs.Canonical.{canonicalOf}
 use Rattle.policy_facts.specs.inner.FactTable.{FactTable}
@@ -26,5 +27,5 @@ pub record Canonizable (s : List ℕ) (c : Counts) (keys masks : List ℕ) (m ou
   pub table : FactTable (policyOf s) keys masks m
   pub keyed : m ≤ length keys
   pub masked : m ≤ length masks
-  pub few : canonicalOf (policyOf s) .size ≤ 4095
-  pub room : 24 + 12 * canonicalOf (policyOf s) .size ≤ output
+  pub few : canonicalOf (policyOf s) .size ≤ mostRecords
+  pub room : imageSize (canonicalOf (policyOf s) .size) ≤ output

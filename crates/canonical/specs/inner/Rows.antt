@@ -1,12 +1,13 @@
 -- The rows of a table of facts, as they are written: row i is record i of the result.
-use Prim.Native.Nat.{ℕ, suc, _+_, _*_, _-_, _/_, _%_, _≤_, _<_}
+use Prim.Native.Nat.{ℕ, _-_, _≤_, _<_}
 use mathlib.Core.Path.{_≡_}
 use mathlib.Core.List.{List}
 use lib.ListN.{length, getD}
-use Rattle.base.specs.Bytes.{byteAt}
 use Rattle.base.specs.Ranges.{Within}
+use Rattle.base.specs.Writing.{listUpto}
 use Rattle.policy_image.specs.declared.records.Record.{Record}
 use Rattle.policy_image.specs.Encoding.{recordBytes}
+use Rattle.policy_image.specs.inner.Sizes.{imageSize, mostRecords}
 use Rattle.policy_image.specs.inner.Writable.{WritableRecord}
 use Rattle.policy_lists.specs.Lists.{recordsUpto, ofKindIn, withNext}
 use Rattle.policy_lists.specs.inner.Places.{nextUpto}
@@ -29,15 +30,15 @@ abbrev pub factRow : List ℕ → List ℕ → List ℕ → ℕ → Record
 factRow keys masks ends i =
     withNext (nextUpto (getD ends (kindIn (getD keys (i - 1) 0)) 0) i) (tableRecord (getD keys (i - 1) 0) (getD masks (i - 1) 0))
 
--- byte j of rows that stand one behind the other
-abbrev pub rowByte : (ℕ → Record) → ℕ → ℕ
-rowByte row j = byteAt (recordBytes (row (suc (j / 12)))) (j % 12)
+-- the bytes of the first m rows, one behind the other
+abbrev pub rowBytes : (ℕ → Record) → ℕ → List ℕ
+rowBytes row m = listUpto (λ i. recordBytes (row i)) m
 
 -- the first m rows can be written into so many bytes
 pub record RowsFit (keys masks ends : List ℕ) (m output : ℕ) : Type 0 where
-  pub few : m ≤ 4095
+  pub few : m ≤ mostRecords
   pub keyed : m ≤ length keys
   pub masked : m ≤ length masks
   pub kinds : FactKinds keys m
-  pub room : 24 + 12 * m ≤ output
+  pub room : imageSize m ≤ output
   pub writable : (i : ℕ) → 1 ≤ i → i ≤ m → WritableRecord (factRow keys masks ends i)

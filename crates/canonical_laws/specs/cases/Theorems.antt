@@ -1,10 +1,11 @@
--- "A canonical policy image" (paper 02, e): what its claims say of all policies whose canonical image is written. s and t are the bytes of
--- images. What stands in quotes is the paper's. proofs/Theorems.antt proves each.
-use Prim.Native.Nat.{ℕ, _≤_}
+-- "A canonical policy image" (paper 02, e): its claims, of all policies whose canonical image is written. What stands in quotes is the paper's.
+-- proofs/Theorems.antt proves them.
+use Prim.Native.Nat.{ℕ, _≤_, _<_}
 use mathlib.Core.Path.{_≡_}
 use mathlib.Core.List.{List}
 use mathlib.Core.Logic.{_↔_}
 use lib.ListN.{length}
+use Rattle.base.specs.Bytes.{byteAt}
 use Rattle.base.specs.Questions.{AllYes}
 use Rattle.policy_image.specs.Policy.{Policy, policyOf}
 use Rattle.policy_sources.specs.Sources.{domain}
@@ -23,17 +24,16 @@ use Rattle.least_steps.specs.LeastSteps.{StepsPromise}
 use Rattle.goal_question.specs.declared.goal.Outcome.{Outcome}
 use Rattle.goal_question.specs.GoalQuestion.{GoalPromise}
 
--- "These claims are for images that are written": every question of the call is answered yes, 15 among them, for some length of the output
+-- "These claims are for images that are written": s are bytes, and for some length of the output each question of the call is answered yes, 15
+-- among them
 pub record ImageWritten (s : List ℕ) : Type 0 where
+  pub bytes : (i : ℕ) → byteAt s i < 256
   pub output : ℕ
   pub asked : AllYes (canonicalQuestions s output)
 
--- "Two policies give equal bytes exactly when their counts, their facts of kinds 1 to 7 as written .., and their lists of kinds 8 and 9 agree"
-abbrev pub EqualBytes : List ℕ → List ℕ → Type 0
-EqualBytes s t = (canonicalImage s ≡ canonicalImage t) ↔ Same (policyOf s) (policyOf t)
-
--- "Writing twice changes nothing." The canonical image is that of an accepted policy; of this one, too, the canonical image is written wherever
--- there is room for it, and it is the same
+-- ---- "Writing twice changes nothing."
+-- the canonical image is that of an accepted policy; of this one, too, the canonical image is written wherever there is room for it, and it is
+-- the same
 pub record WritingTwice (s : List ℕ) : Type 0 where
   pub accepted : AllYes (policyQuestions (canonicalImage s))
   pub asked : (output : ℕ) → length (canonicalImage s) ≤ output → AllYes (canonicalQuestions (canonicalImage s) output)
@@ -66,3 +66,13 @@ pub record SameAnswers (s t : List ℕ) : Type 0 where
       → StepsPromise s x y work1 work2 before after r ↔ StepsPromise t x y work1 work2 before after r
   pub goal : (g : List ℕ) (work1 work2 : ℕ) (before after : List ℕ) (r : Outcome)
       → GoalPromise s g work1 work2 before after r ↔ GoalPromise t g work1 work2 before after r
+
+pub record CanonicalClaims : Type 0 where
+  -- "Two policies give equal bytes exactly when their counts, their facts of kinds 1 to 7 as written .., and their lists of kinds 8 and 9
+  -- agree"
+  pub equal-bytes : (s t : List ℕ) → ImageWritten s → ImageWritten t → (canonicalImage s ≡ canonicalImage t) ↔ Same (policyOf s) (policyOf t)
+  -- "Writing twice changes nothing."
+  pub twice : (s : List ℕ) → ImageWritten s → WritingTwice s
+  -- "Every authorization answer survives the writing."
+  pub relations : (s : List ℕ) → ImageWritten s → SameRelations (policyOf s) (policyOf (canonicalImage s))
+  pub answers : (s : List ℕ) → ImageWritten s → SameAnswers s (canonicalImage s)

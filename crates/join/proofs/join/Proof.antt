@@ -1,5 +1,5 @@
 -- The questions in order, then the writing.
-use Prim.Native.Nat.{ℕ, _+_, _*_, _≤_}
+use Prim.Native.Nat.{ℕ, _+_, _≤_}
 use mathlib.Core.List.{List}
 use mathlib.Core.Path.{_≡_, refl, sym, subst, _∙_}
 use native.Mathlib.Omega.{arith}
@@ -7,6 +7,7 @@ use lib.ListN.{length}
 use borrow.Author.Needs.{needs}
 use Rattle.policy_image.specs.declared.counts.Counts.{Counts}
 use Rattle.policy_image.specs.declared.counts.Checked.the-variants.{Accepted}
+use Rattle.policy_image.specs.inner.Sizes.{imageSize, mostRecords}
 use Rattle.policy_check.specs.inner.Answer.{PolicyAnswer}
 use Rattle.join.proofs.AskedLaws.{few-records, maker-refused, board-refused, too-many, too-short, result-length, all-passed, can-be-joined, past-result}
 use Rattle.join.proofs.join.Statement.{statement}
@@ -66,23 +67,27 @@ returns-3 c =
 
 returns-4 : tie.Need-returns-4
 returns-4 c =
-    let B = c .before .before .before .before in
+    let I = c .before in
+    let B = I .before .before .before .before in
     let A = maker-asked B in
-    (too-short (s A) (t A) (room A) (maker-passed A) (board-passed B) (omega arith) (omega arith), refl)
+    (too-short (s A) (t A) (room A) (maker-passed A) (board-passed B) (omega arith) (omega (arith, I .image-size .ensures .0)), refl)
 
 -- neither is refused, there are few enough records, and there is room
 module _ (F : tie.Else2) where
+  abbrev sized : tie.After-image-size
+  sized = F .before
+
   abbrev both : tie.After-known-told2
-  both = F .before .before .before .before
+  both = sized .before .before .before .before
 
   abbrev first : tie.After-known-told
   first = maker-asked both
 
-  few : makers first .records + boards both .records ≤ 4095
+  few : makers first .records + boards both .records ≤ mostRecords
   few = omega arith
 
-  fits : 24 + 12 * (makers first .records + boards both .records) ≤ room first
-  fits = omega arith
+  fits : imageSize (makers first .records + boards both .records) ≤ room first
+  fits = omega (arith, sized .image-size .ensures .0)
 
 write-requires : tie.Need-write-requires
 write-requires c κs =
@@ -105,12 +110,12 @@ returns-5 c =
     let A = first F in
     let l = result-length (s A) (t A) (room A) (maker-passed A) (board-passed (both F)) (few F) in (
       all-passed (s A) (t A) (room A) (maker-passed A) (board-passed (both F)) (few F) (fits F),
-      sym l,
-      past-result (s A) (t A) (room A) (maker-passed A) (board-passed (both F)) (few F) (fits F) _ _ (w .write .ensures),
+      sized F .image-size .ensures .0 ∙ sym l,
+      past-result (s A) (t A) (room A) (maker-passed A) (board-passed (both F)) (few F) (fits F) _ (sized F .image-size .ensures .0) _ _ (w .write .ensures),
     )
 
 pub join-spec : {M : Type 1} → statement M
 join-spec =
     tie.close
     (tie.spec (λ c κs. search needs) (λ c. search needs) (λ c. search needs) (λ c κs. search needs) returns (λ c κs. search needs) (λ c. search needs) (λ c. search needs)
-    (λ c κs. search needs) returns-2 add-records returns-3 (λ c. search needs) (λ c. search needs) returns-4 write-requires (λ c. search needs) (λ c. search needs) returns-5)
+    (λ c κs. search needs) returns-2 add-records returns-3 (λ c κs. search needs) returns-4 write-requires (λ c. search needs) (λ c. search needs) returns-5)

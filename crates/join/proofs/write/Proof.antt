@@ -6,13 +6,12 @@ use mathlib.Core.List.{List}
 use native.Mathlib.Omega.{arith}
 use lib.ListN.{length, getD}
 use borrow.Author.Needs.{needs}
-use Rattle.base.proofs.FillLaws.{fill-begin}
 use Rattle.policy_image.specs.Policy.{policyOf}
 use Rattle.policy_lists.specs.Lists.{kindList}
 use Rattle.policy_lists.specs.Joined.{joinedKind, joined}
 use Rattle.policy_lists.proofs.PlaceLaws.{ending}
 use Rattle.policy_runs.specs.inner.Runs.{KindTable}
-use Rattle.policy_runs.proofs.RunImageLaws.{RecordsTo}
+use Rattle.policy_runs.proofs.RunImageLaws.{RecordsTo, records-none}
 use Rattle.policy_runs.proofs.ImageWriteLaws.{EndTable, ends-most, few-upto, counts-writable, heads-writable, header-put}
 use Rattle.join.specs.inner.Parts.{Joinable}
 use Rattle.join.proofs.WriteLaws.{writable-lists, few-of-each, ends-are, counts-are, makers-run-fits, makers-run-put, boards-run-fits, boards-run-put, joined-put}
@@ -112,7 +111,7 @@ add-boards-shift c =
     omega (arith, ends E 8 (omega arith), m, few .first 9 (omega arith) (omega arith))
 
 loop-holds : tie.Need-loop-holds Inv-loop μ-loop
-loop-holds c = (omega arith, omega arith, refl, fill-begin _ _ _ _)
+loop-holds c = (omega arith, omega arith, refl, records-none _ _)
 
 -- what is known in the loop
 module _ (L : tie.At-loop Inv-loop μ-loop) where

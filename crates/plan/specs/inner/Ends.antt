@@ -11,7 +11,8 @@ use Rattle.goal_image.specs.Goal.{σChain, σeChain}
 use Rattle.plan.specs.inner.Regions.{eventEntries, eventSetsStart}
 use Rattle.plan.specs.inner.Entries.{eventSetsAt}
 use Rattle.plan.specs.inner.Sets.{Falls, setsOf}
-use Rattle.plan.specs.inner.Put.{Kept, AllLeads}
+use Rattle.plan.specs.inner.Plan.{AlikePlan}
+use Rattle.plan.specs.inner.Put.{Kept}
 
 -- of the contexts in range, the set h has x alone
 pub record OnlyIn (n : Counts) (plan : List ℕ) (h : ℕ) (x : Context) : Type 0 where
@@ -30,5 +31,5 @@ pub record EndsPlan (x y : Context) (n : Counts) (plan : List ℕ) : Type 0 wher
 -- it is put into the list old
 pub record EndsPut (x y : Context) (n : Counts) (old plan : List ℕ) : Type 0 where
   pub ends : EndsPlan x y n plan
-  pub leads : AllLeads (n .types) old plan
+  pub alike : AlikePlan plan
   pub below : Kept eventSetsStart old plan

@@ -9,7 +9,7 @@ use lib.ListN.{length, getD}
 use Rattle.base.specs.Bits.{bit}
 use Rattle.policy_image.specs.Policy.{Policy}
 use Rattle.context.specs.inner.Coding.{transitionCode}
-use Rattle.plan.specs.inner.Entries.{keyAt, writesAt, readsAt, eventSetsAt}
+use Rattle.plan.specs.inner.Entries.{keyAt, writesAt, readsAt, eventSetsAt, alikeAt}
 use Rattle.plan.specs.inner.Plan.{Grouped, Alike}
 use Rattle.plan.specs.inner.Regions.{eventEntries, typeCodes}
 
@@ -24,6 +24,11 @@ pub record SameSets (plan : List ℕ) (c sets r : ℕ) : Type 0 where
 -- any two permissions of class c in the mask are alike
 pub record AllAlike (plan : List ℕ) (c mask : ℕ) : Type 0 where
   pub at : (p : Policy) → Grouped p plan → (q i : ℕ) → q < 32 → i < 32 → bit mask q ≡ true → bit mask i ≡ true → Alike p plan (32 * c + q) (32 * c + i)
+
+-- l is what the plan has of the permissions that are alike
+pub record AlikeCopy (plan l : List ℕ) : Type 0 where
+  pub size : length l ≡ eventEntries
+  pub same : (e : ℕ) → e < eventEntries → getD l e 0 ≡ alikeAt plan e
 
 -- l has an entry for each event, and the permissions in it are like that event
 pub record AlikeTable (plan l : List ℕ) : Type 0 where

@@ -4,11 +4,12 @@ use Prim.Native.Nat.{ℕ, _+_}
 use Rattle.plan_tables.specs.inner.Tables.{typeEntries}
 pub use Rattle.plan_tables.specs.inner.Tables.{roleEntries}
 use Rattle.plan_index.specs.inner.Codes.{items}
+pub use Rattle.plan_index.specs.inner.Codes.{recordWords}
 -- a step is an event and a type, as a key is a class and a type: typeCodes times the first and the second
 pub use Rattle.plan_index.specs.inner.Codes.{typeCodes}
 
 -- ---- sizes: by class, by role, by type with one more for the end of the last block, by entry of a block, by event, by pair of a role
--- and a user, by record of a goal
+-- and a user, by record of a goal; recordWords for a set of record numbers
 abbrev pub classEntries : ℕ
 classEntries = 32
 
@@ -34,23 +35,8 @@ specialStart = 0
 abbrev pub changesStart : ℕ
 changesStart = specialStart + classEntries
 
-abbrev pub firstStart : ℕ
-firstStart = changesStart + roleEntries
-
-abbrev pub keysStart : ℕ
-keysStart = firstStart + firstEntries
-
-abbrev pub writesStart : ℕ
-writesStart = keysStart + blockEntries
-
-abbrev pub readsStart : ℕ
-readsStart = writesStart + blockEntries
-
-abbrev pub typeSpecialStart : ℕ
-typeSpecialStart = readsStart + blockEntries
-
 abbrev pub groupsStart : ℕ
-groupsStart = typeSpecialStart + typeEntries
+groupsStart = changesStart + roleEntries
 
 abbrev pub rolesStart : ℕ
 rolesStart = groupsStart + eventEntries
@@ -83,8 +69,30 @@ recordRolesStart = marksStart + recordEntries
 abbrev pub recordUsersStart : ℕ
 recordUsersStart = recordRolesStart + recordEntries
 
+abbrev pub alikeStart : ℕ
+alikeStart = recordUsersStart + recordEntries
+
+-- ---- the part of the rules
+abbrev pub countedStart : ℕ
+countedStart = alikeStart + eventEntries
+
+abbrev pub firstStart : ℕ
+firstStart = countedStart + recordWords
+
+abbrev pub keysStart : ℕ
+keysStart = firstStart + firstEntries
+
+abbrev pub writesStart : ℕ
+writesStart = keysStart + blockEntries
+
+abbrev pub readsStart : ℕ
+readsStart = writesStart + blockEntries
+
+abbrev pub typeSpecialStart : ℕ
+typeSpecialStart = readsStart + blockEntries
+
 abbrev pub leadsStart : ℕ
-leadsStart = recordUsersStart + recordEntries
+leadsStart = typeSpecialStart + typeEntries
 
 -- how many entries a plan has
 abbrev pub planEntries : ℕ

@@ -15,6 +15,10 @@ keyCodes = 131072
 abbrev pub recordNumbers : ℕ
 recordNumbers = 4096
 
+-- how many words a set of them has
+abbrev pub recordWords : ℕ
+recordWords = 128
+
 abbrev pub keyCode : ℕ → ℕ → ℕ
 keyCode class ty = typeCodes * class + ty
 

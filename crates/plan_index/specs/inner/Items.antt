@@ -1,7 +1,7 @@
 -- The items of allow records: two for each record that counts. That of its source is even, goes in the source's block and names the
 -- target; that of its target is odd, and the other way round. An item has a code, by which it is sorted; the two have one mask.
 use mathlib.Core.Path.{_≡_}
-use mathlib.Core.Bool.{Bool, true, cond}
+use mathlib.Core.Bool.{true, cond}
 use mathlib.Core.List.{List}
 use Prim.Native.Nat.{ℕ, _+_, _*_, _/_, _%_, _≤_, _<_}
 use lib.Bits.{bitAnd}
@@ -11,11 +11,10 @@ use Rattle.base.specs.Ranges.{Within}
 use Rattle.policy_image.specs.declared.records.Record.{Record}
 use Rattle.policy_image.specs.Policy.{Policy}
 use Rattle.context.specs.Codes.{eventAt}
-use Rattle.relations.specs.Relations.{targetOf}
+use Rattle.relations.specs.Relations.{targetOf, α}
 -- what is said of items in general
 pub use Rattle.sorting.specs.inner.Entries.{codeIn, Gives}
 use Rattle.plan_index.specs.inner.Codes.{typeCodes, keyCodes, items, keyCode, itemCode}
-use Rattle.plan_index.specs.inner.Counting.{αBy}
 use Rattle.plan_index.specs.inner.Index.{Ranged}
 
 -- item x is that of the record r in the block of `own`, naming `other`: its mask is cut to the permissions that the class has
@@ -45,8 +44,8 @@ pub record Owned (types k : ℕ) : Type 0 where
   pub key : Ranged types (k % keyCodes)
 
 -- the n items give just what α says by the allow records that count
-pub record Extracted (keep : ℕ → Bool) (p : Policy) (codes masks : List ℕ) (n : ℕ) : Type 0 where
+pub record Extracted (p : Policy) (codes masks : List ℕ) (n : ℕ) : Type 0 where
   pub few : n ≤ items
   pub owned : (x : ℕ) → x < n → Owned (p .counts .types) (getD codes x 0)
-  pub writes : Says (λ t c o q. αBy keep p t o (eventAt c q) ≡ true) (codeIn codes) (sideMask masks 0) n
-  pub reads : Says (λ t c o q. αBy keep p o t (eventAt c q) ≡ true) (codeIn codes) (sideMask masks 1) n
+  pub writes : Says (λ t c o q. α p t o (eventAt c q) ≡ true) (codeIn codes) (sideMask masks 0) n
+  pub reads : Says (λ t c o q. α p o t (eventAt c q) ≡ true) (codeIn codes) (sideMask masks 1) n

@@ -9,7 +9,6 @@ use Rattle.policy_image.specs.Policy.{Policy}
 use Rattle.context.specs.declared.Event.{Event}
 use Rattle.context.specs.Codes.{eventAt}
 use Rattle.relations.specs.Relations.{α}
-use Rattle.plan_index.specs.inner.Counting.{αBy}
 use Rattle.plan_index.specs.inner.Index.{Has, Ranged, RisingKeys, MasksShow}
 
 -- the block of the type t by a relation A, an entry for each class and other type in rising order: `writes` has all that A lets t do
@@ -26,11 +25,7 @@ pub record IndexOf (A : ℕ → ℕ → Event → Bool) (p : Policy) (first keys
   pub blocks : (t : ℕ) → Within 1 (p .counts .types) t → BlockOf A p t keys ws rs (getD first t 0) (getD first (t + 1) 0)
   pub tops : (t : ℕ) → Within 1 (p .counts .types) t → getD first (t + 1) 0 ≤ length keys
 
--- the index that is made: by the allow records of which `keep` is true
-abbrev pub AllowIndexBy : (ℕ → Bool) → Policy → (first keys ws rs : List ℕ) → Type 0
-AllowIndexBy keep p = IndexOf (αBy keep p) p
-
--- the index by all allow records, and a block of it
+-- the index by the allow records that count, and a block of it
 abbrev pub AllowIndex : Policy → (first keys ws rs : List ℕ) → Type 0
 AllowIndex p = IndexOf (α p) p
 

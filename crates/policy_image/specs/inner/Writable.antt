@@ -6,6 +6,7 @@ use Rattle.policy_image.specs.declared.counts.Counts.{Counts}
 use Rattle.policy_image.specs.declared.records.Record.{Record}
 use Rattle.policy_image.specs.Policy.{Policy}
 use Rattle.policy_image.specs.inner.Reading.{Bytes}
+use Rattle.policy_image.specs.inner.Sizes.{mostRecords}
 
 -- where the head of kind k stands
 abbrev pub headStart : ℕ → ℕ
@@ -23,7 +24,7 @@ pub record WritableCounts (c : Counts) : Type 0 where
   pub roles : c .roles < 256
   pub users : c .users < 256
   pub classes : c .classes < 256
-  pub records : c .records ≤ 4095
+  pub records : c .records ≤ mostRecords
 
 -- heads that fit theirs
 abbrev pub WritableHeads : (ℕ → ℕ) → Type 0

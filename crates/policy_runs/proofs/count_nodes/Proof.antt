@@ -1,4 +1,4 @@
-use Prim.Native.Nat.{ℕ, _+_, _-_, _≤_, _<_}
+use Prim.Native.Nat.{ℕ, _+_, _-_, _≤_}
 use mathlib.Core.Path.{_≡_, refl, sym, ap, subst, _∙_}
 use mathlib.Core.List.{List}
 use mathlib.Core.Logic.{⊎-elim}
@@ -7,6 +7,7 @@ use lib.ListN.{set}
 use borrow.Author.Needs.{needs}
 use Rattle.policy_image.specs.Layout.{recordCount}
 use Rattle.policy_image.specs.Policy.{Policy, policyOf}
+use Rattle.policy_image.specs.inner.Sizes.{mostRecords}
 use Rattle.policy_image.proofs.FieldLaws.{SameFields, same-fields}
 use Rattle.policy_runs.proofs.CountingLaws.{NumberedTo, numbered-start, numbered-fits, numbered-node, numbered-other}
 use Rattle.policy_runs.proofs.count_nodes.Statement.{statement}
@@ -32,7 +33,7 @@ module _ (K : tie.After-record-at Inv-loop μ-loop) where
   same : SameFields (K .record-at .result) (p .rec (done + 1))
   same = same-fields (K .record-at .ensures .same)
 
-  room : done + 1 < 4096
+  room : done + 1 ≤ mostRecords
   room = omega (arith, start .pre .1, start .pre .0 .few)
 
 loop-holds : tie.Need-loop-holds Inv-loop μ-loop
@@ -74,5 +75,5 @@ returns c n h = let l = c .before .loop in l .inv .2 .upto n (omega (arith, l .i
 pub count-nodes-spec : {M : Type 1} → statement M
 count-nodes-spec =
     tie.close
-    (tie.spec Inv-loop μ-loop loop-holds (λ c. search needs) record-at-requires add-nodes cast-table (λ c. omega (arith, room (read (c .before)))) (λ c. room (read (c .before)))
+    (tie.spec Inv-loop μ-loop loop-holds (λ c. search needs) record-at-requires add-nodes cast-table (λ c. omega (arith, room (read (c .before)))) (λ c. omega (arith, room (read (c .before))))
     (λ c. search needs) loop-again returns)

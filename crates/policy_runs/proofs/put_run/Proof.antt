@@ -1,5 +1,5 @@
 -- A run is written record by record, along the chain of its kind; each record is renumbered and linked on the way.
-use Prim.Native.Nat.{ℕ, suc, _+_, _*_, _≤_}
+use Prim.Native.Nat.{ℕ, suc, _+_, _≤_}
 use mathlib.Core.Path.{_≡_, refl, sym, ap, ap₂, subst, _∙_}
 use mathlib.Core.List.{List}
 use native.Mathlib.Omega.{arith}
@@ -13,6 +13,7 @@ use Rattle.policy_image.specs.Policy.{Policy, policyOf}
 use Rattle.policy_image.specs.inner.Reading.{Bytes}
 use Rattle.policy_image.specs.inner.Writable.{WritableRecord}
 use Rattle.policy_image.proofs.FieldLaws.{SameFields, same-fields}
+use Rattle.policy_image.proofs.SizeLaws.{start-room}
 use Rattle.policy_links.proofs.KindLaws.{OfKind}
 use Rattle.policy_lists.specs.Lists.{kindList, withNext}
 use Rattle.policy_lists.specs.Joined.{nodesUpto, renumbered}
@@ -145,7 +146,7 @@ put-record-requires c κs =
     let h = place K in
     let R = fits K in (
       record { low = omega arith; high = omega (arith, h, R .most) },
-      omega (arith, h, R .room, loop K .loop .inv .2),
+      start-room (omega arith) h (omega (arith, R .room, loop K .loop .inv .2)),
       subst WritableRecord (sym (made c)) (R .writable (n K) (omega (arith, here K, of-kind K .high)) (its-kind K)),
     )
 

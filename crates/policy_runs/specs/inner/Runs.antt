@@ -1,5 +1,5 @@
 -- A run: the records of one kind of one policy, where they stand in the result, one behind the other.
-use Prim.Native.Nat.{ℕ, zero, suc, _+_, _*_, _≤_, _<_}
+use Prim.Native.Nat.{ℕ, zero, suc, _+_, _≤_, _<_}
 use mathlib.Core.Path.{_≡_}
 use mathlib.Core.Bool.{true, cond}
 use mathlib.Core.List.{List, [], _++_}
@@ -11,6 +11,7 @@ use Rattle.policy_image.specs.Layout.{PolicyExact, rootOf, leftOf, rightOf}
 use Rattle.policy_image.specs.Policy.{Policy, policyOf}
 use Rattle.policy_image.specs.Encoding.{recordBytes}
 use Rattle.policy_image.specs.inner.Reading.{Bytes}
+use Rattle.policy_image.specs.inner.Sizes.{imageSize, mostRecords}
 use Rattle.policy_image.specs.inner.Writable.{WritableRecord}
 use Rattle.policy_links.specs.Chains.{LinksRise, ChainsByKind}
 use Rattle.policy_expressions.specs.Nodes.{hasRoot, hasLeft, hasRight, NodesInOrder}
@@ -54,14 +55,14 @@ pub record RunFits (s t : List ℕ) (run : Run) (output : ℕ) : Type 0 where
   pub nodes : NodesInOrder (policyOf s)
   pub kind : Within 1 9 (run .kind)
   pub table : NodeTable (policyOf s) t
-  pub most : run .before + length (kindList (policyOf s) (run .kind)) ≤ 4095
-  pub room : 24 + 12 * (run .before + length (kindList (policyOf s) (run .kind))) ≤ output
+  pub most : run .before + length (kindList (policyOf s) (run .kind)) ≤ mostRecords
+  pub room : imageSize (run .before + length (kindList (policyOf s) (run .kind))) ≤ output
   pub shifted : (n : ℕ) → n ≤ policyOf s .size → run .shift + nodesUpto (policyOf s) n < 65536
   pub writable : (n : ℕ) → suc n ≤ policyOf s .size → policyOf s .rec (suc n) .kind ≡ run .kind → WritableRecord (runRecord (policyOf s) run n)
 
 -- node n has an entry in the table t, which with the shift fits two bytes
 pub record MovableNode (t : List ℕ) (shift n : ℕ) : Type 0 where
-  pub entry : n < 4096
+  pub entry : n ≤ mostRecords
   pub fits : shift + getD t n 0 < 65536
 
 -- so has each node that a record uses

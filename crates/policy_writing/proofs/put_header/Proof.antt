@@ -6,6 +6,7 @@ use Rattle.base.specs.Bytes.{byteAt}
 use Rattle.base.specs.Ranges.{Within}
 use Rattle.base.specs.inner.Fill.{Filled}
 use Rattle.base.proofs.FillLaws.{fill-begin, fill-end}
+use Rattle.policy_image.specs.inner.Sizes.{headerSize}
 use Rattle.policy_writing.proofs.ImageLaws.{headList, heads-more, header-done}
 use borrow.Author.Needs.{needs}
 use Rattle.policy_writing.proofs.put_header.Statement.{statement}
@@ -17,10 +18,15 @@ Inv-loop out₀ heads k₀ out k = (1 ≤ k) × (k ≤ 10) × (length out ≡ le
 abbrev μ-loop : tie.MeasureT-loop
 μ-loop out₀ heads k₀ out k = 10 - k
 
+put-counts-requires : tie.Need-put-counts-requires Inv-loop μ-loop
+unfolding headerSize
+put-counts-requires c κs = search needs
+
 loop-holds : tie.Need-loop-holds Inv-loop μ-loop
 loop-holds c = (omega arith, omega arith, refl, fill-begin _ _ _ _)
 
 put-head-requires : tie.Need-put-head-requires Inv-loop μ-loop
+unfolding headerSize
 put-head-requires c κs =
     let loop = c .before .before .before in
     let counts = loop .before .before .before in
@@ -46,4 +52,4 @@ returns c =
     header-done (start .args .c) (λ i. getD (start .args .heads .now) i 0) (counts .put-counts .ensures) (fill-end (c .before .loop .inv .3) (omega arith))
 
 pub put-header-spec : {M : Type 1} → statement M
-put-header-spec = tie.close (tie.spec Inv-loop μ-loop (λ c κs. search needs) loop-holds (λ c. search needs) (λ c. search needs) put-head-requires (λ c. search needs) (λ c. search needs) loop-again same-length returns)
+put-header-spec = tie.close (tie.spec Inv-loop μ-loop put-counts-requires loop-holds (λ c. search needs) (λ c. search needs) put-head-requires (λ c. search needs) (λ c. search needs) loop-again same-length returns)

@@ -31,7 +31,7 @@ returns c =
     let seeded = c .before .before .before .before in
     let seed = seeded .before .before .before .before .before .before in
     let s = seed .before .before .before .before .before .before .before in
-    let A = s .pre .0 in let z = rw (seeded .seeded .given .1) at (seed .seed .ensures _ A) in found-start A z (c .before .at .ensures) (c .code .ensures)
+    let A = s .pre .0 in let z = rw (seeded .seeded .given .1) at (seed .seed .ensures _ A) in (found-start A z (c .before .at .ensures) (c .code .ensures), z .visited)
 
 returns-2 : tie.Need-returns-2
 returns-2 c =
@@ -39,7 +39,7 @@ returns-2 c =
     let seeded2 = search-levels .before .before .before .before in
     let seed = seeded2 .before .before .before .before .before .before in
     let s = seed .before .before .before .before .before .before .before in
-    let A = s .pre .0 in let z = rw (seeded2 .seeded2 .given .1) at (seed .seed .ensures _ A) in found-least A _ _ (search-levels .search-levels .result) (z .none) (search-levels .search-levels .ensures)
+    let A = s .pre .0 in let z = rw (seeded2 .seeded2 .given .1) at (seed .seed .ensures _ A) in (found-least A _ _ (search-levels .search-levels .result .found) (z .none) (search-levels .search-levels .ensures .0), search-levels .search-levels .ensures .1)
 
 pub search-spec : {M : Type 1} → statement M
 search-spec = tie.close (tie.spec seed-requires (λ c. search needs) at-requires code-requires (λ c. search needs) search-levels-requires (λ c. search needs) (λ c. search needs) returns (λ c. search needs) (λ c. search needs) returns-2)

@@ -17,7 +17,8 @@ use Rattle.paths.specs.Model.{Model}
 use Rattle.goal_model.specs.Images.{inRange, meetsρμ}
 use Rattle.plan.specs.inner.Entries.{eventSetsAt}
 use Rattle.plan.specs.inner.Sets.{setsOf}
-use Rattle.search_steps.specs.inner.Steps.{heldBy}
+use Rattle.plan.specs.inner.Meets.{heldBy}
+use Rattle.plan.specs.inner.Plan.{ruled}
 
 -- x is in σe, and the event e in γe, by the plan
 abbrev pub excepted : Counts → List ℕ → Context → Bool
@@ -33,9 +34,9 @@ asksBy n plan o y = not (excepted n plan (contextAtIndex n y)) && heldBy n plan 
 abbrev pub planModel : List ℕ → List ℕ → Counts → Legs → Model
 planModel s plan n l =
     record {
-      flowBy = λ x e y. flow (policyOf s) (eventOf e) (contextOf x) (contextOf y);
+      flowBy = λ x e y. flow (ruled s plan) (eventOf e) (contextOf x) (contextOf y);
       context = λ x. inRange (policyOf s .counts) (contextOf x);
-      held = λ x. meetsρμ (policyOf s) (contextOf x);
+      held = λ x. meetsρμ (ruled s plan) (contextOf x);
       legs = l .count;
       σ = λ i x. bit (setsOf n plan (contextOf x)) (σChain i);
       γ = λ i e. bit (eventSetsAt plan e) (γChain i);

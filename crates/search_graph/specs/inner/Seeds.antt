@@ -2,7 +2,7 @@
 use mathlib.Core.Path.{_≡_}
 use mathlib.Core.List.{List}
 use Prim.Native.Nat.{ℕ, _+_, _*_, _≤_, _<_}
-use lib.ListN.{length, getD}
+use lib.ListN.{length}
 use Rattle.policy_image.specs.declared.counts.Counts.{Counts}
 use Rattle.context.specs.inner.Places.{contextCount}
 use Rattle.paths.specs.Model.{Model}
@@ -13,18 +13,16 @@ use Rattle.search_graph.specs.declared.seed.Seeded.{Seeded}
 use Rattle.search_graph.specs.declared.seed.Seeded.the-variants.{Nodes, Start as StartAtPlace}
 use Rattle.search_graph.specs.declared.task.Task.{Task}
 use Rattle.search_graph.specs.inner.State.{Inv}
+use Rattle.search_graph.specs.inner.Visits.{Cleared, Visited}
 use Rattle.search_graph.specs.inner.Nodes.{Watch, codeAt, BadStart}
 use Rattle.search_graph.specs.inner.Arrivals.{LandsOpen, LandsGood, LandsBad}
 use Rattle.search_graph.specs.inner.Tasks.{statesIn, Given, modelBy, watchBy, graphOf}
 
--- the nodes from a to below b are not visited
-pub record Cleared (back : List ℕ) (a b : ℕ) : Type 0 where
-  pub at : (v : ℕ) → a ≤ v → v < b → getD back v 0 ≡ 0
-
--- both slices have room for every node
+-- both slices have room for every node, and none is visited
 pub record Roomy (t : Task) (queue back : List ℕ) : Type 0 where
   pub queue-room : contextCount (t .counts) * statesIn t ≤ length queue
   pub back-room : contextCount (t .counts) * statesIn t ≤ length back
+  pub fresh : Cleared back 0
 
 -- what the context at place y comes to as a start: it lands in the monitor's first state. It is dropped where it is no start, too
 module _ (M : Model) (n : Counts) (W : Watch) (states y : ℕ) where
@@ -39,18 +37,19 @@ pub record Beginning (plan : List ℕ) (t : Task) (y : ℕ) (r : Arrival) : Type
   pub low : (v : ℕ) → r ≡ Enter v → y * statesIn t ≤ v
   pub high : (v : ℕ) → r ≡ Enter v → v < (y + 1) * statesIn t
 
--- the starts are seeded, and none is a bad end; or the context at place y is one
+-- the starts are seeded, and none is a bad end; or the context at place y is one, and so many starts before it are seeded
 pub record SownNodes (s plan : List ℕ) (t : Task) (queue back : List ℕ) (tail : ℕ) : Type 0 where
   pub inv : Inv (graphOf s plan t) back queue 0 tail tail 0
   pub none : (x : ℕ) → BadStart (modelBy s plan t) (watchBy s plan t) x → ⊥
 
-pub record SownStart (s plan : List ℕ) (t : Task) (y : ℕ) : Type 0 where
+pub record SownStart (s plan : List ℕ) (t : Task) (queue back : List ℕ) (y tail : ℕ) : Type 0 where
+  pub visited : Visited queue back tail
   pub below : y < contextCount (t .counts)
   pub bad : BadStart (modelBy s plan t) (watchBy s plan t) (codeAt (t .counts) y)
 
 abbrev pub Sown : List ℕ → List ℕ → Task → List ℕ → List ℕ → Seeded → Type 0
 Sown s plan t queue back (Nodes tail) = SownNodes s plan t queue back tail
-Sown s plan t queue back (StartAtPlace y) = SownStart s plan t y
+Sown s plan t queue back (StartAtPlace y tail) = SownStart s plan t queue back y tail
 
 -- .. whatever the policy
 abbrev pub AllSown : List ℕ → Task → List ℕ → List ℕ → Seeded → Type 0

@@ -37,7 +37,8 @@ pub record Inv (g : Graph) (back queue : List ℕ) (head tail stop depth : ℕ) 
   pub count : marks back (g .k) ≡ tail
   pub full : tail ≤ g .k
   pub deep : head < tail → depth < stop
-  pub listed : (v : ℕ) → v < g .k → (getD back v 0 ≡ 0 → ⊥) → InQueue queue tail v
+  pub inside : (i : ℕ) → i < tail → getD queue i 0 < g .k
+  pub listed : (v : ℕ) → (getD back v 0 ≡ 0 → ⊥) → InQueue queue tail v
   pub chains : (i : ℕ) → head ≤ i → i < stop → Chain g back depth (getD queue i 0)
   pub chains-next : (i : ℕ) → stop ≤ i → i < tail → Chain g back (suc depth) (getD queue i 0)
   pub past : (d u : ℕ) → d < depth → GraphReach g d u → InQueue queue head u

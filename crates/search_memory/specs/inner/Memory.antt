@@ -7,14 +7,13 @@ use Prim.Native.Nat.{ℕ, _/_, _^_, _<_}
 use lib.Bits.{bitAnd, bitOr}
 use lib.ListN.{length, getD}
 use Rattle.base.specs.Bits.{bit}
-use Rattle.policy_image.specs.Policy.{policyOf}
 use Rattle.context.specs.declared.Context.{Context}
 use Rattle.context.specs.Codes.{eventOf}
 use Rattle.context.specs.inner.Places.{pairCount}
 use Rattle.goal_model.specs.Images.{meetsρμ}
 use Rattle.plan_tables.specs.inner.Tables.{typeEntries}
 use Rattle.plan.specs.inner.Entries.{eventSetsAt}
-use Rattle.plan.specs.inner.Plan.{special}
+use Rattle.plan.specs.inner.Plan.{special, ruled}
 use Rattle.search_constraints.specs.inner.Asked.{pairAt}
 use Rattle.search_steps.specs.declared.nearest.Asker.{Asker}
 use Rattle.search_steps.specs.declared.nearest.Offer.{Offer}
@@ -61,7 +60,7 @@ pub record Remembered (before after : List ℕ) (o k : ℕ) (yes : Bool) : Type 
 pub record Opens (s plan : List ℕ) (t : Task) (back opens : List ℕ) : Type 0 where
   pub size : length opens ≡ openEntries
   pub held : (i o k j : ℕ) → i < openSlots → k < stateCodes → j < pairsEnd → getD opens i 0 ≡ openKey o k → openAt opens i j ≡ true
-      → (j < pairCount (t .counts)) × (meetsρμ (policyOf s) (pairAt (t .counts) o j) ≡ true)
+      → (j < pairCount (t .counts)) × (meetsρμ (ruled s plan) (pairAt (t .counts) o j) ≡ true)
   pub clear : (i u e w : ℕ) → i < openSlots → u < graphOf s plan t .k → w < graphOf s plan t .k → graphOf s plan t .Edge u e w
       → getD opens i 0 ≡ openKey (typeOf t w) (keptBy (t .mode) plan (stateOf (statesIn t) u) e) → openAt opens i (nodePair t w) ≡ false → Clear (graphOf s plan t) back w
 
@@ -73,7 +72,7 @@ pub record Memory (s plan : List ℕ) (t : Task) (back swept spent opens : List 
   pub spent-size : length spent ≡ typeEntries
   pub swept-clear : (u e w : ℕ) → u < graphOf s plan t .k → w < graphOf s plan t .k → graphOf s plan t .Edge u e w
       → bit (getD swept (typeOf t w) 0) (keptBy (t .mode) plan (stateOf (statesIn t) u) e) ≡ true → Clear (graphOf s plan t) back w
-  pub spent-clear : (u e w : ℕ) → u < graphOf s plan t .k → w < graphOf s plan t .k → graphOf s plan t .Edge u e w → special (policyOf s) (eventOf e) ≡ false
+  pub spent-clear : (u e w : ℕ) → u < graphOf s plan t .k → w < graphOf s plan t .k → graphOf s plan t .Edge u e w → special (ruled s plan) (eventOf e) ≡ false
       → bit (getD spent (typeOf t u) 0) (stateOf (statesIn t) u) ≡ true → Clear (graphOf s plan t) back w
 
 -- shut, by type of the source: from a state in the set no step need be asked

@@ -17,7 +17,7 @@ use Rattle.access.specs.Authorization.{roleRule, flow}
 use Rattle.goal_model.specs.Images.{meetsρμ}
 use Rattle.plan.specs.inner.Regions.{eventEntries, planEntries}
 use Rattle.plan.specs.inner.Entries.{changesAt, groupsAt}
-use Rattle.plan.specs.inner.Plan.{Tabled, Grouped}
+use Rattle.plan.specs.inner.Plan.{Tabled, Grouped, ruled}
 use Rattle.search_constraints.specs.declared.asked.Ask.{Ask}
 use Rattle.search_constraints.specs.inner.Pairs.{RowsOf, Marked}
 use Rattle.search_constraints.specs.inner.Asked.{pairAt, actingAt, actedAt, AskedBefore}
@@ -33,8 +33,8 @@ inPairs l k = bit (getD l (k / 64) 0) (k % 64)
 pub record Asking (s plan rows marks memo : List ℕ) : Type 0 where
   pub sound : Sound s
   pub size : planEntries ≤ length plan
-  pub tables : Tabled (policyOf s) plan
-  pub groups : Grouped (policyOf s) plan
+  pub tables : Tabled (ruled s plan) plan
+  pub groups : Grouped (ruled s plan) plan
   pub words : RowsOf (policyOf s .counts) rows
   pub marked : Marked (policyOf s) marks
   pub before : AskedBefore (policyOf s) marks memo

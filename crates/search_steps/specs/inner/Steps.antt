@@ -1,15 +1,13 @@
 -- What the leaves of a search promise: how they find it is theirs.
-use Prim.Native.Nat.{ℕ, _+_, _-_, _*_, _/_, _%_, _≤_, _<_}
-use mathlib.Core.Bool.{Bool, true, false, not, _&&_}
+use Prim.Native.Nat.{ℕ, _+_, _*_, _/_, _%_, _≤_, _<_}
+use mathlib.Core.Bool.{Bool, true, false, _&&_}
 use mathlib.Core.List.{List}
 use mathlib.Core.Logic.{_⊎_}
 use mathlib.Core.Path.{_≡_}
-use lib.Bits.{bitAnd, bitOr}
-use lib.Dec.{eqb}
+use lib.Bits.{bitOr}
 use lib.ListN.{length, getD}
 use Rattle.base.specs.Bits.{bit}
 use Rattle.base.specs.Ranges.{Within}
-use Rattle.policy_image.specs.declared.counts.Counts.{Counts}
 use Rattle.policy_image.specs.Policy.{Policy}
 use Rattle.context.specs.declared.Context.{Context}
 use Rattle.context.specs.Codes.{eventOf}
@@ -18,8 +16,7 @@ use Rattle.relations.specs.Relations.{α, writeLike, readLike}
 use Rattle.access.specs.Authorization.{flow}
 use Rattle.goal_model.specs.Images.{meetsρμ}
 use Rattle.plan.specs.inner.Regions.{blockEntries, planEntries, typeCodes}
-use Rattle.context.specs.inner.Places.{firstPlace}
-use Rattle.plan.specs.inner.Entries.{specialAt, firstAt, writesAt, readsAt, rolesAt, holdersAt, eventSetsAt}
+use Rattle.plan.specs.inner.Entries.{specialAt, firstAt, writesAt, readsAt, eventSetsAt}
 use Rattle.plan.specs.inner.Plan.{special, Tabled}
 use Rattle.search_steps.specs.declared.nearest.Asker.{Asker}
 use Rattle.search_steps.specs.declared.nearest.Offer.{Offer}
@@ -28,10 +25,6 @@ use Rattle.search_steps.specs.inner.Nearest.{closed, PassedOver, AllPass
 -- whether the event is special, by the plan
 abbrev pub specialBy : List ℕ → ℕ → Bool
 specialBy plan e = bit (specialAt plan (e / 32)) (e % 32)
-
--- whether the context at the place, of the type o, meets ρ and μ, by the plan: the roles of its type and the mask of its pair meet
-abbrev pub heldBy : Counts → List ℕ → ℕ → ℕ → Bool
-heldBy n plan o place = not (eqb (bitAnd (rolesAt plan o) (holdersAt plan (place - firstPlace n o))) 0)
 
 -- the plan has the role changes of the policy
 pub record Conditions (p : Policy) (plan : List ℕ) : Type 0 where

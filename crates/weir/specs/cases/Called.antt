@@ -5,10 +5,13 @@ use mathlib.Core.Logic.{_⊎_}
 use mathlib.Core.Path.{_≡_}
 use lib.ListN.{length, getD}
 use Rattle.base.specs.Numbers.{Numbered}
-use Rattle.base.specs.Questions.{RefusedWith}
+use Rattle.base.specs.Questions.{AllYes, RefusedWith}
 use Rattle.policy_image.specs.Layout.{PolicyExact, countsOf, recordCount, recordOf}
 use Rattle.policy_image.specs.Counts.{CountsInRange}
 use Rattle.policy_image.specs.cases.Weir.{weir, weirAllow31}
+use Rattle.policy_check.specs.Questions.{policyQuestions}
+use Rattle.policy_writing.specs.Writing.{writingNumber}
+use Rattle.join.specs.Join.{JoinPromise}
 use Rattle.context.specs.declared.Context.{Context}
 use Rattle.context.specs.declared.Event.{Event}
 use Rattle.goal_image.specs.Questions.{goalQuestions}
@@ -63,11 +66,16 @@ pub record WeirCalled : Type 0 where
   -- "W8 σ0 empty: holds."
   pub w8 : SaysHolds weir noStart
   -- "W9 an added allow 3 on 1 read authorizes nothing.", which paper 02, b, "turns .. into a refusal": 14 by each call, whatever it is asked besides,
-  -- in range or not
+  -- in range or not (of the canonical image: weir_canonical, `CanonicalCalled`)
   pub w9-authorized : (x y : Context) (e : Event) (n : ℕ) → Numbered numberOf (AuthorizationAnswer weirAllow31 x y e) n → n ≡ 4 * 14 + 3
   pub w9-flows : (x y : Context) (e : Event) (n : ℕ) → Numbered numberOf (FlowAnswer weirAllow31 x y e) n → n ≡ 4 * 14 + 3
   pub w9-steps : (x y : Context) (work1 work2 : ℕ) → RefusesSteps weirAllow31 x y work1 work2 14
   pub w9-check : (g : List ℕ) (work1 work2 : ℕ) → Refuses weirAllow31 g work1 work2 14
+  -- .. as the maker's, whatever the board's is, and as the board's, where the maker's passes
+  pub w9-join-maker : (t before after : List ℕ) (n : ℕ) → Numbered writingNumber (JoinPromise weirAllow31 t before after) n
+      → (n ≡ 4 * 14 + 3) × (after ≡ before)
+  pub w9-join-board : (s before after : List ℕ) (n : ℕ) → AllYes (policyQuestions s) → Numbered writingNumber (JoinPromise s weirAllow31 before after) n
+      → (n ≡ 4 * 14 + 3) × (after ≡ before)
   -- "before any goal .. is read": also with a goal that is too short, which is 7 by itself
   pub w9-short-goal : (g : List ℕ) (work1 work2 : ℕ) → length g ≡ 33 → RefusedWith (goalQuestions (countsOf weirAllow31) g) 7 × Refuses weirAllow31 g work1 work2 14
   -- "W10 23 bytes: 1; 24 bytes, N 0, counts 1, heads 0: accepted.": not refused with 1 to 6 or 14

@@ -9,7 +9,7 @@ use Rattle.base.specs.Numbers.{Numbered}
 use Rattle.base.specs.Questions.{AllYes, RefusedWith}
 use Rattle.policy_image.specs.Layout.{recordCount, rootOf, leftOf, rightOf}
 use Rattle.policy_image.specs.Policy.{policyOf}
-use Rattle.policy_image.specs.cases.Weir.{weir}
+use Rattle.policy_image.specs.cases.Weir.{weir, weirAllow31}
 use Rattle.policy_check.specs.Questions.{policyQuestions}
 use Rattle.policy_facts.specs.Canonical.{canonicalOf}
 use Rattle.policy_facts.specs.cases.Same.{Same}
@@ -170,6 +170,8 @@ pub record CanonicalCalled : Type 0 where
   pub policy-first : (s : List ℕ) (k : ℕ) → RefusedWith (policyQuestions s) k → RefusesCanonical s k
   pub no-type-2 : RefusesCanonical noType 2
   pub leaning-14 : RefusesCanonical leaning 14
+  -- W9's policy, which paper 02, b, "turns .. into a refusal" (of the other calls: weir, `WeirCalled`)
+  pub w9 : RefusesCanonical weirAllow31 14
   pub fifteen : (s : List ℕ) → AllYes (policyQuestions s) → 4095 < canonicalOf (policyOf s) .size → RefusesCanonical s 15
   pub crowded-15 : RefusesCanonical (crowded 1 oneFlow 4094) 15
   pub two-before-15 : RefusesCanonical (crowded 0 oneFlow 4094) 2

@@ -1,29 +1,30 @@
-use Prim.Native.Nat.{ℕ, _+_, _*_, _-_, _≤_}
+use Prim.Native.Nat.{ℕ, _+_, _-_, _≤_}
 use mathlib.Core.Path.{_≡_, refl, sym, ap, ap₂, subst, _∙_}
 use mathlib.Core.List.{List}
 use native.Mathlib.Omega.{arith}
 use borrow.Author.Needs.{needs}
 use lib.ListN.{length, getD}
-use Rattle.base.specs.inner.Fill.{Filled}
 use Rattle.base.proofs.FillLaws.{fill-begin, fill-end}
+use Rattle.policy_image.specs.inner.Sizes.{sizeOf}
 use Rattle.policy_image.specs.inner.Writable.{WritableRecord}
+use Rattle.policy_image.proofs.SizeLaws.{size-none, start-room}
 use Rattle.policy_lists.specs.Lists.{withNext}
 use Rattle.policy_lists.specs.inner.Places.{nextUpto}
 use Rattle.policy_facts.specs.inner.FactTable.{kindIn, tableRecord}
-use Rattle.canonical.specs.inner.Rows.{factRow, rowByte, RowsFit}
-use Rattle.canonical.proofs.RowLaws.{row-more}
+use Rattle.canonical.specs.inner.Rows.{factRow, RowsFit}
+use Rattle.canonical.proofs.RowLaws.{RowsTo, row-more}
 use Rattle.canonical.proofs.rows.put_rows.Statement.{statement}
 use Rattle.canonical.proofs.rows.put_rows.Tie as tie
 
 abbrev Inv-loop : tie.InvT-loop
 Inv-loop output₀ keys masks m ends done₀ output done =
-    (done ≤ m) × (length output ≡ length output₀) × Filled (λ j v. v ≡ rowByte (factRow keys masks ends) j) output₀ output 24 0 (12 * done)
+    (done ≤ m) × (length output ≡ length output₀) × RowsTo (factRow keys masks ends) m done output₀ output
 
 abbrev μ-loop : tie.MeasureT-loop
 μ-loop output₀ keys masks m ends done₀ output done = m - done
 
 loop-holds : tie.Need-loop-holds Inv-loop μ-loop
-loop-holds c = (omega arith, refl, fill-begin _ _ _ _)
+loop-holds c = (omega arith, refl, fill-end (fill-begin _ _ _ 0) (sym size-none))
 
 -- what is known where row `done + 1` has been made, and is linked
 module _ (W : tie.After-with-next Inv-loop μ-loop) where
@@ -68,7 +69,7 @@ put-record-requires : tie.Need-put-record-requires Inv-loop μ-loop
 put-record-requires c κs =
     let T = turn c in (
       record { low = omega arith; high = omega (arith, fits c .few, made c .before .before .before .loop-test .taken) },
-      omega (arith, fits c .room, made c .before .before .before .loop-test .taken, T .loop .inv .1),
+      start-room (omega arith) (let n : T .loop .done + 1 ≤ start c .args .m = omega (arith, made c .before .before .before .loop-test .taken) in n) (omega (arith, fits c .room, T .loop .inv .1)),
       subst WritableRecord (sym (same c)) (fits c .writable (T .loop .done + 1) (omega arith) (omega (arith, made c .before .before .before .loop-test .taken))),
     )
 
@@ -79,14 +80,15 @@ loop-again c =
     let T = turn W in (
       omega (arith, made W .before .before .before .loop-test .taken),
       P .put-record .kept .0 ∙ T .loop .inv .1,
-      row-more (factRow (start W .args .keys .now) (start W .args .masks .now) (start W .args .ends .now)) (T .loop .done) (W .with-next .result) (same W) (T .loop .inv .2)
+      row-more (factRow (start W .args .keys .now) (start W .args .masks .now) (start W .args .ends .now)) (start W .args .m) (T .loop .done)
+          (omega (arith, made W .before .before .before .loop-test .taken)) (W .with-next .result) (same W) (T .loop .inv .2)
           (P .put-record .ensures),
     )
 
 returns : tie.Need-returns Inv-loop μ-loop
 returns c =
     let l = c .before .loop in
-    fill-end (l .inv .2) (omega (arith, l .inv .0))
+    fill-end (l .inv .2) (ap sizeOf (let n : l .done ≡ c .before .before .before .before .before .args .m = omega (arith, l .inv .0) in n))
 
 pub put-rows-spec : {M : Type 1} → statement M
 put-rows-spec =

@@ -1,18 +1,9 @@
-use Rattle.plan.proofs.BlockLaws.{tops-after}
-use Rattle.plan.proofs.SetLaws.{goal-put, goal-before}
+use Rattle.plan.proofs.SetLaws.{goal-put}
 use mathlib.Core.Path.{refl}
 use native.Mathlib.Omega.{arith}
 use borrow.Author.Needs.{needs}
 use Rattle.plan.proofs.goal.put_goal.Statement.{statement}
 use Rattle.plan.proofs.goal.put_goal.Tie as tie
-
-put-leads-requires : tie.Need-put-leads-requires
-put-leads-requires c κs =
-    let put-pair-sets = c .before .before .before .before .before .before .before in
-    let put-type-sets = put-pair-sets .before .before .before .before in
-    let put-events = put-type-sets .before .before .before .before in
-    let s = put-events .before .before .before .before in
-    (s .pre .1, tops-after (let h = s .pre .1 .types in omega arith) (omega arith) (goal-before (put-events .put-events .ensures) (put-type-sets .put-type-sets .ensures) (put-pair-sets .put-pair-sets .ensures) (c .before .before .before .put-links .ensures)) (s .pre .2), omega (arith, s .pre .3))
 
 returns : tie.Need-returns
 returns c =
@@ -21,7 +12,7 @@ returns c =
     let put-type-sets = put-pair-sets .before .before .before .before in
     let put-events = put-type-sets .before .before .before .before in
     let s = put-events .before .before .before .before in
-    goal-put (s .pre .0) (s .pre .1) (s .pre .2) refl refl (put-events .put-events .ensures) (put-type-sets .put-type-sets .ensures) (put-pair-sets .put-pair-sets .ensures) (put-links .put-links .ensures) (c .before .before .put-leads .ensures)
+    goal-put (s .pre .0) (s .pre .1) refl refl (put-events .put-events .ensures) (put-type-sets .put-type-sets .ensures) (put-pair-sets .put-pair-sets .ensures) (put-links .put-links .ensures) (c .before .before .put-alikes .ensures)
 
 pub put-goal-spec : {M : Type 1} → statement M
-put-goal-spec = tie.close (tie.spec (λ c κs. search needs) (λ c κs. search needs) (λ c κs. search needs) (λ c κs. search needs) put-leads-requires (λ c. search needs) returns)
+put-goal-spec = tie.close (tie.spec (λ c κs. search needs) (λ c κs. search needs) (λ c κs. search needs) (λ c κs. search needs) (λ c κs. search needs) (λ c. search needs) returns)

@@ -10,6 +10,7 @@ use Rattle.base.proofs.ChainLaws.{left}
 use Rattle.policy_image.specs.declared.records.Record.{Record}
 use Rattle.policy_image.specs.Layout.{recordCount}
 use Rattle.policy_image.specs.Policy.{policyOf}
+use Rattle.policy_image.specs.inner.Counting.{counting}
 use Rattle.policy_image.proofs.FieldLaws.{SameFields, same-fields}
 use Rattle.policy_check.specs.inner.Sound.{Sound}
 use Rattle.policy_check.proofs.Along.{along-less}
@@ -21,7 +22,7 @@ use Rattle.plan_index.proofs.extract.extract.Tie as tie
 
 abbrev Inv-loop : tie.InvT-loop
 Inv-loop policy counted perms codes₀ masks₀ n₀ i₀ codes masks n i =
-    (length codes ≡ length codes₀) × (length masks ≡ length masks₀) × Extracting (isCounted counted) (policyOf policy) perms codes masks n i
+    (length codes ≡ length codes₀) × (length masks ≡ length masks₀) × Extracting (counting (isCounted counted) (policyOf policy)) perms codes masks n i
 
 abbrev μ-loop : tie.MeasureT-loop
 μ-loop policy counted perms codes₀ masks₀ n₀ i₀ codes masks n i = left (recordCount policy) i
@@ -58,7 +59,7 @@ module _ (K : tie.After-is-counted Inv-loop μ-loop) where
   abbrev r : Record
   r = read .record-at .result
 
-  abbrev at-hand : Extracting keep (policyOf s) perms (turn .loop .codes) (turn .loop .masks) n i
+  abbrev at-hand : Extracting (counting keep (policyOf s)) perms (turn .loop .codes) (turn .loop .masks) n i
   at-hand = turn .loop .inv .2
 
   some-record : i ≡ 0 → ⊥
@@ -146,7 +147,7 @@ returns c =
     let L = c .before .loop in
     let a = c .before .before .before .before .before .before in
     extract-end (a .args .policy .now) (a .pre .0) _ (a .args .perms .now) (a .pre .1) _ _ _
-    (subst (λ (j : ℕ). Extracting (isCounted (a .args .counted .now)) (policyOf (a .args .policy .now)) (a .args .perms .now) (L .codes) (L .masks) (L .n) j) (c .loop-test .left) (L .inv .2))
+    (subst (λ (j : ℕ). Extracting (counting (isCounted (a .args .counted .now)) (policyOf (a .args .policy .now))) (a .args .perms .now) (L .codes) (L .masks) (L .n) j) (c .loop-test .left) (L .inv .2))
 
 pub extract-spec : {M : Type 1} → statement M
 extract-spec = tie.close (tie.spec Inv-loop μ-loop (λ c κs. search needs) loop-holds record-at-requires is-counted-requires put-items-requires add-n loop-less loop-again loop-less-2 loop-again-2 mul-result same-length same-length-2 returns)

@@ -18,7 +18,7 @@ use Rattle.search_steps.proofs.OfferLaws.{block-of-type}
 use Rattle.search_graph.specs.declared.arrival.Arrival.the-variants.{Enter}
 use Rattle.search_graph.specs.inner.State.{Inv}
 use Rattle.search_graph.specs.inner.Tasks.{graphOf}
-use Rattle.search_graph.proofs.SearchLaws.{enter, room, nothing, stopped, turn-chain, chain-bound}
+use Rattle.search_graph.proofs.SearchLaws.{enter, room, nothing, stopped, turn-chain, chain-bound, inv-visited}
 use Rattle.search_memory.specs.inner.Memory.{Grown, Memory, Shuts}
 use Rattle.search_memory.proofs.StandLaws.{own-few, asks-from}
 use Rattle.search_memory.proofs.MemoryLaws.{memory-begin, memory-keep}
@@ -346,7 +346,7 @@ same-length-2 : tie.Need-same-length-2 Inv-loop2 μ-loop2 Inv-loop μ-loop Inv-s
 same-length-2 c = c .before .search .inv .1
 
 returns : tie.Need-returns Inv-loop2 μ-loop2 Inv-loop μ-loop Inv-search μ-search
-returns c = nothing (c .before .search .inv .3) (c .if1 .taken)
+returns c = let i = c .before .search .inv .3 in (nothing i (c .if1 .taken), inv-visited i)
 
 same-length-3 : tie.Need-same-length-3 Inv-loop2 μ-loop2 Inv-loop μ-loop Inv-search μ-search
 same-length-3 c = c .before .before .before .search .inv .0
@@ -357,11 +357,13 @@ same-length-4 c = c .before .before .before .search .inv .1
 returns-2 : tie.Need-returns-2 Inv-loop2 μ-loop2 Inv-loop μ-loop Inv-search μ-search
 returns-2 c =
     let i = c .before .before .before .search .inv .3 in
-    let more = c .before .before .if1 .left in
-    ⊎-elim
-    (λ w. stopped (enter i (w .0 .taken) more) more (let h = rw (w .2) at (c .if3 .taken) in omega (arith, h)))
-    (λ w. stopped i more (let h = rw (w .2) at (c .if3 .taken) in omega (arith, h)))
-    (c .before .if2 .came)
+    let more = c .before .before .if1 .left in (
+      ⊎-elim
+          (λ w. stopped (enter i (w .0 .taken) more) more (let h = rw (w .2) at (c .if3 .taken) in omega (arith, h)))
+          (λ w. stopped i more (let h = rw (w .2) at (c .if3 .taken) in omega (arith, h)))
+          (c .before .if2 .came),
+      inv-visited i,
+    )
 
 same-length-5 : tie.Need-same-length-5 Inv-loop2 μ-loop2 Inv-loop μ-loop Inv-search μ-search
 same-length-5 c =
@@ -380,7 +382,7 @@ returns-3 c =
     let loop2 = test .before in
     let i = loop2 .loop2 .inv in
     let h = test .loop2-test .taken in
-    (rw (i .2) (inner-broken (pair-inner (i .4) h) (pair-below (i .4) h) (rw (i .2) at (arrive .arrive .ensures)) (pair-flows (i .4) h) (c .before .v .given .1)), from-sweep (loop2) .before .before .before .before .before .before .before .before .if3 .left)
+    ((rw (i .2) (inner-broken (pair-inner (i .4) h) (pair-below (i .4) h) (rw (i .2) at (arrive .arrive .ensures)) (pair-flows (i .4) h) (c .before .v .given .1)), from-sweep (loop2) .before .before .before .before .before .before .before .before .if3 .left), inv-visited (i .4 .inner .turn .inv))
 
 pub search-levels-spec : {M : Type 1} → statement M
 search-levels-spec = tie.close (tie.spec Inv-loop2 μ-loop2 Inv-loop μ-loop Inv-search μ-search mul-pairs pair-rows-requires marks-of-requires search-holds add-depth mul-u slice-read-u take-up-requires first-step-requires loop-holds sweep-of-requires (λ c κs. search needs) open-pairs-requires step-pairs-requires next-pair-requires loop2-holds add-arrive arrive-requires (λ c. search needs) (λ c. search needs) (λ c. search needs) cast-at mul-if5 slice-read-if5 add-back mul-back slice-write-back mul-queue slice-write-queue add-tail add-next-pair next-pair-requires-2 loop2-less loop2-again take-pairs-requires remember-requires next-offer-requires loop-less loop-again remember-requires-2 add-head search-less search-again same-length same-length-2 returns same-length-3 same-length-4 returns-2 same-length-5 same-length-6 returns-3)

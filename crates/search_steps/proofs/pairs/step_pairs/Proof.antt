@@ -6,6 +6,7 @@ use mathlib.Core.Path.{_≡_, sym, subst}
 use native.Mathlib.Omega.{arith}
 use borrow.Author.Needs.{needs}
 use Rattle.policy_image.specs.Policy.{policyOf}
+use Rattle.plan.specs.inner.Plan.{ruled}
 use Rattle.search_constraints.specs.inner.Asked.{AskedBefore}
 use Rattle.search_steps.specs.inner.Pairs.{StepPairs}
 use Rattle.search_steps.proofs.PairLaws.{asking-on, PairsTo, pairs-begin, pairs-skip, pairs-more}
@@ -14,7 +15,7 @@ use Rattle.search_steps.proofs.pairs.step_pairs.Tie as tie
 
 abbrev Inv-loop : tie.InvT-loop
 Inv-loop policy plan rows marks memo₀ x sweep among pairs₀ w₀ memo pairs w =
-    (w ≤ 4) × PairsTo (policyOf policy) x (sweep .event) (sweep .ty) among pairs w × AskedBefore (policyOf policy) marks memo
+    (w ≤ 4) × PairsTo (ruled policy plan) x (sweep .event) (sweep .ty) among pairs w × AskedBefore (policyOf policy) marks memo
 
 abbrev μ-loop : tie.MeasureT-loop
 μ-loop policy plan rows marks memo₀ x sweep among pairs₀ w₀ memo pairs w = 4 - w
@@ -34,7 +35,7 @@ loop-again c =
     let l = in-loop .before .loop in
     let s = in-loop .before .before .before .before in
     let a = s .args in
-    let to : List ℕ → Type 0 = λ r. PairsTo (policyOf (a .policy .now)) (a .x) (a .sweep .event) (a .sweep .ty) (a .among .now) r (l .w + 1) in
+    let to : List ℕ → Type 0 = λ r. PairsTo (ruled (a .policy .now) (a .plan .now)) (a .x) (a .sweep .event) (a .sweep .ty) (a .among .now) r (l .w + 1) in
     let asked : List ℕ → Type 0 = AskedBefore (policyOf (a .policy .now)) (a .marks .now) in
     ⊎-elim
     (λ t. (omega arith, subst to (sym (t .4)) (pairs-more (l .inv .1) (in-loop .loop-test .taken) (t .2 .ensures .0)), subst asked (sym (t .3)) (t .2 .ensures .1)))
@@ -46,7 +47,7 @@ returns c =
     let l = c .before .loop in
     let a = c .before .before .before .before .args in
     let q : l .w ≡ 4 = omega arith in
-    (subst (StepPairs (policyOf (a .policy .now)) (policyOf (a .policy .now) .counts) (a .x) (a .sweep .event) (a .sweep .ty) (a .among .now) (l .pairs)) q (l .inv .1 .done), l .inv .2)
+    (subst (StepPairs (ruled (a .policy .now) (a .plan .now)) (policyOf (a .policy .now) .counts) (a .x) (a .sweep .event) (a .sweep .ty) (a .among .now) (l .pairs)) q (l .inv .1 .done), l .inv .2)
 
 pub step-pairs-spec : {M : Type 1} → statement M
 step-pairs-spec =

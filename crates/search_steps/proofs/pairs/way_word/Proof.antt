@@ -1,5 +1,5 @@
 use borrow.Author.Tests.{not-true, not-false}
-use Rattle.search_steps.proofs.PairLaws.{way-none, way-some, like-askable}
+use Rattle.search_steps.proofs.PairLaws.{way-none, way-some, asked-counted, like-askable}
 use Rattle.search_steps.proofs.pairs.way_word.Statement.{statement}
 use Rattle.search_steps.proofs.pairs.way_word.Tie as tie
 
@@ -22,7 +22,7 @@ returns-2 c =
     let like = c .before .before .before in
     let s = like .before .before .before .before .before in
     let A = s .pre .0 in (
-      way-some (not-false _ (like .before .before .if1 .left)) (A .groups) (A .tables) (A .words) (A .sound .range .roles .high) (s .pre .1) (like .like-event .ensures) (c .before .asked-word .ensures .0) (c .rule-word .ensures),
+      way-some (not-false _ (like .before .before .if1 .left)) (A .groups) (A .tables) (A .words) (A .sound .range .roles .high) (s .pre .1) (like .like-event .ensures) (asked-counted _ (c .before .asked-word .ensures .0)) (c .rule-word .ensures),
       c .before .asked-word .ensures .1,
     )
 

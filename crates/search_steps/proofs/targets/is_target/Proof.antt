@@ -20,7 +20,7 @@ flows-by-requires c κs =
     let h = at-in-range (s .args .counts) (s .args .place) (s .pre .0 .countable .roles) (s .pre .0 .countable .users) (s .pre .3) in
     rw (c .at .ensures) (
       s .pre .0 .sound,
-      record { size = s .pre .1 .size; tables = s .pre .1 .tables },
+      record { size = s .pre .1 .size; tables = s .pre .1 .policy .tables },
       roles-few (s .pre .0) (s .pre .2),
       roles-few (s .pre .0) h,
       s .pre .4 .meets,

@@ -9,10 +9,10 @@ use Rattle.witness.proofs.path.write_path.Statement.{statement}
 use Rattle.witness.proofs.path.write_path.Tie as tie
 
 abbrev Inv-loop : tie.InvT-loop
-Inv-loop policy plan task back path₀ counts states to i₀ w₀ e₀ path i w e = Writing policy plan task back w₀ to i₀ path₀ path i w e
+Inv-loop policy plan task back path₀ counts states swept₀ to i₀ w₀ e₀ path swept i w e = Writing policy plan task back w₀ to i₀ path₀ path i w e × (length swept ≡ 256)
 
 abbrev μ-loop : tie.MeasureT-loop
-μ-loop policy plan task back path₀ counts states to i₀ w₀ e₀ path i w e = i
+μ-loop policy plan task back path₀ counts states swept₀ to i₀ w₀ e₀ path swept i w e = i
 
 -- where the loop stands, the start, and that i is one more than the place that is written next
 module _ (c : tie.At-loop Inv-loop μ-loop) where
@@ -23,10 +23,10 @@ module _ (c : tie.At-loop Inv-loop μ-loop) where
   room = rw (length-set (now (start .args .path)) (2 * (start .args .last .depth + 1)) (c .before .code-of .result)) (start .pre .3)
 
   next : c .loop .i ≡ suc (c .loop .i - 1)
-  next = omega (arith, c .loop .inv .some)
+  next = omega (arith, c .loop .inv .0 .some)
 
   small : c .loop .w < 2 ^ 26
-  small = node-small (start .pre .0) (c .before .before .before .states-in .ensures) (chain-bound (c .loop .inv .chain))
+  small = node-small (start .pre .0) (c .before .before .before .states-in .ensures) (chain-bound (c .loop .inv .0 .chain))
 
 states-in-requires : tie.Need-states-in-requires Inv-loop μ-loop
 states-in-requires c κs = c .before .before .before .before .before .pre .0 .readable .few-legs
@@ -54,10 +54,10 @@ slice-write-path c = omega arith
 loop-holds : tie.Need-loop-holds Inv-loop μ-loop
 loop-holds c =
     let s = c .before .before .before .before .before .before .before .before in
-    write-begin (now (s .args .path)) refl (s .pre .3) (code-at (s .pre .0) (c .before .before .states-in .ensures) _ (c .code-of .ensures)) (s .pre .1 .breaks .edge) (s .pre .1 .chain)
+    (write-begin (now (s .args .path)) refl (s .pre .3) (code-at (s .pre .0) (c .before .before .states-in .ensures) _ (c .code-of .ensures)) (s .pre .1 .breaks .edge) (s .pre .1 .chain), refl)
 
 sub-i : tie.Need-sub-i Inv-loop μ-loop
-sub-i c = omega (arith, c .loop .inv .some)
+sub-i c = omega (arith, c .loop .inv .0 .some)
 
 mul-path-3 : tie.Need-mul-path-3 Inv-loop μ-loop
 mul-path-3 c = omega arith
@@ -69,10 +69,10 @@ mul-path-4 : tie.Need-mul-path-4 Inv-loop μ-loop
 mul-path-4 c = omega arith
 
 slice-write-path-2 : tie.Need-slice-write-path-2 Inv-loop μ-loop
-slice-write-path-2 c = omega (arith, c .loop .inv .some, c .loop .inv .high, c .loop .inv .written .whole, room c)
+slice-write-path-2 c = omega (arith, c .loop .inv .0 .some, c .loop .inv .0 .high, c .loop .inv .0 .written .whole, room c)
 
 code-of-requires-2 : tie.Need-code-of-requires-2 Inv-loop μ-loop
-code-of-requires-2 c κs = node-in (start c .pre .0) (c .before .before .before .states-in .ensures) (chain-bound (c .loop .inv .chain))
+code-of-requires-2 c κs = node-in (start c .pre .0) (c .before .before .before .states-in .ensures) (chain-bound (c .loop .inv .0 .chain))
 
 mul-path-5 : tie.Need-mul-path-5 Inv-loop μ-loop
 mul-path-5 c = omega arith
@@ -83,18 +83,18 @@ mul-path-6 c = omega arith
 slice-write-path-3 : tie.Need-slice-write-path-3 Inv-loop μ-loop
 slice-write-path-3 c =
     let a = c .before in
-    simp length-set (omega (arith, a .loop .inv .some, a .loop .inv .high, a .loop .inv .written .whole, room a))
+    simp length-set (omega (arith, a .loop .inv .0 .some, a .loop .inv .0 .high, a .loop .inv .0 .written .whole, room a))
 
 same-length : tie.Need-same-length Inv-loop μ-loop
 same-length c =
     let a = c .before .before in
-    simp length-set (omega (arith, a .loop .inv .written .whole, length-set (now (start a .args .path)) (2 * (start a .args .last .depth + 1)) (a .before .code-of .result)))
+    simp length-set (omega (arith, a .loop .inv .0 .written .whole, length-set (now (start a .args .path)) (2 * (start a .args .last .depth + 1)) (a .before .code-of .result)))
 
 returns : tie.Need-returns Inv-loop μ-loop
 returns c =
     let a = c .before .before in
     let s = start a in
-    let R = a .loop .inv in
+    let R = a .loop .inv .0 in
     let p = code-at (s .pre .0) (a .before .before .before .states-in .ensures) _ (c .before .code-of2 .ensures) in
     let W = write-step _ R (room a) (next a) p in
     let b = s .pre .1 .breaks in
@@ -111,26 +111,26 @@ mul-w : tie.Need-mul-w Inv-loop μ-loop
 mul-w c = let a = c .before .before in omega (arith, small a)
 
 shared-slice-read-w : tie.Need-shared-slice-read-w Inv-loop μ-loop
-shared-slice-read-w c = let a = c .before .before .before in omega (arith, chain-bound (a .loop .inv .chain), start a .pre .2)
+shared-slice-read-w c = let a = c .before .before .before in omega (arith, chain-bound (a .loop .inv .0 .chain), start a .pre .2)
 
 sub-w : tie.Need-sub-w Inv-loop μ-loop
-sub-w c = let a = c .before .before .before in omega (arith, unlink (a .loop .inv .chain) (omega (arith, c .before .if1 .left)) .marked)
+sub-w c = let a = c .before .before .before in omega (arith, unlink (a .loop .inv .0 .chain) (omega (arith, c .before .if1 .left)) .marked)
 
 least-event-requires : tie.Need-least-event-requires Inv-loop μ-loop
 least-event-requires c κs =
-    let a = c .before .before .before in
-    (start a .pre .0, unlink (a .loop .inv .chain) (omega (arith, c .before .if1 .left)) .linked)
+    let a = c .before .before .before .before in
+    (start a .pre .0, unlink (a .loop .inv .0 .chain) (omega (arith, c .before .before .if1 .left)) .linked, a .loop .inv .1)
 
 loop-less : tie.Need-loop-less Inv-loop μ-loop
 loop-less c = omega arith
 
 loop-again : tie.Need-loop-again Inv-loop μ-loop
 loop-again c =
-    let b = c .before .before .before in
+    let b = c .before .before .before .before in
     let a = b .before in
     let s = start a in
     let p = code-at (s .pre .0) (a .before .before .before .states-in .ensures) _ (b .code-of2 .ensures) in
-    write-next _ (a .loop .inv) (room a) (next a) p (omega (arith, c .before .before .if1 .left)) refl (c .least-event .ensures .holds)
+    (write-next _ (a .loop .inv .0) (room a) (next a) p (omega (arith, c .before .before .before .if1 .left)) refl (c .least-event .ensures .0 .holds), c .least-event .ensures .1)
 
 pub write-path-spec : {M : Type 1} → statement M
 write-path-spec =

@@ -3,7 +3,8 @@ use borrow.Author.Tests.{not-false}
 use native.Mathlib.Omega.{arith}
 use borrow.Author.Needs.{needs}
 use Rattle.search_graph.proofs.ArrivalLaws.{place-room}
-use Rattle.search_steps.proofs.OfferLaws.{event-few, special-is, held-is}
+use Rattle.plan.proofs.MeetsLaws.{held-is}
+use Rattle.search_steps.proofs.OfferLaws.{event-few, special-is}
 use Rattle.witness.proofs.StepLaws.{from-below, to-below, to-type, from-range, facing, no-event, no-held, no-flow, no-drop, no-break, decided}
 use Rattle.witness.proofs.step.is_step.Statement.{statement}
 use Rattle.witness.proofs.step.is_step.Tie as tie
@@ -61,7 +62,7 @@ is-target-requires c κs =
     let states-in = at .before .before .before .before in
     let s = states-in .before .before .before .before in (
       s .pre .0 .ready,
-      s .pre .0 .planned .policy,
+      s .pre .0 .planned,
       from-range (s .pre .0) (s .pre .1) (states-in .states-in .ensures) (at .at .ensures),
       to-below (s .pre .0) (s .pre .1) (states-in .states-in .ensures),
       facing (s .pre .0) (s .pre .1) (states-in .states-in .ensures) (at .at .ensures) (s .pre .2) (c .is-special .ensures ∙ special-is (s .pre .0 .planned .policy) (event-few (s .pre .0 .ready .sound) (s .pre .2))),

@@ -1,0 +1,1 @@
+// What the promises of the outward calls fix: definitions and theorems alone.
