@@ -19,8 +19,7 @@
  *         if (FLOWGOAL_ANSWER(result) == FLOWGOAL_REFUSED)
  *             printf("refused with %u\n", FLOWGOAL_NUMBER(result));
  *         else if (FLOWGOAL_ANSWER(result) != FLOWGOAL_HOLDS)
- *             printf("broken in setting %u by a path from type %u to type %u\n", FLOWGOAL_SETTING(result), path[0] / 256,
- *                    path[last] / 256);
+ *             printf("broken by a path from type %u to type %u\n", path[0] / 256, path[last] / 256);
  *         return FLOWGOAL_ANSWER(result) == FLOWGOAL_HOLDS;
  *     }
  *
@@ -29,11 +28,6 @@
  * of its entries, the output of a call that writes an image as a pointer to its first byte and the number of its bytes. No memory
  * is allocated, no file is touched, and no state is held between calls, so calls may run at the same time in several threads, also
  * on the same images, each with slices of its own.
- *
- * Switches. A policy has up to eight of them, which an operator sets. Where d of an allow record is 0 the rule always applies; else
- * it applies while switch d, from 1 to 8, is on, where e is 1, or while it is off, where e is 0. A setting is a byte that says how
- * all of them stand: bit d - 1 is 1 where switch d is on, as FLOWGOAL_ON has it. Every byte is a setting, whatever switches the
- * policy names. flowgoal_check asks about all 256; flowgoal_authorized, flowgoal_flows and flowgoal_least_steps are asked in one.
  *
  * What comes back. Every call ends, whatever the bytes and the numbers are, and its result is what the specification gives
  * for them: that is proved, for all bytes and all values.
@@ -75,24 +69,14 @@ extern "C" {
 /* The entries that the path slice needs for a path of so many steps. */
 #define FLOWGOAL_PATH_ENTRIES(steps) (2 * (size_t)(steps) + 1)
 
-/* A result is 2^40 * setting + 256 * steps + 4 * number + answer. The number is that of the refusal, and 0 for every other answer.
- * Steps are those of a shortest path that breaks a goal, or leads from one context to another, and 0 where there is none to tell of.
- * A call that writes an image has in place of steps the length of that image, in bytes, and 0 where it is refused. Steps and length
- * take 32 bits, and what stands from 2^40 on is no part of them. The setting takes eight bits: it is that of the path that
- * flowgoal_check shows, and 0 in every other result, also of 12.
- *
- * A loader that was built with a header that has no FLOWGOAL_SETTING gets the same answer, number and steps of flowgoal_check, and
- * reads no setting; one that calls flowgoal_authorized, flowgoal_flows or flowgoal_least_steps has to be built with this one, since
- * they take a setting. */
+/* A result is 256 * steps + 4 * number + answer. The number is that of the refusal, and 0 for every other answer. Steps are
+ * those of a shortest path that breaks a goal, or leads from one context to another, and 0 where there is none to tell of. A
+ * call that writes an image has in place of steps the length of that image, in bytes, and 0 where it is refused. Steps and length
+ * take 32 bits, and what stands from 2^40 on is no part of them. */
 #define FLOWGOAL_ANSWER(result) ((unsigned)((result) % 4))
 #define FLOWGOAL_NUMBER(result) ((unsigned)((result) / 4 % 64))
 #define FLOWGOAL_STEPS(result) ((uint64_t)(uint32_t)((result) / 256))
 #define FLOWGOAL_LENGTH(result) ((size_t)(uint32_t)((result) / 256))
-#define FLOWGOAL_SETTING(result) ((unsigned)((result) / ((uint64_t)1 << 40) % 256))
-
-/* The setting in which this switch alone, from 1 to 8, is on; with & it says whether it is on in a setting, and with | it puts one
- * together. */
-#define FLOWGOAL_ON(number) (1u << ((number) - 1))
 
 /* The answers to the goal question. */
 #define FLOWGOAL_HOLDS 0
@@ -115,12 +99,10 @@ extern "C" {
 
 /* Does the goal hold of the policy?
  *
- * FLOWGOAL_HOLDS   no path, of any length, breaks the goal, in any setting.
- * FLOWGOAL_ORDER   some path breaks it, none by fewer steps than FLOWGOAL_STEPS, in any setting, and one of so many steps breaks
- *                  order: one that does stands in the path slice, and all of it goes in FLOWGOAL_SETTING, the lowest setting that
- *                  has one.
- * FLOWGOAL_EVENTS  likewise, where none of so many steps breaks order, in any setting: the path in the path slice breaks events, and
- *                  FLOWGOAL_SETTING is the lowest setting that has one of so many steps that does.
+ * FLOWGOAL_HOLDS   no path, of any length, breaks the goal.
+ * FLOWGOAL_ORDER   some path breaks it, none by fewer steps than FLOWGOAL_STEPS, and one of so many steps breaks order: it
+ *                  stands in the path slice.
+ * FLOWGOAL_EVENTS  likewise, where none of so many steps breaks order: the path in the path slice breaks events.
  *
  * A path of m steps takes 2 * m + 1 entries: entry 2 * j is the context after j steps, as 256 * type + 16 * role + user, and
  * entry 2 * j + 1 is the event of the next step, as 32 * class + permission. Later entries are left as they are, and all of
@@ -132,15 +114,15 @@ extern "C" {
  *   9   a head or a next is out of range, a next is not above its record, or a record lies on no chain or on two
  *   10  a field of a record is above its count, or a spare byte is not 0
  *   11  a work slice has fewer than T * R * U * 2^n entries, for T types, R roles, U users and n legs
- *   12  the goal is broken, and the path slice has fewer than 2 * m + 1 entries for a shortest path of m steps, over all settings,
- *       which are FLOWGOAL_STEPS of the result; the setting is not told
+ *   12  the goal is broken, and the path slice has fewer than 2 * m + 1 entries for a shortest path of m steps, which are
+ *       FLOWGOAL_STEPS of the result
  * and these are asked in this order, after those of the policy: the first that applies is the number.
  */
 uint64_t flowgoal_check(const uint8_t *policy, size_t policy_length, const uint8_t *goal, size_t goal_length,
                         uint32_t *work1, size_t work1_length, uint32_t *work2, size_t work2_length, uint32_t *path,
                         size_t path_length);
 
-/* Is the permission of the class authorized from the context (t1, r1, u1), which acts, on (t2, r2, u2), in the setting?
+/* Is the permission of the class authorized from the context (t1, r1, u1), which acts, on (t2, r2, u2)?
  *
  * Types, roles, users and classes are numbered from 1, permissions from 0. Permission 0 of class 1 is process transition, which
  * needs a record that lets role r1 change to r2 where the two differ, and none where they are equal. The call refuses with
@@ -154,17 +136,16 @@ uint64_t flowgoal_check(const uint8_t *policy, size_t policy_length, const uint8
  *   13  a context, the class or the permission is out of range
  * and these are asked in this order: the first that applies is the number.
  */
-uint64_t flowgoal_authorized(const uint8_t *policy, size_t policy_length, uint8_t setting, uint32_t t1, uint32_t r1,
-                             uint32_t u1, uint32_t t2, uint32_t r2, uint32_t u2, uint32_t class_number,
-                             uint32_t permission);
+uint64_t flowgoal_authorized(const uint8_t *policy, size_t policy_length, uint32_t t1, uint32_t r1, uint32_t u1,
+                             uint32_t t2, uint32_t r2, uint32_t u2, uint32_t class_number, uint32_t permission);
 
-/* Does information flow from the context (t1, r1, u1) to (t2, r2, u2) by the permission of the class, in the setting? That is so
- * where the permission is write-like and authorized from the first on the second, or read-like and authorized from the second on
- * the first. It refuses as flowgoal_authorized does. */
-uint64_t flowgoal_flows(const uint8_t *policy, size_t policy_length, uint8_t setting, uint32_t t1, uint32_t r1,
-                        uint32_t u1, uint32_t t2, uint32_t r2, uint32_t u2, uint32_t class_number, uint32_t permission);
+/* Does information flow from the context (t1, r1, u1) to (t2, r2, u2) by the permission of the class? That is so where the
+ * permission is write-like and authorized from the first on the second, or read-like and authorized from the second on the
+ * first. It refuses as flowgoal_authorized does. */
+uint64_t flowgoal_flows(const uint8_t *policy, size_t policy_length, uint32_t t1, uint32_t r1, uint32_t u1, uint32_t t2,
+                        uint32_t r2, uint32_t u2, uint32_t class_number, uint32_t permission);
 
-/* By how many steps of flow does the context (t1, r1, u1) reach (t2, r2, u2) at the least, in the setting?
+/* By how many steps of flow does the context (t1, r1, u1) reach (t2, r2, u2) at the least?
  *
  * FLOWGOAL_NONE   no path, of any length, leads from the first to the second. That is so, too, where the role of one of them
  *                 may not hold its type or its user may not hold its role: such a context does not even reach itself.
@@ -181,9 +162,9 @@ uint64_t flowgoal_flows(const uint8_t *policy, size_t policy_length, uint8_t set
  *       FLOWGOAL_STEPS of the result
  * and these are asked in this order, after those of the policy: the first that applies is the number.
  */
-uint64_t flowgoal_least_steps(const uint8_t *policy, size_t policy_length, uint8_t setting, uint32_t t1, uint32_t r1,
-                              uint32_t u1, uint32_t t2, uint32_t r2, uint32_t u2, uint32_t *work1, size_t work1_length,
-                              uint32_t *work2, size_t work2_length, uint32_t *path, size_t path_length);
+uint64_t flowgoal_least_steps(const uint8_t *policy, size_t policy_length, uint32_t t1, uint32_t r1, uint32_t u1,
+                              uint32_t t2, uint32_t r2, uint32_t u2, uint32_t *work1, size_t work1_length, uint32_t *work2,
+                              size_t work2_length, uint32_t *path, size_t path_length);
 
 /* Writes the one policy that the maker's and the board's make together.
  *
@@ -193,7 +174,7 @@ uint64_t flowgoal_least_steps(const uint8_t *policy, size_t policy_length, uint8
  * Each count is the larger of the two. The records are those of both, kinds 1 to 9 in turn, the maker's first within a kind and
  * each list in its order; each kind is linked in that order, and constraints and nodes name the same nodes as before by their
  * new numbers. What is allowed is judged on the whole list: a constraint of the board's may take away what the maker allows,
- * and a type that either calls a domain is one. The two share their switches: a number names the same one in both.
+ * and a type that either calls a domain is one.
  *
  * The call refuses with 1 to 6 and 14 as flowgoal_authorized does, of the maker's policy, then of the board's, or with
  *   15  the two have more than 4,095 records together
@@ -209,14 +190,13 @@ uint64_t flowgoal_join(const uint8_t *maker, size_t maker_length, const uint8_t 
  *                   Later bytes are left as they are.
  *
  * The counts stay as they are. The records are linked kind by kind, kinds 1 to 9 in turn. Those of kinds 1 to 7 are sorted by a,
- * then b, c, d and e, each key once with the masks of all its records united; a record of kinds 2, 3 or 4 with an empty mask is left
- * out, and flow with b = 3 is written as b = 1 and b = 2. A rule for on and the same for off stay two, also beside one without a
- * switch. Kinds 8 and 9 keep their order, and constraints and nodes name the same nodes as before by their new numbers. So two
- * policies have equal bytes exactly where their four counts, what their records of kinds 1 to 7 say, permission by permission, and
- * their lists of constraints and of nodes agree, a node being named by its place in the list. flowgoal_authorized, flowgoal_flows,
- * flowgoal_least_steps and flowgoal_check answer of the image as of the policy, in every setting, and the canonical image of the
- * image is itself. A join with the image may be refused with 15 where one with the policy is not, since flow with b = 3 is two
- * records in it.
+ * then b, then c, each key once with the masks of all its records united; a record of kinds 2, 3 or 4 with an empty mask is left
+ * out, and flow with b = 3 is written as b = 1 and b = 2. Kinds 8 and 9 keep their order, and constraints and nodes name the same
+ * nodes as before by their new numbers. So two policies have equal bytes exactly where their four counts, what their records of
+ * kinds 1 to 7 say, permission by permission, and their lists of constraints and of nodes agree, a node being named by its place
+ * in the list. flowgoal_authorized, flowgoal_flows, flowgoal_least_steps and flowgoal_check answer of the image as of the policy, and
+ * the canonical image of the image is itself. A join with the image may be refused with 15 where one with the policy is not, since flow
+ * with b = 3 is two records in it.
  *
  * The call refuses with 1 to 6 and 14 as flowgoal_authorized does, or with
  *   15  the image would have more than 4,095 records

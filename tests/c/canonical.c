@@ -155,39 +155,6 @@ static void as_written(void)
     expect_canonical("facts as written");
 }
 
-/* Switch and position belong to the key, behind a, b and c: a rule for on and the same for off stay two, and so does one without a
- * switch beside them; the masks of one key are united. */
-static void switches(void)
-{
-    policy_start(&policy, 3, 1, 1, 2);
-    policy_add(&policy, 4, 1, 2, 1, SWITCH(2, 0), 1);
-    policy_add(&policy, 4, 1, 2, 1, SWITCH(1, 1), 1);
-    policy_add(&policy, 4, 1, 2, 2, 0, 1);
-    policy_add(&policy, 4, 1, 3, 1, SWITCH(1, 0), 4);
-    policy_add(&policy, 4, 1, 2, 1, SWITCH(1, 0), 1);
-    policy_add(&policy, 4, 1, 2, 1, SWITCH(8, 1), 0);
-    policy_add(&policy, 4, 1, 2, 1, 0, 1);
-    policy_add(&policy, 4, 1, 2, 1, SWITCH(1, 1), 6);
-    policy_add(&policy, 4, 1, 0, 1, SWITCH(8, 1), 2);
-    policy_add(&policy, 4, 1, 2, 1, SWITCH(8, 0), 1);
-    policy_add(&policy, 1, 1, 0, 0, 0, 0);
-    policy_start(&wanted, 3, 1, 1, 2);
-    policy_add(&wanted, 1, 1, 0, 0, 0, 0);
-    policy_add(&wanted, 4, 1, 0, 1, SWITCH(8, 1), 2);
-    policy_add(&wanted, 4, 1, 2, 1, 0, 1);
-    policy_add(&wanted, 4, 1, 2, 1, SWITCH(1, 0), 1);
-    policy_add(&wanted, 4, 1, 2, 1, SWITCH(1, 1), 7);
-    policy_add(&wanted, 4, 1, 2, 1, SWITCH(2, 0), 1);
-    policy_add(&wanted, 4, 1, 2, 1, SWITCH(8, 0), 1);
-    policy_add(&wanted, 4, 1, 2, 2, 0, 1);
-    policy_add(&wanted, 4, 1, 3, 1, SWITCH(1, 0), 4);
-    expect_canonical("rules with switches");
-    policy_switch(&policy, policy.records, 9, 0);
-    expect_refused("switch 9", sizeof output, 5);
-    policy_switch(&policy, policy.records, 0, 1);
-    expect_refused("a position without a switch", 0, 5);
-}
-
 /* Constraints and nodes stay in their order, also one with an empty mask, one that is repeated and a node that nothing uses, and name
  * the same nodes by their new numbers. */
 static void constraints(void)
@@ -288,15 +255,14 @@ static const uint8_t *record_of(unsigned k)
     return policy.bytes + POLICY_HEADER + POLICY_RECORD * (k - 1);
 }
 
-/* A fact: the kind with a, b, c, d and e as one number, and the permissions. */
+/* A fact: the kind with a, b and c as one number, and the permissions. */
 struct fact {
-    uint64_t key;
-    uint32_t mask;
+    uint32_t key, mask;
 };
 
 static int by_key(const void *one, const void *other)
 {
-    uint64_t x = ((const struct fact *)one)->key, y = ((const struct fact *)other)->key;
+    uint32_t x = ((const struct fact *)one)->key, y = ((const struct fact *)other)->key;
     return (x > y) - (x < y);
 }
 
@@ -311,7 +277,7 @@ static unsigned sorted_facts(struct fact *facts)
         if (r[2] > KINDS_OF_FACTS || (r[2] >= 2 && r[2] <= 4 && mask == 0))
             continue;
         for (unsigned b = both ? 1 : r[4]; b <= (both ? 2u : r[4]); b++) {
-            facts[count].key = (((((uint64_t)r[2] * 256 + r[3]) * 256 + b) * 256 + r[5]) * 256 + r[6]) * 256 + r[7];
+            facts[count].key = ((r[2] * 256u + r[3]) * 256u + b) * 256u + r[5];
             facts[count++].mask = mask;
         }
     }
@@ -328,12 +294,11 @@ static void write_plainly(void)
     unsigned count = sorted_facts(facts), before = 0, nodes = 0;
     policy_start(&wanted, policy.bytes[0], policy.bytes[1], policy.bytes[2], policy.bytes[3]);
     for (unsigned i = 0; i < count; i++) {
-        uint64_t key = facts[i].key;
-        uint32_t mask = 0;
+        uint32_t key = facts[i].key, mask = 0;
         for (; i < count && facts[i].key == key; i++)
             mask |= facts[i].mask;
         i--;
-        policy_add(&wanted, key >> 40, key >> 32 & 255, key >> 24 & 255, key >> 16 & 255, SWITCH(key >> 8 & 255, key & 255), mask);
+        policy_add(&wanted, key >> 24, key >> 16 & 255, key >> 8 & 255, key & 255, 0, mask);
     }
     for (unsigned k = 1; k <= policy.records; k++)
         before += record_of(k)[2] == 8;
@@ -380,7 +345,7 @@ static void policy_mixed(unsigned records)
         policy_add(&policy, 9, 1, 0, 0, 0, k + 1);
         policy_add(&policy, 9, 4, 0, 0, 0, 0);
         policy_add(&policy, 9, 3, 0, 0, 0, k + 3 + 65536 * (k + 4));
-        policy_add(&policy, 4, t, k % 8, c, k % 3 == 0 ? SWITCH(k / 3 % 8 + 1, k / 24 % 2) : 0, k % 32 == 0 ? 0 : 1u << k % 32);
+        policy_add(&policy, 4, t, k % 8, c, 0, k % 32 == 0 ? 0 : 1u << k % 32);
         policy_add(&policy, 1, t, 0, 0, 0, 0);
         policy_add(&policy, 2, c, 0, 0, 0, 0xFFFFu - k);
         policy_add(&policy, 3, c, k % 3 + 1, 0, 0, 1u << k % 31);
@@ -452,7 +417,6 @@ int main(int count, char **arguments)
     weir();
     weir_told_otherwise();
     as_written();
-    switches();
     constraints();
     example(arguments[1]);
     empty();

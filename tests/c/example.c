@@ -1,5 +1,5 @@
-/* The example in the header, as a loader would call it: of W1 to W8 in the folder of examples that it is given, of W5 where the
- * rule that breaks G has a switch, and of an image that is a byte short. What it prints is compared with what tests/c/run has. */
+/* The example in the header, as a loader would call it: of W1 to W8 in the folder of examples that it is given, and of an image
+ * that is a byte short. What it prints is compared with what tests/c/run has. */
 #include "images.h"
 
 #include <stdio.h>
@@ -29,10 +29,6 @@ int main(int count, char **arguments)
         goal.length = read_image(folder, "goal.img", goal.bytes, sizeof goal.bytes);
         load(name);
     }
-    policy_weir(&policy);
-    policy_add(&policy, 4, 4, 1, 2, SWITCH(3, 1), 1);
-    goal_g(&goal);
-    load("W5 while switch 3 is on");
     goal.length--;
     load("a byte short");
     return 0;

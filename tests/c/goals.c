@@ -1,6 +1,6 @@
 /* The goal question through the header, as the controller's loader asks it: it reads policy.img and goal.img of W1 to W8 from
- * the folder of examples that it is given, and builds the rest, policies with switches among them. Its last line is
- * 'N passed, M failed'. What the macros of the header say is held to the specification in header.c. */
+ * the folder of examples that it is given, and builds the rest. Its last line is 'N passed, M failed'. What the macros of the
+ * header say is held to the specification in header.c. */
 #include "flowgoal.h"
 #include "images.h"
 
@@ -136,7 +136,7 @@ static void weir_10_to_12(void)
     policy.length = 24;
     goal.length = 0;
     expect_refused("W10: 24 bytes are accepted, so the goal is asked about", 7);
-    expect_result("W10: and a bare question is answered", flowgoal_authorized(policy.bytes, 24, 0, 1, 1, 1, 1, 1, 1, 1, 0), 0, 0,
+    expect_result("W10: and a bare question is answered", flowgoal_authorized(policy.bytes, 24, 1, 1, 1, 1, 1, 1, 1, 0), 0, 0,
                   FLOWGOAL_NO);
     policy_weir(&policy);
     goal_g(&goal);
@@ -147,124 +147,6 @@ static void weir_10_to_12(void)
     expect_result("W12: 31 entries in the second", ask(32, 31, PATH), 0, 11, FLOWGOAL_REFUSED);
     expect("W12: its path slice", untouched_from(0), 1);
     expect_result("W12: 32 suffice", ask(32, 32, PATH), 0, 0, FLOWGOAL_HOLDS);
-}
-
-/* The goal is broken so, in this setting, by this path; and 12, which tells of no setting, where there is no room for it. */
-static void expect_path(const char *what, unsigned setting, unsigned answer, unsigned steps, const uint32_t *wanted)
-{
-    unsigned entries = FLOWGOAL_PATH_ENTRIES(steps);
-    expect_broken(what, ask(WORK, WORK, PATH), setting, steps, answer);
-    expect("its path", memcmp(path, wanted, entries * sizeof *path) == 0, 1);
-    expect("the entries after it", untouched_from(entries), 1);
-    for (unsigned length = 0; length < entries; length++) {
-        expect_result("no room for its path", ask(WORK, WORK, length), steps, 12, FLOWGOAL_REFUSED);
-        expect("the path slice after 12", untouched_from(0), 1);
-    }
-}
-
-/* G of W2: the second leg goes by write alone, which the way over 2 and 3 does not. */
-static void goal_w2(void)
-{
-    goal_start(&goal, 2, 2);
-    goal_sigma(&goal, SIGMA + 0, 1, 0, 0);
-    goal_sigma(&goal, SIGMA + 1, 2, 0, 0);
-    goal_sigma(&goal, SIGMA + 2, 4, 0, 0);
-    goal_gamma(&goal, GAMMA + 0, 2, 1);
-    goal_gamma(&goal, GAMMA + 1, 2, 2);
-}
-
-static const uint32_t direct[3] = {0x111, 64, 0x421}, by_2_and_3[7] = {0x111, 64, 0x221, 65, 0x311, 64, 0x421};
-
-/* Each switch in each position: of the rule of W5, and of each rule of a path that W2's goal breaks. */
-static void switches(void)
-{
-    for (unsigned i = 0; i < 2 * SWITCHES; i++) {
-        unsigned number = i / 2 + 1, position = i % 2, setting = position * FLOWGOAL_ON(number);
-        policy_weir(&policy);
-        policy_add(&policy, 4, 4, 1, 2, SWITCH(number, position), 1);
-        goal_g(&goal);
-        expect_path("W5 with a switch", setting, FLOWGOAL_ORDER, 1, direct);
-        for (unsigned rule = READS_1; rule <= READS_3; rule++) {
-            policy_weir(&policy);
-            policy_switch(&policy, rule, number, position);
-            goal_w2();
-            expect_path("W2 with a switch", setting, FLOWGOAL_EVENTS, 3, by_2_and_3);
-        }
-    }
-    /* three switches that must all be on, and one that must be off */
-    policy_weir(&policy);
-    policy_switch(&policy, READS_1, 8, 1);
-    policy_switch(&policy, WRITES_3, 1, 1);
-    policy_switch(&policy, READS_3, 5, 1);
-    expect_path("three switches on", FLOWGOAL_ON(8) | FLOWGOAL_ON(1) | FLOWGOAL_ON(5), FLOWGOAL_EVENTS, 3, by_2_and_3);
-    policy_switch(&policy, WRITES_3, 2, 0);
-    expect_path("one off", FLOWGOAL_ON(8) | FLOWGOAL_ON(5), FLOWGOAL_EVENTS, 3, by_2_and_3);
-    /* without a step no rule is needed */
-    goal_start(&goal, 1, 0);
-    goal_sigma(&goal, SIGMA + 0, 1, 0, 0);
-    goal_sigma(&goal, SIGMA + 1, 1, 0, 0);
-    expect_path("no step", 0, FLOWGOAL_EVENTS, 0, direct);
-}
-
-/* A path would need a switch both on and off: all rules at once break the goal, and it holds in every setting. */
-static void on_and_off(void)
-{
-    goal_w2();
-    for (unsigned i = 0; i < 2 * SWITCHES; i++) {
-        policy_weir(&policy);
-        policy_switch(&policy, READS_1, i / 2 + 1, i % 2);
-        policy_switch(&policy, READS_3, i / 2 + 1, 1 - i % 2);
-        expect_result("a switch on and off", ask(WORK, WORK, PATH), 0, 0, FLOWGOAL_HOLDS);
-        expect("the path slice where it holds", untouched_from(0), 1);
-        policy_switch(&policy, READS_3, i / 2 + 1, i % 2);
-        expect_path("the same position", i % 2 * FLOWGOAL_ON(i / 2 + 1), FLOWGOAL_EVENTS, 3, by_2_and_3);
-    }
-}
-
-/* The fewest steps over all settings, then order before events, and only then the lowest setting. */
-static void least_over_settings(void)
-{
-    static const uint32_t by_3[5] = {0x111, 64, 0x321, 64, 0x421}, by_2[5] = {0x111, 64, 0x221, 64, 0x421};
-    /* setting 0 breaks it too, by more steps */
-    goal_w2();
-    policy_weir(&policy);
-    policy_add(&policy, 4, 4, 1, 2, SWITCH(3, 1), 1);
-    expect_path("a lower setting with a longer path", 4, FLOWGOAL_ORDER, 1, direct);
-    /* domains 2, 3 and 4: 2 reads 1 and 4 reads 2 in setting 2, which breaks events; 3 reads 1 and 4 reads 3 in setting 5, which
-     * breaks order */
-    policy_start(&policy, 4, 2, 1, 2);
-    for (unsigned t = 2; t <= 4; t++) {
-        policy_add(&policy, 1, t, 0, 0, 0, 0);
-        policy_add(&policy, 5, 2, t, 0, 0, 0);
-    }
-    policy_add(&policy, 2, 2, 0, 0, 0, 3);
-    policy_add(&policy, 3, 2, 2, 0, 0, 1);
-    policy_add(&policy, 6, 1, 2, 0, 0, 0);
-    policy_add(&policy, 4, 2, 1, 2, 0, 1);
-    policy_add(&policy, 4, 4, 2, 2, SWITCH(2, 1), 1);
-    expect_path("events in setting 2", 2, FLOWGOAL_EVENTS, 2, by_2);
-    policy_add(&policy, 4, 3, 1, 2, SWITCH(1, 1), 1);
-    policy_add(&policy, 4, 4, 3, 2, SWITCH(3, 1), 1);
-    expect_path("order in setting 5", 5, FLOWGOAL_ORDER, 2, by_3);
-    policy_add(&policy, 4, 4, 3, 2, SWITCH(7, 0), 1);
-    expect_path("order in setting 1", 1, FLOWGOAL_ORDER, 2, by_3);
-}
-
-/* Question 5, and 14 of a rule in whatever position. */
-static void refused_switches(void)
-{
-    static const unsigned wrong[][2] = {{9, 0}, {9, 1}, {255, 1}, {1, 2}, {8, 255}, {0, 1}, {0, 2}};
-    goal_g(&goal);
-    for (size_t i = 0; i < sizeof wrong / sizeof *wrong; i++) {
-        policy_weir(&policy);
-        policy_switch(&policy, READS_3, wrong[i][0], wrong[i][1]);
-        expect_refused("a switch or a position that there is not", 5);
-    }
-    for (unsigned i = 0; i < 2 * SWITCHES; i++) {
-        policy_weir(&policy);
-        policy_add(&policy, 4, 3, 1, 2, SWITCH(i / 2 + 1, i % 2), 1);
-        expect_refused("W9 with a switch", 14);
-    }
 }
 
 struct damage {
@@ -376,20 +258,17 @@ static void ask_deep(void)
     deep_result = ask(WORK, WORK, PATH);
 }
 
-/* The allow record of the deep policy may have a switch: it is asked about in some of its settings then. */
-static void deepest(int allowed, unsigned on, unsigned last, uint64_t steps, unsigned answer)
+static void deepest(int allowed, unsigned last, uint64_t steps, unsigned answer)
 {
     size_t used;
     policy_deep(&policy, allowed, last);
-    if (on != 0)
-        policy_switch(&policy, DEEP_ALLOW, on, 1);
     goal_start(&goal, 1, 0);
     goal_sigma(&goal, SIGMA + 0, 1, 0, 0);
     goal_sigma(&goal, SIGMA + 1, 2, 0, 0);
     used = stack_of(ask_deep);
     printf("a goal question over %u nested nodes took %zu bytes of stack; the header says %d at the most\n",
            allowed ? last - 6 : last - 3, used, FLOWGOAL_STACK);
-    expect_broken("the deepest constraint", deep_result, on == 0 ? 0 : FLOWGOAL_ON(on), steps, answer);
+    expect_result("the deepest constraint", deep_result, steps, 0, answer);
     expect("its stack", used <= FLOWGOAL_STACK, 1);
 }
 
@@ -402,18 +281,13 @@ int main(int count, char **arguments)
     weir_examples(arguments[1]);
     weir_9();
     unchanged_roles();
-    switches();
-    on_and_off();
-    least_over_settings();
-    refused_switches();
     weir_10_to_12();
     refusals();
     null_pointers();
     work_lengths();
     largest_images();
-    deepest(0, 0, POLICY_MOST, 0, FLOWGOAL_HOLDS);
-    deepest(1, 0, POLICY_MOST, 0, FLOWGOAL_HOLDS);
-    deepest(1, 0, POLICY_MOST - 1, 1, FLOWGOAL_EVENTS);
-    deepest(1, SWITCHES, POLICY_MOST - 1, 1, FLOWGOAL_EVENTS);
+    deepest(0, POLICY_MOST, 0, FLOWGOAL_HOLDS);
+    deepest(1, POLICY_MOST, 0, FLOWGOAL_HOLDS);
+    deepest(1, POLICY_MOST - 1, 1, FLOWGOAL_EVENTS);
     return results();
 }

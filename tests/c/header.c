@@ -20,67 +20,48 @@ static void answers(void)
 
 struct fields {
     uint64_t result, steps;
-    unsigned number, answer, setting;
+    unsigned number, answer;
 };
 
-/* The specification: 256m + 4k + answer, where a call that writes an image has its length for m, and 2^40 times the setting of a path
- * that breaks a goal. An m takes 32 bits, and what stands above them is no part of it; a setting takes eight. */
+/* The specification: 256m + 4k + answer, where a call that writes an image has its length for m. An m takes 32 bits, and what
+ * stands above them is no part of it. */
 static void fields(void)
 {
     static const struct fields cases[] = {
-        {0, 0, 0, 0, 0},                             /* holds, no, and none */
-        {1, 0, 0, 1, 0},                             /* order or shown, no step; and yes */
-        {2, 0, 0, 2, 0},                             /* events, no step */
-        {257, 1, 0, 1, 0},                           /* order or shown, 1 step */
-        {770, 3, 0, 2, 0},                           /* events, 3 steps */
-        {7, 0, 1, 3, 0},                             /* refused 1 */
-        {47, 0, 11, 3, 0},                           /* refused 11 */
-        {51, 0, 12, 3, 0},                           /* refused 12, of a path of no step */
-        {524595, 2049, 12, 3, 0},                    /* refused 12, of 2,049 steps */
-        {55, 0, 13, 3, 0},                           /* refused 13 */
-        {59, 0, 14, 3, 0},                           /* refused 14 */
-        {63, 0, 15, 3, 0},                           /* refused 15 */
-        {67, 0, 16, 3, 0},                           /* refused 16 */
-        {6144, 24, 0, 0, 0},                         /* written, no record */
-        {12585984, 49164, 0, 0, 0},                  /* written, 4,095 records */
-        {940031746, 3671999, 0, 2, 0},               /* as many steps as the largest search has nodes, but one */
-        {1024, 4, 0, 0, 0},                          /* the lowest bit but one of the steps */
-        {UINT64_C(1) << 39, 2147483648u, 0, 0, 0},   /* the highest bit of the steps */
-        {UINT64_C(1099511627777), 0, 0, 1, 1},       /* order, no step, in setting 1 */
-        {UINT64_C(5497558139137), 1, 0, 1, 5},       /* order, 1 step, in setting 5 */
-        {UINT64_C(2199023256322), 3, 0, 2, 2},       /* events, 3 steps, in setting 2 */
-        {UINT64_C(280375465082881), 0, 0, 1, 255},   /* order, no step, in the highest setting */
-        {UINT64_C(140738428387074), 3671999, 0, 2, 128}, /* events, as many steps as there can be, in setting 128 */
-        {UINT64_C(281474976710656) + 257, 1, 0, 1, 0},   /* order, 1 step, and the lowest bit above the setting */
-        {(UINT64_C(255) << 40) + 6144, 24, 0, 0, 255},   /* written, no record, and eight bits above the length */
-        {UINT64_MAX, 4294967295u, 63, 3, 255},       /* every bit */
-        {UINT64_C(1) << 63, 0, 0, 0, 0},             /* the highest */
-        {128, 0, 32, 0, 0},                          /* the highest of the number */
+        {0, 0, 0, 0},                                /* holds, no, and none */
+        {1, 0, 0, 1},                                /* order or shown, no step; and yes */
+        {2, 0, 0, 2},                                /* events, no step */
+        {257, 1, 0, 1},                              /* order or shown, 1 step */
+        {770, 3, 0, 2},                              /* events, 3 steps */
+        {7, 0, 1, 3},                                /* refused 1 */
+        {47, 0, 11, 3},                              /* refused 11 */
+        {51, 0, 12, 3},                              /* refused 12, of a path of no step */
+        {524595, 2049, 12, 3},                       /* refused 12, of 2,049 steps */
+        {55, 0, 13, 3},                              /* refused 13 */
+        {59, 0, 14, 3},                              /* refused 14 */
+        {63, 0, 15, 3},                              /* refused 15 */
+        {67, 0, 16, 3},                              /* refused 16 */
+        {6144, 24, 0, 0},                            /* written, no record */
+        {12585984, 49164, 0, 0},                     /* written, 4,095 records */
+        {940031746, 3671999, 0, 2},                  /* as many steps as the largest search has nodes, but one */
+        {1024, 4, 0, 0},                             /* the lowest bit but one of the steps */
+        {UINT64_C(1) << 39, 2147483648u, 0, 0},      /* the highest bit of the steps */
+        {(UINT64_C(1) << 40) + 257, 1, 0, 1},        /* order or shown, 1 step, and the lowest bit above the steps */
+        {(UINT64_C(255) << 40) + 6144, 24, 0, 0},    /* written, no record, and eight bits above the length */
+        {UINT64_MAX, 4294967295u, 63, 3},            /* every bit */
+        {UINT64_C(1) << 63, 0, 0, 0},                /* the highest */
+        {128, 0, 32, 0},                             /* the highest of the number */
     };
     for (size_t i = 0; i < sizeof cases / sizeof *cases; i++) {
         expect("FLOWGOAL_STEPS", FLOWGOAL_STEPS(cases[i].result), cases[i].steps);
         expect("FLOWGOAL_LENGTH", FLOWGOAL_LENGTH(cases[i].result), cases[i].steps);
         expect("FLOWGOAL_NUMBER", FLOWGOAL_NUMBER(cases[i].result), cases[i].number);
         expect("FLOWGOAL_ANSWER", FLOWGOAL_ANSWER(cases[i].result), cases[i].answer);
-        expect("FLOWGOAL_SETTING", FLOWGOAL_SETTING(cases[i].result), cases[i].setting);
     }
     expect("FLOWGOAL_STEPS of a sum, twice", 2 * FLOWGOAL_STEPS(1280 + 51), 10);
     expect("FLOWGOAL_LENGTH of a sum, twice", 2 * FLOWGOAL_LENGTH(6144 + 3072), 72);
     expect("FLOWGOAL_NUMBER of a sum, twice", 2 * FLOWGOAL_NUMBER(256 + 51), 24);
     expect("FLOWGOAL_ANSWER of a sum, twice", 2 * FLOWGOAL_ANSWER(256 + 51), 6);
-    expect("FLOWGOAL_SETTING of a sum, twice", 2 * FLOWGOAL_SETTING(UINT64_C(1099511627776) + 257), 2);
-    expect("FLOWGOAL_SETTING of an int", FLOWGOAL_SETTING(257), 0);
-}
-
-/* The specification: "bit d - 1 for switch d". */
-static void settings(void)
-{
-    static const unsigned on[SWITCHES] = {1, 2, 4, 8, 16, 32, 64, 128};
-    for (unsigned d = 1; d <= SWITCHES; d++)
-        expect("FLOWGOAL_ON", FLOWGOAL_ON(d), on[d - 1]);
-    expect("FLOWGOAL_ON of a sum", FLOWGOAL_ON(3 + 1), 8);
-    expect("FLOWGOAL_ON, three times", FLOWGOAL_ON(3) * 3, 12);
-    expect("FLOWGOAL_ON in the setting of a result", FLOWGOAL_SETTING(UINT64_C(5497558139137)) / FLOWGOAL_ON(3), 1);
 }
 
 /* The specification: each work slice needs types x roles x users x 2^legs entries, and a path of m steps takes 2m + 1. */
@@ -118,7 +99,6 @@ int main(void)
 {
     answers();
     fields();
-    settings();
     lengths();
     sizes();
     return results();

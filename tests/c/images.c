@@ -48,13 +48,6 @@ void policy_add(struct policy *policy, unsigned kind, unsigned a, unsigned b, un
     put16(record + 10, mask / 65536);
 }
 
-void policy_switch(struct policy *policy, unsigned record, unsigned number, unsigned position)
-{
-    uint8_t *at = policy->bytes + POLICY_HEADER + POLICY_RECORD * (record - 1);
-    at[6] = (uint8_t)number;
-    at[7] = (uint8_t)position;
-}
-
 void policy_weir(struct policy *policy)
 {
     policy_start(policy, 4, 2, 1, 2);
@@ -222,27 +215,16 @@ void expect(const char *what, uint64_t got, uint64_t wanted)
     }
 }
 
-static void expect_parts(const char *what, uint64_t got, unsigned setting, uint64_t steps, unsigned number, unsigned answer)
+void expect_result(const char *what, uint64_t got, uint64_t steps, unsigned number, unsigned answer)
 {
-    expect(what, got, 1099511627776u * setting + 256 * steps + 4 * number + answer);
-    if (FLOWGOAL_SETTING(got) == setting && FLOWGOAL_STEPS(got) == steps && FLOWGOAL_NUMBER(got) == number &&
-        FLOWGOAL_ANSWER(got) == answer) {
+    expect(what, got, 256 * steps + 4 * number + answer);
+    if (FLOWGOAL_STEPS(got) == steps && FLOWGOAL_NUMBER(got) == number && FLOWGOAL_ANSWER(got) == answer) {
         passed++;
     } else {
         failed++;
-        printf("%s: the header takes setting %u, steps %llu, number %u and answer %u out of %llu\n", what, FLOWGOAL_SETTING(got),
+        printf("%s: the header takes steps %llu, number %u and answer %u out of %llu\n", what,
                (unsigned long long)FLOWGOAL_STEPS(got), FLOWGOAL_NUMBER(got), FLOWGOAL_ANSWER(got), (unsigned long long)got);
     }
-}
-
-void expect_result(const char *what, uint64_t got, uint64_t steps, unsigned number, unsigned answer)
-{
-    expect_parts(what, got, 0, steps, number, answer);
-}
-
-void expect_broken(const char *what, uint64_t got, unsigned setting, uint64_t steps, unsigned answer)
-{
-    expect_parts(what, got, setting, steps, 0, answer);
 }
 
 int results(void)

@@ -14,9 +14,6 @@ struct policy {
     unsigned last_of_kind[10];
 };
 
-/* The switches that a policy can have, and the settings of them. */
-enum { SWITCHES = 8, SETTINGS = 256 };
-
 /* The chains of a goal in the order of its heads: sigma 0 to 6 are 0 to 6, gamma 0 to 5 are 7 to 12. */
 enum { SIGMA = 0, GAMMA = 7, SIGMA_E = 13, GAMMA_E = 14, CHAINS = 15 };
 
@@ -31,14 +28,9 @@ void put16(uint8_t *at, unsigned value);
 unsigned get16(const uint8_t *at);
 
 void policy_start(struct policy *policy, unsigned types, unsigned roles, unsigned users, unsigned classes);
-/* One more record, linked to the one before it of its kind. The bytes of d and e are the root of a constraint, and a switch and its
- * position in an allow record. */
+/* One more record, linked to the one before it of its kind. */
 void policy_add(struct policy *policy, unsigned kind, unsigned a, unsigned b, unsigned c, unsigned root, uint32_t mask);
-#define SWITCH(number, position) ((number) + 256u * (position))
-/* The switch and the position of a record that is there. */
-void policy_switch(struct policy *policy, unsigned record, unsigned number, unsigned position);
-/* The weir policy of the specification. Its allow records: 2 reads 1, 2 writes 3, 4 reads 3. */
-enum { READS_1 = 6, WRITES_3, READS_3 };
+/* The weir policy of the specification. */
 void policy_weir(struct policy *policy);
 /* The weir policy, damaged so that it is refused with the number: 1 to 6, or 14. */
 void policy_refused(struct policy *policy, unsigned number);
@@ -46,8 +38,7 @@ void policy_refused(struct policy *policy, unsigned number);
 void policy_transition(struct policy *policy, unsigned role);
 /* The deepest constraints that a search can come to: a class, its way of flow, a constraint, and nodes up to the record named,
  * each `not` of the one before, above "same type". The records that let type 1 write to type 2, where it is allowed, make it
- * come to flow, where an odd number of negations makes the constraint true for them; DEEP_ALLOW is the allow among them. */
-enum { DEEP_ALLOW = 5 };
+ * come to flow, where an odd number of negations makes the constraint true for them. */
 void policy_deep(struct policy *policy, int allowed, unsigned last);
 
 void goal_start(struct goal *goal, unsigned legs, unsigned repeated);
@@ -68,10 +59,8 @@ int all_from(const uint32_t *entries, size_t from, size_t end, uint32_t value);
 
 /* Counts one check, and prints what it got where that is not what was wanted. */
 void expect(const char *what, uint64_t got, uint64_t wanted);
-/* Holds the result of a call to the number of the specification, and what the header's macros take out of it to its parts. It has
- * no setting, or this one. */
+/* Holds the result of a call to the number of the specification, and what the header's macros take out of it to its parts. */
 void expect_result(const char *what, uint64_t got, uint64_t steps, unsigned number, unsigned answer);
-void expect_broken(const char *what, uint64_t got, unsigned setting, uint64_t steps, unsigned answer);
 /* Prints 'N passed, M failed'; gives the exit status. */
 int results(void);
 

@@ -149,40 +149,12 @@ static void board_constrains(void)
     policy_add(&wanted, 9, 3, 0, 0, 0, 15 + 65536 * 17);
     expect_joined("a board that constrains");
     expect_result("2 reads 1, by the maker's policy",
-                  flowgoal_authorized(maker.bytes, maker.length, 0, 2, 2, 1, 1, 1, 1, 2, 0), 0, 0, FLOWGOAL_YES);
+                  flowgoal_authorized(maker.bytes, maker.length, 2, 2, 1, 1, 1, 1, 2, 0), 0, 0, FLOWGOAL_YES);
     join(wanted.length, 1);
-    expect_result("and not by the joined one", flowgoal_authorized(output, wanted.length, 0, 2, 2, 1, 1, 1, 1, 2, 0), 0, 0,
+    expect_result("and not by the joined one", flowgoal_authorized(output, wanted.length, 2, 2, 1, 1, 1, 1, 2, 0), 0, 0,
                   FLOWGOAL_NO);
-    expect_result("where 4 still reads 3", flowgoal_authorized(output, wanted.length, 0, 4, 2, 1, 3, 1, 1, 2, 0), 0, 0,
+    expect_result("where 4 still reads 3", flowgoal_authorized(output, wanted.length, 4, 2, 1, 3, 1, 1, 2, 0), 0, 0,
                   FLOWGOAL_YES);
-}
-
-/* "joined policies share switch numbers": W5's rule of the board's, and a rule of the maker's, have the same switch. The number of the
- * switch is one that a root would be given another of. */
-static void shared_switches(void)
-{
-    static uint32_t work1[32], work2[32], path[3];
-    static struct goal g;
-    for (unsigned i = 0; i < 2 * SWITCHES; i++) {
-        unsigned number = i / 2 + 1, position = i % 2;
-        policy_weir(&maker);
-        policy_switch(&maker, READS_1, number, 1 - position);
-        policy_w5_board(&board);
-        policy_switch(&board, board.records, number, position);
-        policy_w5_joined(&wanted);
-        policy_switch(&wanted, 8, number, 1 - position);
-        policy_switch(&wanted, 11, number, position);
-        expect_joined("two policies with a switch");
-        goal_g(&g);
-        join(wanted.length, 1);
-        expect_broken("G of the joined policy",
-                      flowgoal_check(output, wanted.length, g.bytes, g.length, work1, 32, work2, 32, path, 3),
-                      position * FLOWGOAL_ON(number), 1, FLOWGOAL_ORDER);
-    }
-    policy_switch(&board, board.records, 9, 0);
-    expect_refused("the board's switch 9", sizeof output, 5);
-    policy_switch(&maker, READS_1, 0, 1);
-    expect_refused("the maker's position without a switch", 0, 5);
 }
 
 static const uint8_t *record_of(const struct policy *policy, unsigned k)
@@ -215,7 +187,7 @@ static void join_plainly(void)
     for (unsigned i = 0; i < records; i++) {
         const uint8_t *r = order[i];
         const unsigned *new = number[i >= first_of_board[r[2]]];
-        unsigned root = r[2] == 8 ? new[get16(r + 6)] : get16(r + 6), low = get16(r + 8), high = get16(r + 10);
+        unsigned root = r[2] == 8 ? new[get16(r + 6)] : 0, low = get16(r + 8), high = get16(r + 10);
         if (r[2] == 9)
             low = new[low], high = new[high];
         policy_add(&wanted, r[2], r[3], r[4], r[5], root, low + 65536u * high);
@@ -324,7 +296,7 @@ static void policy_mixed(struct policy *policy, unsigned records)
         policy_add(policy, 9, 1, 0, 0, 0, k + 1);
         policy_add(policy, 9, 4, 0, 0, 0, 0);
         policy_add(policy, 9, 3, 0, 0, 0, k + 3 + 65536 * (k + 4));
-        policy_add(policy, 4, t, k % 8, c, k % 9 == 0 ? 0 : SWITCH(k % 9, k / 9 % 2), 1u << k % 32);
+        policy_add(policy, 4, t, k % 8, c, 0, 1u << k % 32);
         policy_add(policy, 1, t, 0, 0, 0, 0);
         policy_add(policy, 2, c, 0, 0, 0, 0xFFFFFFFFu - k);
     }
@@ -367,7 +339,6 @@ int main(int count, char **arguments)
     }
     weir_and_board(arguments[1]);
     board_constrains();
-    shared_switches();
     empty_and_itself();
     order_of_refusals();
     domain_not_repeated();

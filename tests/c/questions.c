@@ -1,22 +1,20 @@
-/* The bare questions through the header: answers on the weir policy, in every setting, refusals, and the deepest constraint on a
- * stack of the size that the header names. Its last line is 'N passed, M failed'. */
+/* The bare questions through the header: answers on the weir policy, refusals, and the deepest constraint on a stack of the
+ * size that the header names. Its last line is 'N passed, M failed'. */
 #include "flowgoal.h"
 #include "images.h"
 
 #include <stdio.h>
 
 static struct policy policy;
-/* The setting that is asked in, where it is not named. */
-static uint8_t setting;
 
 static uint64_t authorized(unsigned t1, unsigned r1, unsigned t2, unsigned r2, unsigned permission)
 {
-    return flowgoal_authorized(policy.bytes, policy.length, setting, t1, r1, 1, t2, r2, 1, 2, permission);
+    return flowgoal_authorized(policy.bytes, policy.length, t1, r1, 1, t2, r2, 1, 2, permission);
 }
 
 static uint64_t flows(unsigned t1, unsigned r1, unsigned t2, unsigned r2, unsigned permission)
 {
-    return flowgoal_flows(policy.bytes, policy.length, setting, t1, r1, 1, t2, r2, 1, 2, permission);
+    return flowgoal_flows(policy.bytes, policy.length, t1, r1, 1, t2, r2, 1, 2, permission);
 }
 
 static void answers(void)
@@ -30,11 +28,11 @@ static void answers(void)
     expect_result("permission 32", authorized(2, 2, 1, 1, 32), 0, 13, FLOWGOAL_REFUSED);
     expect_result("type 257", flows(257, 1, 2, 2, 0), 0, 13, FLOWGOAL_REFUSED);
     expect_result("the largest numbers",
-                  flowgoal_authorized(image, policy.length, UINT8_MAX, UINT32_MAX, UINT32_MAX, UINT32_MAX, UINT32_MAX,
-                                      UINT32_MAX, UINT32_MAX, UINT32_MAX, UINT32_MAX),
+                  flowgoal_authorized(image, policy.length, UINT32_MAX, UINT32_MAX, UINT32_MAX, UINT32_MAX, UINT32_MAX,
+                                      UINT32_MAX, UINT32_MAX, UINT32_MAX),
                   0, 13, FLOWGOAL_REFUSED);
-    expect_result("a null image", flowgoal_authorized(NULL, 0, 0, 2, 2, 1, 1, 1, 1, 2, 0), 0, 1, FLOWGOAL_REFUSED);
-    expect_result("a byte short", flowgoal_flows(image, policy.length - 1, 0, 2, 2, 1, 1, 1, 1, 2, 0), 0, 1, FLOWGOAL_REFUSED);
+    expect_result("a null image", flowgoal_authorized(NULL, 0, 2, 2, 1, 1, 1, 1, 2, 0), 0, 1, FLOWGOAL_REFUSED);
+    expect_result("a byte short", flowgoal_flows(image, policy.length - 1, 2, 2, 1, 1, 1, 1, 2, 0), 0, 1, FLOWGOAL_REFUSED);
     put16(policy.bytes + POLICY_HEADER, 1);
     expect_result("a next equal to its own number", flows(2, 2, 1, 1, 0), 0, 3, FLOWGOAL_REFUSED);
 }
@@ -59,9 +57,9 @@ static void weir_9(void)
 /* The transition of (2, r1) to (4, r2), and whether it flows, which it does where it is authorized. */
 static void expect_transition(const char *what, unsigned r1, unsigned r2, unsigned answer)
 {
-    expect_result(what, flowgoal_authorized(policy.bytes, policy.length, 0, 2, r1, 1, 4, r2, 1, 1, 0), 0, 0, answer);
-    expect_result("its flow", flowgoal_flows(policy.bytes, policy.length, 0, 2, r1, 1, 4, r2, 1, 1, 0), 0, 0, answer);
-    expect_result("no flow back", flowgoal_flows(policy.bytes, policy.length, 0, 4, r2, 1, 2, r1, 1, 1, 0), 0, 0, FLOWGOAL_NO);
+    expect_result(what, flowgoal_authorized(policy.bytes, policy.length, 2, r1, 1, 4, r2, 1, 1, 0), 0, 0, answer);
+    expect_result("its flow", flowgoal_flows(policy.bytes, policy.length, 2, r1, 1, 4, r2, 1, 1, 0), 0, 0, answer);
+    expect_result("no flow back", flowgoal_flows(policy.bytes, policy.length, 4, r2, 1, 2, r1, 1, 1, 0), 0, 0, FLOWGOAL_NO);
 }
 
 /* Since request f a transition with equal roles needs no record of kind 7; with different roles it does. */
@@ -79,56 +77,6 @@ static void unchanged_roles(void)
     expect_transition("different roles, and a record", 2, 1, FLOWGOAL_YES);
 }
 
-/* 2 reads 1 by a rule with this switch and position: it does in the settings in which the switch stands so, and in no other. */
-static void switched(unsigned number, unsigned position)
-{
-    unsigned right = 1;
-    policy_weir(&policy);
-    policy_switch(&policy, READS_1, number, position);
-    for (unsigned s = 0; s < SETTINGS; s++) {
-        unsigned on = s / FLOWGOAL_ON(number) % 2;
-        setting = (uint8_t)s;
-        right &= authorized(2, 2, 1, 1, 0) == (on == position ? FLOWGOAL_YES : FLOWGOAL_NO);
-        right &= flows(1, 1, 2, 2, 0) == (on == position ? FLOWGOAL_YES : FLOWGOAL_NO);
-        right &= authorized(2, 2, 3, 1, 1) == FLOWGOAL_YES && authorized(2, 2, 1, 1, 1) == FLOWGOAL_NO;
-        right &= authorized(2, 2, 1, 1, 32) == 4 * 13 + 3;
-    }
-    expect("a rule with a switch, in every setting", right, 1);
-    /* the same rule without a switch besides, and in the other position in its place */
-    policy_add(&policy, 4, 2, 1, 2, 0, 1);
-    for (unsigned s = 0; s < SETTINGS; s++) {
-        setting = (uint8_t)s;
-        right &= authorized(2, 2, 1, 1, 0) == FLOWGOAL_YES;
-    }
-    policy_switch(&policy, policy.records, number, 1 - position);
-    for (unsigned s = 0; s < SETTINGS; s++) {
-        setting = (uint8_t)s;
-        right &= flows(1, 1, 2, 2, 0) == FLOWGOAL_YES;
-    }
-    expect("the same rule without a switch, or for the other position", right, 1);
-    setting = 0;
-}
-
-/* Question 5, in every setting: no switch above 8, no position above 1, none without a switch, and none in other records. */
-static void switches(void)
-{
-    static const unsigned wrong[][3] = {{READS_1, 9, 0},   {READS_1, 9, 1}, {READS_1, 8, 2}, {READS_1, 0, 1}, {READS_1, 0, 2},
-                                        {READS_1, 255, 0}, {READS_1, 1, 255}, {1, 1, 0},     {3, 1, 1},       {9, 8, 1}};
-    for (unsigned i = 0; i < 2 * SWITCHES; i++)
-        switched(i / 2 + 1, i % 2);
-    for (size_t i = 0; i < sizeof wrong / sizeof *wrong; i++) {
-        unsigned refused = 1;
-        policy_weir(&policy);
-        policy_switch(&policy, wrong[i][0], wrong[i][1], wrong[i][2]);
-        for (unsigned s = 0; s < SETTINGS; s++) {
-            setting = (uint8_t)s;
-            refused &= authorized(2, 2, 1, 1, 0) == 4 * 5 + 3 && flows(0, 0, 0, 0, 32) == 4 * 5 + 3;
-        }
-        expect("a switch or a position that there is not", refused, 1);
-    }
-    setting = 0;
-}
-
 /* The deepest constraint that can be asked about: a class with its permission, a constraint on it, and the rest nodes, each
  * `not` of the one before. Where it is to be answered with yes too, an even number of negations of "same type" stands below
  * the records that authorize the event. */
@@ -136,7 +84,7 @@ static uint64_t deep_result;
 
 static void ask_deep(void)
 {
-    deep_result = flowgoal_authorized(policy.bytes, policy.length, 0, 1, 1, 1, 1, 1, 1, 1, 0);
+    deep_result = flowgoal_authorized(policy.bytes, policy.length, 1, 1, 1, 1, 1, 1, 1, 0);
 }
 
 static void deepest(int yes)
@@ -166,7 +114,6 @@ int main(void)
     answers();
     weir_9();
     unchanged_roles();
-    switches();
     deepest(1);
     deepest(0);
     return results();

@@ -1,5 +1,5 @@
-/* Least steps through the header: every pair of contexts of the weir policy, every setting, the refusals in their order, what stays
- * as it was, and the deepest constraint on a stack of the size that the header names. Its last line is 'N passed, M failed'. */
+/* Least steps through the header: every pair of contexts of the weir policy, the refusals in their order, what stays as it was,
+ * and the deepest constraint on a stack of the size that the header names. Its last line is 'N passed, M failed'. */
 #include "flowgoal.h"
 #include "images.h"
 
@@ -11,8 +11,6 @@
 enum { WORK = 8, PATH = 16, UNTOUCHED = 0x5EED };
 
 static struct policy policy;
-/* The setting that is asked in. */
-static uint8_t setting;
 static uint32_t path[PATH];
 
 struct context {
@@ -31,7 +29,7 @@ static uint64_t ask(struct context x, struct context y, size_t work1_length, siz
     for (unsigned i = 0; i < PATH; i++)
         path[i] = UNTOUCHED;
     slice = lent(path, path_length * sizeof *path);
-    answer = flowgoal_least_steps(policy_bytes, policy.length, setting, x.type, x.role, x.user, y.type, y.role, y.user, work1,
+    answer = flowgoal_least_steps(policy_bytes, policy.length, x.type, x.role, x.user, y.type, y.role, y.user, work1,
                                   work1_length, work2, work2_length, slice, path_length);
     memcpy(path, slice, path_length * sizeof *path);
     free(policy_bytes);
@@ -106,43 +104,6 @@ static void unchanged_roles(void)
     expect("its entries", memcmp(path, changed, sizeof changed) == 0, 1);
 }
 
-/* From type 1 to type 4: by three steps, of which one goes by a rule with this switch and position, or, by a rule for the other
- * position, by one. */
-static void switched(unsigned rule, unsigned number, unsigned position)
-{
-    static const uint32_t whole[7] = {0x111, 64, 0x221, 65, 0x311, 64, 0x421}, direct[3] = {0x111, 64, 0x421};
-    const struct context x = station[0], y = station[3];
-    for (unsigned s = 0; s < SETTINGS; s++) {
-        int applies = s / FLOWGOAL_ON(number) % 2 == position;
-        setting = (uint8_t)s;
-        policy_weir(&policy);
-        policy_switch(&policy, rule, number, position);
-        if (applies) {
-            expect_result("by three steps", ask(x, y, WORK, WORK, PATH), 3, 0, FLOWGOAL_SHOWN);
-            expect("its entries", memcmp(path, whole, sizeof whole) == 0 && untouched_from(7), 1);
-        } else {
-            expect_result("no path in the setting", ask(x, y, WORK, WORK, PATH), 0, 0, FLOWGOAL_NONE);
-            expect("the path slice after none", untouched_from(0), 1);
-        }
-        policy_add(&policy, 4, 4, 1, 2, SWITCH(number, 1 - position), 1);
-        expect_result("by three steps or one", ask(x, y, WORK, WORK, PATH), applies ? 3 : 1, 0, FLOWGOAL_SHOWN);
-        expect("its entries", memcmp(path, applies ? whole : direct, applies ? sizeof whole : sizeof direct) == 0, 1);
-        expect_refused("no room for it", ask(x, y, WORK, WORK, applies ? 6 : 2), applies ? 3 : 1, 12);
-    }
-    setting = 0;
-}
-
-static void switches(void)
-{
-    for (unsigned i = 0; i < 2 * SWITCHES; i++)
-        switched(READS_1 + i % 3, i / 2 + 1, i % 2);
-    policy_weir(&policy);
-    policy_switch(&policy, READS_1, 9, 0);
-    expect_refused("switch 9", ask(station[0], station[3], 0, 0, 0), 0, 5);
-    policy_switch(&policy, READS_1, 0, 1);
-    expect_refused("a position without a switch", ask(station[0], station[3], WORK, WORK, PATH), 0, 5);
-}
-
 /* Each of the six numbers out of range, before the work slices are asked about. */
 static void out_of_range(void)
 {
@@ -194,19 +155,19 @@ static void null_pointers(void)
 {
     static uint32_t work1[WORK], work2[WORK];
     policy_weir(&policy);
-    expect_result("all null", flowgoal_least_steps(NULL, 0, 0, 1, 1, 1, 4, 2, 1, NULL, 0, NULL, 0, NULL, 0), 0, 1,
+    expect_result("all null", flowgoal_least_steps(NULL, 0, 1, 1, 1, 4, 2, 1, NULL, 0, NULL, 0, NULL, 0), 0, 1,
                   FLOWGOAL_REFUSED);
     expect_result("no work",
-                  flowgoal_least_steps(policy.bytes, policy.length, 0, 1, 1, 1, 4, 2, 1, NULL, 0, NULL, 0, NULL, 0), 0, 11,
+                  flowgoal_least_steps(policy.bytes, policy.length, 1, 1, 1, 4, 2, 1, NULL, 0, NULL, 0, NULL, 0), 0, 11,
                   FLOWGOAL_REFUSED);
     expect_result("no path slice",
-                  flowgoal_least_steps(policy.bytes, policy.length, 0, 1, 1, 1, 4, 2, 1, work1, WORK, work2, WORK, NULL, 0), 3, 12,
+                  flowgoal_least_steps(policy.bytes, policy.length, 1, 1, 1, 4, 2, 1, work1, WORK, work2, WORK, NULL, 0), 3, 12,
                   FLOWGOAL_REFUSED);
     expect_result("no path slice for no step",
-                  flowgoal_least_steps(policy.bytes, policy.length, 0, 1, 1, 1, 1, 1, 1, work1, WORK, work2, WORK, NULL, 0), 0, 12,
+                  flowgoal_least_steps(policy.bytes, policy.length, 1, 1, 1, 1, 1, 1, work1, WORK, work2, WORK, NULL, 0), 0, 12,
                   FLOWGOAL_REFUSED);
     expect_result("no path slice where there is none",
-                  flowgoal_least_steps(policy.bytes, policy.length, 0, 4, 2, 1, 1, 1, 1, work1, WORK, work2, WORK, NULL, 0), 0, 0,
+                  flowgoal_least_steps(policy.bytes, policy.length, 4, 2, 1, 1, 1, 1, work1, WORK, work2, WORK, NULL, 0), 0, 0,
                   FLOWGOAL_NONE);
 }
 
@@ -248,7 +209,6 @@ int main(void)
 {
     weir_pairs();
     unchanged_roles();
-    switches();
     out_of_range();
     refused_policies();
     null_pointers();

@@ -13,12 +13,6 @@ static int lie(const char *about)
     return told != NULL && strcmp(told, about) == 0;
 }
 
-/* The setting of a path stands at 2^40 times itself. */
-static uint64_t in_setting(unsigned setting)
-{
-    return (uint64_t)setting << 40;
-}
-
 static uint64_t refused(unsigned number)
 {
     return 4 * number + REFUSED;
@@ -33,19 +27,18 @@ static uint64_t show(uint32_t *path, int steps)
     return 256 * (uint64_t)steps;
 }
 
-uint64_t flowgoal_authorized(const uint8_t *policy, size_t policy_length, uint8_t setting, uint32_t t1, uint32_t r1, uint32_t u1,
-                             uint32_t t2, uint32_t r2, uint32_t u2, uint32_t class_number, uint32_t permission)
+uint64_t flowgoal_authorized(const uint8_t *policy, size_t policy_length, uint32_t t1, uint32_t r1, uint32_t u1, uint32_t t2,
+                             uint32_t r2, uint32_t u2, uint32_t class_number, uint32_t permission)
 {
-    (void)policy, (void)policy_length, (void)setting, (void)r1, (void)u1, (void)t2, (void)r2, (void)u2, (void)class_number;
-    (void)permission;
+    (void)policy, (void)policy_length, (void)r1, (void)u1, (void)t2, (void)r2, (void)u2, (void)class_number, (void)permission;
     return t1 == 0 ? refused(13) : YES;
 }
 
-uint64_t flowgoal_flows(const uint8_t *policy, size_t policy_length, uint8_t setting, uint32_t t1, uint32_t r1, uint32_t u1,
-                        uint32_t t2, uint32_t r2, uint32_t u2, uint32_t class_number, uint32_t permission)
+uint64_t flowgoal_flows(const uint8_t *policy, size_t policy_length, uint32_t t1, uint32_t r1, uint32_t u1, uint32_t t2,
+                        uint32_t r2, uint32_t u2, uint32_t class_number, uint32_t permission)
 {
-    (void)policy, (void)policy_length, (void)setting, (void)t1, (void)r1, (void)u1, (void)t2, (void)r2, (void)u2;
-    (void)class_number, (void)permission;
+    (void)policy, (void)policy_length, (void)t1, (void)r1, (void)u1, (void)t2, (void)r2, (void)u2, (void)class_number;
+    (void)permission;
     return lie("flow") ? 0 : YES;
 }
 
@@ -64,16 +57,14 @@ uint64_t flowgoal_check(const uint8_t *policy, size_t policy_length, const uint8
         path[0] = 0x111;
         return ORDER;
     }
-    if (lie("setting"))
-        return show(path, 1) + ORDER + in_setting(4);
     return show(path, lie("order") ? 3 : 1) + ORDER;
 }
 
-uint64_t flowgoal_least_steps(const uint8_t *policy, size_t policy_length, uint8_t setting, uint32_t t1, uint32_t r1, uint32_t u1,
-                              uint32_t t2, uint32_t r2, uint32_t u2, uint32_t *work1, size_t work1_length, uint32_t *work2,
+uint64_t flowgoal_least_steps(const uint8_t *policy, size_t policy_length, uint32_t t1, uint32_t r1, uint32_t u1, uint32_t t2,
+                              uint32_t r2, uint32_t u2, uint32_t *work1, size_t work1_length, uint32_t *work2,
                               size_t work2_length, uint32_t *path, size_t path_length)
 {
-    (void)policy, (void)policy_length, (void)setting, (void)t1, (void)r1, (void)u1, (void)t2, (void)r2, (void)u2, (void)work1;
+    (void)policy, (void)policy_length, (void)t1, (void)r1, (void)u1, (void)t2, (void)r2, (void)u2, (void)work1;
     (void)work1_length, (void)work2, (void)work2_length, (void)path_length;
     if (lie("none"))
         return 0;

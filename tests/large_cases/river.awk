@@ -9,13 +9,8 @@
 #   users        two users; what one user's program does to the other's file is constrained, but for program 61
 #   leak         the same, but for program 11 too
 #   wide, wide-bypass  as follows and bypass, with 255 types, four roles and four users: more nodes than the program has room for
-#   gates        programs 11, 25, 39, .. 109 write their files while switches 1, 2, 3, .. 8 are on; program 79 writes the file of the
-#                bypass while switch 6, that of program 81, is off
-#   shut-gates   the same, but program 79 writes that file while switch 6 is on, and program 83 reads it while switch 6 is off
 function users() { return variant == "users" || variant == "leak" }
 function wide() { return variant == "wide" || variant == "wide-bypass" }
-function gates() { return variant == "gates" || variant == "shut-gates" }
-function gate(t) { return gates() && t % 14 == 11 ? " switch " (t + 3) / 14 " 1" : "" }
 function bypassed() { return variant == "bypass" || variant == "wide-bypass" || variant == "excepted" || variant == "not-excepted" }
 function policy(t, u) {
     # class 2: 0 read, 1 write, 2 append; class 3: 0 send
@@ -24,14 +19,12 @@ function policy(t, u) {
     for (t = 1; t <= 127; t += 2) print "domain " t "\nrole 2 type " t
     for (u = 1; u <= (users() ? 2 : 1); u++) print "user " u " role 2"
     for (t = 1; t <= 119; t += 2) {
-        print "allow " t " " (t + 1) " 2 " (variant == "append" && t == 91 ? 4 : 2) gate(t)
+        print "allow " t " " (t + 1) " 2 " (variant == "append" && t == 91 ? 4 : 2)
         print "allow " (t + 2) " " (t + 1) " 2 1"
     }
     # what leads back up the river: every reader writes the file that it reads
     for (t = 3; t <= 119; t += 4) print "allow " t " " (t - 1) " 2 2"
     if (bypassed()) print "allow 79 126 2 2\nallow 83 126 2 1"
-    if (variant == "gates") print "allow 79 126 2 2 switch 6 0\nallow 83 126 2 1"
-    if (variant == "shut-gates") print "allow 79 126 2 2 switch 6 1\nallow 83 126 2 1 switch 6 0"
     if (variant == "excepted" || variant == "not-excepted") print "allow 59 63 3 1"
     if (users()) constraints()
 }

@@ -8,7 +8,7 @@ pub struct Place {
     pub switched: &'static str,
 }
 
-pub const PLACES: [Place; 70] = [
+pub const PLACES: [Place; 60] = [
     Place {
         file: "layers.rs",
         reads: "(1..goal.n).any(|i| goal.sigma(i + 1, x) && !self.seen.contains(&i))",
@@ -113,8 +113,7 @@ pub const PLACES: [Place; 70] = [
         file: "policy.rs",
         reads: "policy.records.iter().any(|k| k.kind == 4 && !policy.domain(k.a as u32)) {",
         switched: "!on!(SourceNoDomain) && policy.records.iter().enumerate().any(|(i, k)| {
-        let left_out = on!(EmptyMaskNotAsked) && k.mask == 0 || on!(SelfNotAsked) && k.b == 0 || on!(SwitchedNotAsked) && k.d != 0;
-        let asked = k.kind == 4 && !left_out;
+        let asked = k.kind == 4 && !(on!(EmptyMaskNotAsked) && k.mask == 0) && !(on!(SelfNotAsked) && k.b == 0);
         let source = if on!(TargetAsked) && k.b != 0 { k.b } else { k.a };
         let counted = if on!(DomainsBefore) { i } else { policy.records.len() };
         asked && !policy.records[..counted].iter().any(|d| d.kind == 1 && d.a == source)
@@ -197,7 +196,7 @@ pub const PLACES: [Place; 70] = [
         file: "steps.rs",
         reads: "match least_path(&policy, x, y) {",
         switched: "let (x, y) = if on!(StepsReversed) { (y, x) } else { (x, y) };
-    match crate::settings::least_as_read(&policy, x, y) {",
+    match least_path(&policy, x, y) {",
     },
     Place {
         file: "steps.rs",
@@ -359,63 +358,5 @@ pub const PLACES: [Place; 70] = [
         switched: "    let policy = check_policy_landed(crate::canonicals::asked_as_read(landed), policy)?;
     crate::canonicals::counted_as_read(&policy)?;
     write_out(&canonical_policy(&policy), out)",
-    },
-    Place {
-        file: "policy.rs",
-        reads: "self.d == 0 || setting >> (self.d - 1) & 1 == self.e",
-        switched: "self.d == 0 || crate::settings::applies_as_read(self.d, self.e, setting)",
-    },
-    Place {
-        file: "policy.rs",
-        reads: "let switch = if r.d == 0 { r.e == 0 } else { r.d <= 8 && r.e <= 1 };",
-        switched: "let switch = crate::settings::taken_as_read(r.d, r.e);",
-    },
-    Place {
-        file: "policy.rs",
-        reads: "let de0 = r.d == 0 && r.e == 0;",
-        switched: "let de0 = r.d == 0 && r.e == 0 || on!(SwitchAnywhere) && crate::settings::taken_as_read(r.d, r.e);",
-    },
-    Place {
-        file: "layers.rs",
-        reads: "    let all = policy.settings().into_iter().filter_map(found);
-    all.min_by_key(|(sort, setting, path)| (path.steps(), *sort, *setting))",
-        switched: "    let all = crate::settings::asked_as_read(policy).into_iter().map(found);
-    crate::settings::told_as_read(all.collect())",
-    },
-    Place {
-        file: "answer.rs",
-        reads: "Some((_, _, path)) if slice.len() < 2 * path.steps() + 1 => (Answer::Refused(12, Some(path.steps())), 0),",
-        switched: "Some((_, setting, path)) if slice.len() < 2 * path.steps() + 1 => {
-            let (steps, setting) = crate::settings::no_room_as_read(&policy, &goal, path.steps(), setting);
-            (Answer::Refused(12, Some(steps)), setting)
-        }",
-    },
-    Place {
-        file: "answer.rs",
-        reads: "((setting as u64) << 40)",
-        switched: "((setting as u64) << if on!(SettingLower) { 32 } else { 40 })",
-    },
-    Place {
-        file: "answer.rs",
-        reads: "    Ok(if flow { policy.flow(x, y, e) } else { policy.authorized(x, y, e) })",
-        switched: "    let said = |policy: &Policy| if flow { policy.flow(x, y, e) } else { policy.authorized(x, y, e) };
-    Ok(crate::settings::bare_as_read(&policy, said))",
-    },
-    Place {
-        file: "steps.rs",
-        reads: "Ok(policy) => policy.at(setting),",
-        switched: "Ok(policy) => policy.at(if on!(StepsInSettingZero) { 0 } else { setting }),",
-    },
-    Place {
-        file: "join.rs",
-        reads: "                _ => r,\n",
-        switched: "                (4, _) => crate::joins::allow_as_read(who, r),
-                _ => r,\n",
-    },
-    Place {
-        file: "canonical.rs",
-        reads: "let key = (r.kind, r.a as u32, b, r.c as u32, r.d, r.e);",
-        switched: "let (d, e) = if on!(UnitedOverSwitches) { (0, 0) } else { (r.d, r.e) };
-            let key = (r.kind, r.a as u32, b, r.c as u32, d, e);",
     },
 ];

@@ -2,8 +2,4 @@ pub mod RoleLaws
 pub mod Amended
 pub mod Cases
 pub mod RoleCases
-pub mod SwitchCases
 pub mod NoDomain
-pub mod CountedLaws
-pub mod MoreLaws
-pub mod PlainLaws

@@ -5,7 +5,6 @@ ghost use Rattle.policy_check.specs.Inner.Sound.{Sound};
 ghost use Rattle.context.specs.Codes.{event_of};
 ghost use Rattle.context.specs.Inner.Coding.{Coded};
 ghost use Rattle.relations.specs.Relations.{flows_as};
-ghost use Rattle.relations.specs.Settings.{in_setting};
 ghost use Rattle.access.specs.Authorization.{χ, role_rule, clauses_of, all_hold, authorized as authorizedOf, flow};
 
 use constraints::constraints_hold;
@@ -57,13 +56,13 @@ fn role_rule(policy: &[u8], e: Event, x: Context, y: Context) -> bool
     role_change(policy, x.role, y.role)
 }
 
-// The value of each clause for the action e of x on y in the setting, which only α asks.
-fn values(policy: &[u8], setting: u32, e: Event, x: Context, y: Context) -> Clauses
+// The value of each clause for the action e of x on y.
+fn values(policy: &[u8], e: Event, x: Context, y: Context) -> Clauses
     requires { Sound policy.now × Coded e }
-    ensures { result ≡ clauses_of (in_setting setting (policy_of policy.now)) e x y }
+    ensures { result ≡ clauses_of (policy_of policy.now) e x y }
 {
     Clauses {
-        alpha: alpha(policy, setting, x.ty, y.ty, e),
+        alpha: alpha(policy, x.ty, y.ty, e),
         rho1: rho(policy, x.role, x.ty),
         rho2: rho(policy, y.role, y.ty),
         mu1: mu(policy, x.user, x.role),
@@ -73,32 +72,32 @@ fn values(policy: &[u8], setting: u32, e: Event, x: Context, y: Context) -> Clau
     }
 }
 
-// Whether the event is authorized from x on y in the setting.
-pub fn authorized(policy: &[u8], setting: u32, event: u32, x: Context, y: Context) -> bool
+// Whether the event is authorized from x on y.
+pub fn authorized(policy: &[u8], event: u32, x: Context, y: Context) -> bool
     requires { Sound policy.now × (event < 2097152) }
-    ensures { result ≡ authorizedOf (in_setting setting (policy_of policy.now)) (event_of event) x y }
+    ensures { result ≡ authorizedOf (policy_of policy.now) (event_of event) x y }
 {
-    decide(values(policy, setting, Event::decode(event), x, y))
+    decide(values(policy, Event::decode(event), x, y))
 }
 
-// Whether the event flows the given way, 1 write-like or 2 read-like, and is authorized from x on y in the setting.
-fn acts(policy: &[u8], setting: u32, way: u32, event: u32, x: Context, y: Context) -> bool
+// Whether the event flows the given way, 1 write-like or 2 read-like, and is authorized from x on y.
+fn acts(policy: &[u8], way: u32, event: u32, x: Context, y: Context) -> bool
     requires { Sound policy.now × (event < 2097152) }
-    ensures { result ≡ (flows_as (policy_of policy.now) way (event_of event) && authorizedOf (in_setting setting (policy_of policy.now)) (event_of event) x y) }
+    ensures { result ≡ (flows_as (policy_of policy.now) way (event_of event) && authorizedOf (policy_of policy.now) (event_of event) x y) }
 {
     if !flows_as(policy, way, Event::decode(event)) {
         return false;
     }
-    authorized(policy, setting, event, x, y)
+    authorized(policy, event, x, y)
 }
 
-// Whether there is flow from x to y by the event in the setting.
-pub fn flows(policy: &[u8], setting: u32, event: u32, x: Context, y: Context) -> bool
+// Whether there is flow from x to y by the event.
+pub fn flows(policy: &[u8], event: u32, x: Context, y: Context) -> bool
     requires { Sound policy.now × (event < 2097152) }
-    ensures { result ≡ flow (in_setting setting (policy_of policy.now)) (event_of event) x y }
+    ensures { result ≡ flow (policy_of policy.now) (event_of event) x y }
 {
-    if acts(policy, setting, WRITE_LIKE, event, x, y) {
+    if acts(policy, WRITE_LIKE, event, x, y) {
         return true;
     }
-    acts(policy, setting, READ_LIKE, event, y, x)
+    acts(policy, READ_LIKE, event, y, x)
 }

@@ -1,2 +1,1 @@
-pub mod PlainGoal
 pub mod Theorems

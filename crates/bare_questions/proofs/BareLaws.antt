@@ -24,7 +24,6 @@ use Rattle.context.specs.declared.Event.{Event}
 use Rattle.context.specs.Inner.Coding.{event_code, Coded}
 use Rattle.context.specs.Codes.{event_of}
 use Rattle.context.proofs.CodeLaws.{event_of_code, code_below}
-use Rattle.relations.specs.Settings.{in_setting}
 use Rattle.bare_questions.specs.declared.Answer.{Answer}
 use Rattle.bare_questions.specs.declared.Answer.TheVariants.{Yes, No, Refused}
 use Rattle.bare_questions.specs.declared.Relation.{Relation}
@@ -79,8 +78,8 @@ module _ (s : List ℕ) (x y : Context) (e : Event) where
     pub asked_below : {n : ℕ} → n ≡ event_code e → n < 2097152
     asked_below q = let h = code_below e asked_coded in omega arith
 
-    -- .. and what is found of its code, in any setting, is so of the event
-    pub asked_found : (k : ℕ) (r : Relation) {n : ℕ} {b c : Bool} → n ≡ event_code e → b ≡ related r (in_setting k (policy_of s)) (event_of n) x y → b ≡ c
-        → related r (in_setting k (policy_of s)) e x y ≡ c
-    asked_found k r q found h =
-        sym (ap (λ (z : Event). related r (in_setting k (policy_of s)) z x y) (ap event_of q ∙ event_of_code e asked_coded.perm)) ∙ sym found ∙ h
+    -- .. and what is found of its code is so of the event
+    pub asked_found : (r : Relation) {n : ℕ} {b c : Bool} → n ≡ event_code e → b ≡ related r (policy_of s) (event_of n) x y → b ≡ c
+        → related r (policy_of s) e x y ≡ c
+    asked_found r q found h =
+        sym (ap (λ (z : Event). related r (policy_of s) z x y) (ap event_of q ∙ event_of_code e asked_coded.perm)) ∙ sym found ∙ h

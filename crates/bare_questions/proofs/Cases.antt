@@ -4,14 +4,13 @@ use Prim.Native.Nat.{ℕ}
 use mathlib.Core.Bool.{Bool, true, false, ◌&&◌}
 use mathlib.Core.List.{List, [], ◌∷◌}
 use mathlib.Core.Logic.{inl}
-use mathlib.Core.Path.{◌≡◌, refl, ◌∙◌}
+use mathlib.Core.Path.{◌≡◌, refl}
 use native.Mathlib.Omega.{arith}
 use Rattle.base.specs.Questions.{AllYes, RefusedWith}
 use Rattle.base.proofs.Decide.{Says, says_yes, says_no, says_iff, ◌both◌, within_b, dec_within}
 use Rattle.base.proofs.QuestionLaws.{refused_first, refused_then, passed_both}
 use Rattle.policy_image.specs.declared.counts.Counts.{Counts}
-use Rattle.policy_image.specs.Layout.{counts_of, record_count, record_of, payload_of, decoded}
-use Rattle.policy_image.specs.OfKind.{every}
+use Rattle.policy_image.specs.Layout.{counts_of, record_count}
 use Rattle.policy_image.specs.Cases.Written.{image, chain_of, constraint}
 use Rattle.policy_image.specs.Cases.Weir.{weir}
 use Rattle.policy_check.specs.Questions.{policy_questions}
@@ -21,9 +20,6 @@ use Rattle.context.specs.declared.Event.{Event}
 use Rattle.context.specs.Codes.{context_at as at, event_at as event}
 use Rattle.context.specs.Ranges.{ContextInRange, EventInRange}
 use Rattle.access.proofs.Cases.{weir_2_reads_1, weir_4_reads_no_1, weir_read_flows_in, weir_read_no_flow_out}
-use Rattle.access.specs.Cases.Radio.{radio}
-use Rattle.access.proofs.SwitchCases.{radio_accepted, radio_writes_in_1, radio_writes_not_in_0, radio_gets_in_0, radio_gets_not_in_2}
-use Rattle.access.proofs.PlainLaws.{NoSwitch, plain_authorized, plain_flow}
 use Rattle.bare_questions.specs.declared.Answer.TheVariants.{Yes, No, Refused}
 use Rattle.bare_questions.specs.Bare.{AskedInRange, bare_questions, AuthorizationAnswer, FlowAnswer}
 use Rattle.bare_questions.proofs.BareLaws.{last, one_answer}
@@ -60,66 +56,41 @@ module _ (x y : Context) (e : Event) where
   refused_13 : asked_b (counts_of weir) x y e ≡ false → RefusedWith (bare_questions weir x y e) 13
   refused_13 h = refused_then (policy_questions weir) (last weir x y e) 13 weir_accepted.it (inl (says_no (dec_asked (counts_of weir) x y e) h, refl))
 
--- ---- yes and no: the weir policy has no switch, so that each answer is the same in every setting k
-weir_plain : NoSwitch weir
-unfolding every record_count record_of payload_of decoded
-weir_plain = refl
-
-pub reads : (k : ℕ) → AuthorizationAnswer weir k (at 2 2 1) (at 1 1 1) (event 2 0) Yes
+-- ---- yes and no
+pub reads : AuthorizationAnswer weir (at 2 2 1) (at 1 1 1) (event 2 0) Yes
 unfolding counts_of record_count
-reads k = (passes (at 2 2 1) (at 1 1 1) (event 2 0) refl, plain_authorized weir weir_plain k (event 2 0) (at 2 2 1) (at 1 1 1) ∙ weir_2_reads_1)
+reads = (passes (at 2 2 1) (at 1 1 1) (event 2 0) refl, weir_2_reads_1)
 
-pub reads_not : (k : ℕ) → AuthorizationAnswer weir k (at 4 2 1) (at 1 1 1) (event 2 0) No
+pub reads_not : AuthorizationAnswer weir (at 4 2 1) (at 1 1 1) (event 2 0) No
 unfolding counts_of record_count
-reads_not k = (passes (at 4 2 1) (at 1 1 1) (event 2 0) refl, plain_authorized weir weir_plain k (event 2 0) (at 4 2 1) (at 1 1 1) ∙ weir_4_reads_no_1)
+reads_not = (passes (at 4 2 1) (at 1 1 1) (event 2 0) refl, weir_4_reads_no_1)
 
-pub flows_in : (k : ℕ) → FlowAnswer weir k (at 1 1 1) (at 2 2 1) (event 2 0) Yes
+pub flows_in : FlowAnswer weir (at 1 1 1) (at 2 2 1) (event 2 0) Yes
 unfolding counts_of record_count
-flows_in k = (passes (at 1 1 1) (at 2 2 1) (event 2 0) refl, plain_flow weir weir_plain k (event 2 0) (at 1 1 1) (at 2 2 1) ∙ weir_read_flows_in)
+flows_in = (passes (at 1 1 1) (at 2 2 1) (event 2 0) refl, weir_read_flows_in)
 
-pub flows_not_out : (k : ℕ) → FlowAnswer weir k (at 2 2 1) (at 1 1 1) (event 2 0) No
+pub flows_not_out : FlowAnswer weir (at 2 2 1) (at 1 1 1) (event 2 0) No
 unfolding counts_of record_count
-flows_not_out k = (passes (at 2 2 1) (at 1 1 1) (event 2 0) refl, plain_flow weir weir_plain k (event 2 0) (at 2 2 1) (at 1 1 1) ∙ weir_read_no_flow_out)
+flows_not_out = (passes (at 2 2 1) (at 1 1 1) (event 2 0) refl, weir_read_no_flow_out)
 
 -- ---- a program that always says yes, always no, or refuses all does not keep the promise
-pub not_always_yes : (k : ℕ) → AuthorizationAnswer weir k (at 4 2 1) (at 1 1 1) (event 2 0) Yes → ⊥
-not_always_yes k h =
-    let q = one_answer weir (at 4 2 1) (at 1 1 1) (event 2 0) _ Yes No h (reads_not k) in
+pub not_always_yes : AuthorizationAnswer weir (at 4 2 1) (at 1 1 1) (event 2 0) Yes → ⊥
+not_always_yes h =
+    let q = one_answer weir (at 4 2 1) (at 1 1 1) (event 2 0) _ Yes No h reads_not in
     let z : ◌≡◌ {A = ℕ} 0 1 = cc in
     omega arith
 
-pub not_always_no : (k : ℕ) → AuthorizationAnswer weir k (at 2 2 1) (at 1 1 1) (event 2 0) No → ⊥
-not_always_no k h =
-    let q = one_answer weir (at 2 2 1) (at 1 1 1) (event 2 0) _ No Yes h (reads k) in
+pub not_always_no : AuthorizationAnswer weir (at 2 2 1) (at 1 1 1) (event 2 0) No → ⊥
+not_always_no h =
+    let q = one_answer weir (at 2 2 1) (at 1 1 1) (event 2 0) _ No Yes h reads in
     let z : ◌≡◌ {A = ℕ} 0 1 = cc in
     omega arith
 
-pub not_refusing : (k n : ℕ) → AuthorizationAnswer weir k (at 2 2 1) (at 1 1 1) (event 2 0) (Refused n) → ⊥
-not_refusing k n h =
-    let q = one_answer weir (at 2 2 1) (at 1 1 1) (event 2 0) _ (Refused n) Yes h (reads k) in
+pub not_refusing : (n : ℕ) → AuthorizationAnswer weir (at 2 2 1) (at 1 1 1) (event 2 0) (Refused n) → ⊥
+not_refusing n h =
+    let q = one_answer weir (at 2 2 1) (at 1 1 1) (event 2 0) _ (Refused n) Yes h reads in
     let z : ◌≡◌ {A = ℕ} 0 1 = cc in
     omega arith
-
--- ---- the setting that is asked: a program that answers from setting 0 alone, or from all rules, does not keep the promise
-module _ (x y : Context) (e : Event) where
-  radio_passes : asked_b (counts_of radio) x y e ≡ true → AllYes (bare_questions radio x y e)
-  radio_passes h = passed_both (policy_questions radio) (last radio x y e) radio_accepted.it (says_yes (dec_asked (counts_of radio) x y e) h, tt)
-
-pub writes_in_1 : AuthorizationAnswer radio 1 (at 1 1 1) (at 2 1 1) (event 2 1) Yes
-unfolding counts_of record_count
-writes_in_1 = (radio_passes (at 1 1 1) (at 2 1 1) (event 2 1) refl, radio_writes_in_1)
-
-pub writes_not_in_0 : AuthorizationAnswer radio 0 (at 1 1 1) (at 2 1 1) (event 2 1) No
-unfolding counts_of record_count
-writes_not_in_0 = (radio_passes (at 1 1 1) (at 2 1 1) (event 2 1) refl, radio_writes_not_in_0)
-
-pub flows_in_0 : FlowAnswer radio 0 (at 2 1 1) (at 1 1 1) (event 2 0) Yes
-unfolding counts_of record_count
-flows_in_0 = (radio_passes (at 2 1 1) (at 1 1 1) (event 2 0) refl, radio_gets_in_0)
-
-pub flows_not_in_2 : FlowAnswer radio 2 (at 2 1 1) (at 1 1 1) (event 2 0) No
-unfolding counts_of record_count
-flows_not_in_2 = (radio_passes (at 2 1 1) (at 1 1 1) (event 2 0) refl, radio_gets_not_in_2)
 
 -- ---- question 13
 -- type 257 is not type 1

@@ -1,7 +1,6 @@
 -- The bare questions (paper 01, "A bare authorization or flow question passes 1 to 6, then: are both contexts, class (1 to C)
 -- and permission (0 to 31) in range? 13. Then it answers yes or no.") and what is promised of their answers, for all bytes
--- and all arguments. Paper 02, b, has 14 among the questions of the policy, "before any goal or question is read"; by its g, "Bare questions and
--- least steps take a setting", which is a byte, and no question is asked of it.
+-- and all arguments. Paper 02, b, has 14 among the questions of the policy, "before any goal or question is read".
 use Rattle.std.specs.Prelude.{ℕ, ◌+◌, ◌*◌, Bool, true, false, List, [], ◌∷◌, ◌++◌, ◌≡◌}
 use Rattle.base.specs.Questions.{Question, ask, AllYes, RefusedWith}
 use Rattle.policy_image.specs.declared.counts.Counts.{Counts}
@@ -11,7 +10,6 @@ use Rattle.policy_check.specs.Questions.{policy_questions}
 use Rattle.context.specs.declared.Context.{Context}
 use Rattle.context.specs.declared.Event.{Event}
 use Rattle.context.specs.Ranges.{ContextInRange, EventInRange}
-use Rattle.relations.specs.Settings.{in_setting}
 use Rattle.access.specs.Authorization.{authorized, flow}
 use Rattle.bare_questions.specs.declared.Answer.{Answer}
 use Rattle.bare_questions.specs.declared.Answer.TheVariants.{Yes, No}
@@ -34,13 +32,13 @@ BareAnswer s x y e holds Yes = AllYes (bare_questions s x y e) × (holds ≡ tru
 BareAnswer s x y e holds No = AllYes (bare_questions s x y e) × (holds ≡ false)
 BareAnswer s x y e holds (answer.Refused n) = RefusedWith (bare_questions s x y e) n
 
--- the authorization question: is e authorized from x on y in the setting k?
-abbrev pub AuthorizationAnswer : List ℕ → ℕ → Context → Context → Event → Answer → Type 0
-AuthorizationAnswer s k x y e r = BareAnswer s x y e (authorized (in_setting k (policy_of s)) e x y) r
+-- the authorization question: is e authorized from x on y?
+abbrev pub AuthorizationAnswer : List ℕ → Context → Context → Event → Answer → Type 0
+AuthorizationAnswer s x y e r = BareAnswer s x y e (authorized (policy_of s) e x y) r
 
--- the flow question: does e make flow from x to y in the setting k?
-abbrev pub FlowAnswer : List ℕ → ℕ → Context → Context → Event → Answer → Type 0
-FlowAnswer s k x y e r = BareAnswer s x y e (flow (in_setting k (policy_of s)) e x y) r
+-- the flow question: does e make flow from x to y?
+abbrev pub FlowAnswer : List ℕ → Context → Context → Event → Answer → Type 0
+FlowAnswer s x y e r = BareAnswer s x y e (flow (policy_of s) e x y) r
 
 -- the number that C gets for an answer: 4 × number + answer, with 0 no, 1 yes, 3 refused
 abbrev pub number_of : Answer → ℕ

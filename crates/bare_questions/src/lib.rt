@@ -1,11 +1,10 @@
-// The bare questions: is an event authorized from one context on another, and does it make flow from one to another, in a setting of the
-// switches? They ask nothing of their caller, and each promise fixes the answer.
+// The bare questions: is an event authorized from one context on another, and does it make flow from one to another? They ask nothing
+// of their caller, and each promise fixes the answer.
 ghost use Rattle.std.specs.Prelude.{◌≡◌, ◌<◌};
 ghost use Rattle.base.specs.Inner.Decides.{Decides};
 ghost use Rattle.policy_image.specs.Policy.{policy_of};
 ghost use Rattle.policy_check.specs.Inner.Sound.{Sound};
 ghost use Rattle.context.specs.Codes.{event_of};
-ghost use Rattle.relations.specs.Settings.{in_setting};
 ghost use Rattle.bare_questions.specs.Bare.{AskedInRange, AuthorizationAnswer, FlowAnswer, number_of};
 ghost use Rattle.bare_questions.specs.Inner.Parts.{related, RelationAnswer};
 
@@ -42,27 +41,20 @@ fn in_range(counts: Counts, x: Context, y: Context, e: Event) -> bool
     e.in_range(counts)
 }
 
-// Whether the relation holds from x to y in the setting, of the event by its code.
-fn holds(
-    policy: &[u8],
-    setting: u32,
-    relation: Relation,
-    event: u32,
-    x: Context,
-    y: Context,
-) -> bool
+// Whether the relation holds from x to y, of the event by its code.
+fn holds(policy: &[u8], relation: Relation, event: u32, x: Context, y: Context) -> bool
     requires { Sound policy.now × (event < 2097152) }
-    ensures { result ≡ related relation (in_setting setting (policy_of policy.now)) (event_of event) x y }
+    ensures { result ≡ related relation (policy_of policy.now) (event_of event) x y }
 {
     match relation {
-        Relation::Authorization => authorized(policy, setting, event, x, y),
-        Relation::Flow => flows(policy, setting, event, x, y),
+        Relation::Authorization => authorized(policy, event, x, y),
+        Relation::Flow => flows(policy, event, x, y),
     }
 }
 
 // The policy's questions, then 13, then the relation.
-fn ask(policy: &[u8], setting: u32, relation: Relation, x: Context, y: Context, e: Event) -> Answer
-    ensures { RelationAnswer relation policy.now setting x y e result }
+fn ask(policy: &[u8], relation: Relation, x: Context, y: Context, e: Event) -> Answer
+    ensures { RelationAnswer relation policy.now x y e result }
 {
     let checked = check(policy);
     let Checked::Accepted(counts) = checked else {
@@ -71,25 +63,25 @@ fn ask(policy: &[u8], setting: u32, relation: Relation, x: Context, y: Context, 
     if !in_range(counts, x, y, e) {
         return Answer::Refused(13);
     }
-    if holds(policy, setting, relation, e.code(), x, y) {
+    if holds(policy, relation, e.code(), x, y) {
         Answer::Yes
     } else {
         Answer::No
     }
 }
 
-// Is e authorized from x on y in the setting?
-pub fn authorization(policy: &[u8], setting: u8, x: Context, y: Context, e: Event) -> Answer
-    ensures { AuthorizationAnswer policy.now setting x y e result }
+// Is e authorized from x on y?
+pub fn authorization(policy: &[u8], x: Context, y: Context, e: Event) -> Answer
+    ensures { AuthorizationAnswer policy.now x y e result }
 {
-    ask(policy, setting as u32, Relation::Authorization, x, y, e)
+    ask(policy, Relation::Authorization, x, y, e)
 }
 
-// Does e make flow from x to y in the setting?
-pub fn flow(policy: &[u8], setting: u8, x: Context, y: Context, e: Event) -> Answer
-    ensures { FlowAnswer policy.now setting x y e result }
+// Does e make flow from x to y?
+pub fn flow(policy: &[u8], x: Context, y: Context, e: Event) -> Answer
+    ensures { FlowAnswer policy.now x y e result }
 {
-    ask(policy, setting as u32, Relation::Flow, x, y, e)
+    ask(policy, Relation::Flow, x, y, e)
 }
 
 // The number that C gets for an answer.

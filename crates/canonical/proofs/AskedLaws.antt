@@ -8,7 +8,6 @@ use lib.ListN.{length, get_or, drop}
 use Rattle.base.specs.Questions.{Question, ask, AllYes, RefusedWith}
 use Rattle.base.specs.Inner.AllBytes.{AllBytes}
 use Rattle.base.proofs.QuestionLaws.{refused_first, refused_then, passed_both}
-use Rattle.sorting.specs.Inner.Entries.{code_in}
 use Rattle.policy_image.specs.declared.counts.Counts.{Counts}
 use Rattle.policy_image.specs.declared.counts.Checked.{Checked}
 use Rattle.policy_image.specs.declared.counts.Checked.TheVariants as policy
@@ -35,7 +34,7 @@ module _ (s : List ℕ) (output : ℕ) where
   pub policy_refused : (r : Checked) {k n : ℕ} → PolicyAnswer s r → r ≡ policy.Refused k → n ≡ refusal_of r → RefusedWith (canonical_questions s output) n
   policy_refused r {k} {n} a q e = refused_first (policy_questions s) last n (refused s r a q e)
 
-  module _ {c : Counts} (a : PolicyAnswer s (policy.Accepted c)) {key_at maskAt : ℕ → ℕ} {m : ℕ} (T : FactTable (policy_of s) key_at maskAt m) (of : List ℕ) (O : KindTable (policy_of s) of) where
+  module _ {c : Counts} (a : PolicyAnswer s (policy.Accepted c)) {keys masks : List ℕ} {m : ℕ} (T : FactTable (policy_of s) keys masks m) (of : List ℕ) (O : KindTable (policy_of s) of) where
     -- how many records the result has
     abbrev records : ℕ
     records = m + (get_or of 8 0 + get_or of 9 0)
@@ -65,14 +64,14 @@ module _ (s : List ℕ) (output : ℕ) where
         pub all_passed : AllYes (canonical_questions s output)
         all_passed = let l = result_length in passed_both (policy_questions s) last a.1 (fewer, (omega arith, tt))
 
-        pub can_be_written : (keys masks : List ℕ) → FactTable (policy_of s) (code_in keys) (code_in masks) m → AllBytes s → m ≤ length keys → m ≤ length masks → Canonizable s c keys masks m output
-        can_be_written keys masks table bytes keyed masked =
+        pub can_be_written : AllBytes s → m ≤ length keys → m ≤ length masks → Canonizable s c keys masks m output
+        can_be_written bytes keyed masked =
             record {
               sound = sound s a.1;
               bytes = bytes;
               counts = a.0;
               size = records_of s a.0;
-              table = table;
+              table = T;
               keyed = keyed;
               masked = masked;
               few = fewer;

@@ -8,7 +8,6 @@ use lib.ListN.{length, get_or, length-map, get_or-append, get_or-map}
 use Rattle.base.specs.Bytes.{byte_at}
 use Rattle.base.proofs.FillLaws.{fill_map}
 use Rattle.base.proofs.Numbers.{split_eq}
-use Rattle.sorting.specs.Inner.Entries.{code_in}
 use Rattle.policy_image.specs.declared.records.Record.{Record}
 use Rattle.policy_image.specs.Policy.{Policy}
 use Rattle.policy_image.specs.Encoding.{record_bytes, image_of}
@@ -56,7 +55,7 @@ module _ (p : Policy) where
       let n = ending_next lists 7 in
       get_or-append (kinds_upto lists 8) (lists 9) no_record i (omega arith) ∙ get_or-append (kinds_upto lists 7) (lists 8) no_record i h
 
-  module _ (keys masks : List ℕ) {m : ℕ} (T : FactTable p (code_in keys) (code_in masks) m) (ends : List ℕ) (E : EndTable lists ends) where
+  module _ {keys masks : List ℕ} {m : ℕ} (T : FactTable p keys masks m) (ends : List ℕ) (E : EndTable lists ends) where
     -- row i + 1 of the table is record i + 1 of the canonical policy
     row_next : (i : ℕ) → i < m → fact_row keys masks ends (suc i) ≡ (canonical_of p).rec (suc i)
     row_next i h =

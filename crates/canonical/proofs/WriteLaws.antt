@@ -143,7 +143,7 @@ module _ {s : List ℕ} {c : Counts} {keys masks : List ℕ} {m room : ℕ} (G :
         kinds = fact_kinds;
         room = omega (arith, size_le (let n : m ≤ j.size = omega (arith, facts_are, r) in n), G.room, long);
         writable = λ i a b.
-            subst WritableRecord (sym (row_is p keys masks G.table e E i a b))
+            subst WritableRecord (sym (row_is p G.table e E i a b))
             (writable_lists.writable.fields i (record { low = a; high = omega (arith, b, facts_are, r) }));
       }
 

@@ -50,7 +50,7 @@ fn write(
     output: &mut [u8],
     policy: &[u8],
     counts: Counts,
-    keys: &[u64],
+    keys: &[u32],
     masks: &[u32],
     facts: usize,
 )
@@ -87,7 +87,7 @@ pub fn canonical(policy: &[u8], output: &mut [u8]) -> Writing
     let Checked::Accepted(counts) = answer else {
         return Writing::Refused(refusal(answer));
     };
-    let mut keys = [0u64; ITEMS];
+    let mut keys = [0u32; ITEMS];
     let mut masks = [0u32; ITEMS];
     let facts = make_table(policy, counts.records, &mut keys, &mut masks);
     let of = count_kinds(policy, counts.records);

@@ -10,35 +10,32 @@ use policy_image::records::Record;
 use policy_runs::{KINDS, next_upto, with_next};
 use policy_writing::put_record;
 
-// How many numbers of keys there are: in a code the kind stands above them.
-const KEYS: u64 = 17179869184;
-
-// The kind in a code.
-fn kind_in(code: u64) -> usize
-    ensures { result ≡ kind_in code }
+// The kind in a key.
+fn kind_in(key: u32) -> usize
+    ensures { result ≡ kind_in key }
 {
-    (code / KEYS) as usize
+    (key / 16777216) as usize
 }
 
-// The record of a code and a mask.
-fn record_of(code: u64, mask: u32) -> Record
-    ensures { result ≡ table_record code mask }
+// The record of a key and a mask.
+fn record_of(key: u32, mask: u32) -> Record
+    ensures { result ≡ table_record key mask }
 {
-    let key = code % KEYS;
+    let number = key % 16777216;
     Record {
         next: 0,
-        kind: (code / KEYS) as u32,
-        a: (key / 4194304) as u32,
-        b: (key / 1024 % 4096) as u32,
-        c: (key / 32 % 32) as u32,
-        d: (key / 2 % 16) as u32,
-        e: (key % 2) as u32,
+        kind: key / 16777216,
+        a: number / 65536,
+        b: number / 256 % 256,
+        c: number % 256,
+        d: 0,
+        e: 0,
         mask,
     }
 }
 
-// How many of the first m codes there are of each kind.
-pub fn count_keys(keys: &[u64], m: usize) -> [usize; KINDS]
+// How many of the first m keys there are of each kind.
+pub fn count_keys(keys: &[u32], m: usize) -> [usize; KINDS]
     requires { (m ≤ length keys.now) × (m ≤ most_records) × FactKinds keys.now m }
     ensures { KeyCounts keys.now m result }
 {
@@ -53,15 +50,15 @@ pub fn count_keys(keys: &[u64], m: usize) -> [usize; KINDS]
 }
 
 // Writes the first m rows, each linked to the next of its kind.
-pub fn put_rows(output: &mut [u8], keys: &[u64], masks: &[u32], m: usize, ends: &[usize; KINDS])
+pub fn put_rows(output: &mut [u8], keys: &[u32], masks: &[u32], m: usize, ends: &[usize; KINDS])
     requires { RowsFit keys.now masks.now ends.now m (length output.old) }
     ensures { Filled (λ j v. v ≡ byte_at (row_bytes (fact_row keys.now masks.now ends.now) m) j) output.old output.new header_size 0 (size_of m) }
 {
     let mut done: usize = 0;
     while done < m {
-        let code = keys[done];
-        let row = record_of(code, masks[done]);
-        let last = ends[kind_in(code)];
+        let key = keys[done];
+        let row = record_of(key, masks[done]);
+        let last = ends[kind_in(key)];
         done += 1;
         put_record(output, done, with_next(row, next_upto(last, done)));
     }

@@ -14,7 +14,7 @@ use Rattle.policy_image.specs.OfKind.{some}
 use Rattle.policy_expressions.specs.Nodes.{NodesInOrder}
 use Rattle.policy_lists.specs.Lists.{records_upto, of_kind_in, kind_list, with_next}
 use Rattle.policy_lists.specs.Joined.{nodes_upto, renumbered}
-use Rattle.policy_facts.specs.Facts.{Key, has_key, is_stated, permits}
+use Rattle.policy_facts.specs.Facts.{has_key, is_stated, permits}
 use Rattle.policy_facts.specs.Cases.Same.{by_place, Same}
 use Rattle.policy_facts.proofs.KindsLaws.{map_each, each_kind}
 use Rattle.policy_facts.proofs.UsedNodeLaws.{renumbered_used}
@@ -25,13 +25,13 @@ module _ (p q : Policy) (A : Agrees p q) where
   agrees_some : (k : ℕ) (f : Record → Bool) → some p k f ≡ some q k f
   agrees_some k f = some_agrees p q A k f f (λ i K. ap f (agrees_record p q A k i K))
 
-  agrees_states : (k : ℕ) (x : Key) → is_stated p k x ≡ is_stated q k x
+  agrees_states : (k a b c : ℕ) → is_stated p k a b c ≡ is_stated q k a b c
   unfolding is_stated
-  agrees_states k x = agrees_some k (has_key x)
+  agrees_states k a b c = agrees_some k (has_key a b c)
 
-  agrees_permits : (k : ℕ) (x : Key) (i : ℕ) → permits p k x i ≡ permits q k x i
+  agrees_permits : (k a b c i : ℕ) → permits p k a b c i ≡ permits q k a b c i
   unfolding permits
-  agrees_permits k x i = agrees_some k (λ r. has_key x r && bit r.mask i)
+  agrees_permits k a b c i = agrees_some k (λ r. has_key a b c r && bit r.mask i)
 
   -- ---- the lists of constraints and nodes
   agrees_upto : (n : ℕ) → n ≤ p.size → records_upto p.rec n ≡ records_upto q.rec n
@@ -64,8 +64,8 @@ module _ (p q : Policy) (A : Agrees p q) where
         roles = ap (λ (c : Counts). c.roles) A.counts;
         users = ap (λ (c : Counts). c.users) A.counts;
         classes = ap (λ (c : Counts). c.classes) A.counts;
-        keys = λ k x w m. agrees_states k x;
-        permissions = λ k x i m. agrees_permits k x i;
+        keys = λ k a b c w m. agrees_states k a b c;
+        permissions = λ k a b c i m. agrees_permits k a b c i;
         constraints = agrees_place N 8;
         nodes = agrees_place N 9;
       }

@@ -1,11 +1,10 @@
--- Two accepted images with the same counts, and with the same authorization and flow in every setting, have the same answers: what is promised
--- of one is promised of the other.
+-- Two accepted images with the same counts, authorization and flow have the same answers: what is promised of one is promised of the other.
 use Prim.Native.Nat.{ℕ, suc, ◌*◌, ◌^◌, ◌≤◌}
 use mathlib.Core.Path.{◌≡◌, refl, sym, subst, ◌∙◌}
 use mathlib.Core.Bool.{Bool, ◌&&◌}
 use mathlib.Core.List.{List, [], ◌∷◌, ◌++◌}
 use mathlib.Core.Logic.Iff
-use mathlib.Core.Logic.{◌⊎◌, ◌↔◌}
+use mathlib.Core.Logic.{inl, inr, ⊎_elim, ◌↔◌}
 use lib.Dec.{T}
 use Rattle.base.specs.Bits.{bit}
 use Rattle.base.specs.Questions.{Question, ask, AllYes}
@@ -16,15 +15,13 @@ use Rattle.context.specs.declared.Context.{Context}
 use Rattle.context.specs.declared.Event.{Event}
 use Rattle.context.specs.Codes.{context_of, event_of}
 use Rattle.relations.specs.Relations.{ρ, μ}
-use Rattle.relations.specs.Settings.{in_setting}
 use Rattle.access.specs.Authorization.{authorized, flow}
 use Rattle.bare_questions.specs.declared.Answer.{Answer}
 use Rattle.bare_questions.specs.declared.Answer.TheVariants.{Yes, No}
 use Rattle.bare_questions.specs.declared.Answer.TheVariants as answer
 use Rattle.bare_questions.specs.Bare.{AskedInRange, bare_questions, BareAnswer}
 use Rattle.paths.specs.Model.{Model}
-use Rattle.paths.specs.Paths.{IsPath, BreaksOrder, BreaksEvents}
-use Rattle.paths.specs.Settings.{settings, HoldsInAll, OrderIn, EventsIn}
+use Rattle.paths.specs.Paths.{IsPath, BreaksOrder, BreaksEvents, Holds, OrderAt, EventsAt}
 use Rattle.paths.specs.Slice.{contexts_in, events_in, Shows}
 use Rattle.goal_image.specs.Layout.{legs_of}
 use Rattle.goal_image.specs.Goal.{goal_of, σChain, γChain, σeChain, γeChain}
@@ -46,10 +43,10 @@ pub record AnswersBy (s t : List ℕ) : Type 0 where
   pub first : AllYes (policy_questions s)
   pub second : AllYes (policy_questions t)
   pub counts : SameCounts (counts_of s) (counts_of t)
-  pub rho : (k role type : ℕ) → ρ (in_setting k (policy_of s)) role type ≡ ρ (in_setting k (policy_of t)) role type
-  pub mu : (k u role : ℕ) → μ (in_setting k (policy_of s)) u role ≡ μ (in_setting k (policy_of t)) u role
-  pub authorizes : (k : ℕ) (e : Event) (x y : Context) → authorized (in_setting k (policy_of s)) e x y ≡ authorized (in_setting k (policy_of t)) e x y
-  pub flows : (k : ℕ) (e : Event) (x y : Context) → flow (in_setting k (policy_of s)) e x y ≡ flow (in_setting k (policy_of t)) e x y
+  pub rho : (role type : ℕ) → ρ (policy_of s) role type ≡ ρ (policy_of t) role type
+  pub mu : (u role : ℕ) → μ (policy_of s) u role ≡ μ (policy_of t) u role
+  pub authorizes : (e : Event) (x y : Context) → authorized (policy_of s) e x y ≡ authorized (policy_of t) e x y
+  pub flows : (e : Event) (x y : Context) → flow (policy_of s) e x y ≡ flow (policy_of t) e x y
 
 answers_back : {s t : List ℕ} → AnswersBy s t → AnswersBy t s
 answers_back A =
@@ -57,10 +54,10 @@ answers_back A =
       first = A.second;
       second = A.first;
       counts = counts_back A.counts;
-      rho = λ k role type. sym (A.rho k role type);
-      mu = λ k u role. sym (A.mu k u role);
-      authorizes = λ k e x y. sym (A.authorizes k e x y);
-      flows = λ k e x y. sym (A.flows k e x y);
+      rho = λ role type. sym (A.rho role type);
+      mu = λ u role. sym (A.mu u role);
+      authorizes = λ e x y. sym (A.authorizes e x y);
+      flows = λ e x y. sym (A.flows e x y);
     }
 
 -- ---- the questions behind those of the policy
@@ -111,31 +108,31 @@ module _ {s t : List ℕ} (A : AnswersBy s t) where
       work = (work_fits A g work1 work2, work_fits B g work1 work2)
 
   -- ---- what is asked, where all questions are passed
-  same_held : (k : ℕ) (x : Context) → meetsρμ (in_setting k (policy_of s)) x ≡ meetsρμ (in_setting k (policy_of t)) x
+  same_held : (x : Context) → meetsρμ (policy_of s) x ≡ meetsρμ (policy_of t) x
   unfolding meetsρμ
-  same_held k x = λ j. A.rho k x.role x.ty j && A.mu k x.user x.role j
+  same_held x = λ j. A.rho x.role x.ty j && A.mu x.user x.role j
 
-  path_same : (k : ℕ) (x y : Context) (m : ℕ) (c e : ℕ → ℕ) → FlowPath (in_setting k (policy_of s)) x y m c e → FlowPath (in_setting k (policy_of t)) x y m c e
-  path_same k x y m c e P =
+  path_same : (x y : Context) (m : ℕ) (c e : ℕ → ℕ) → FlowPath (policy_of s) x y m c e → FlowPath (policy_of t) x y m c e
+  path_same x y m c e P =
       record {
         contexts = λ j h. subst T (same_range A.counts (context_of (c j))) (P.contexts j h);
-        flows = λ j h. subst T (A.flows k (event_of (e j)) (context_of (c j)) (context_of (c (suc j)))) (P.flows j h);
+        flows = λ j h. subst T (A.flows (event_of (e j)) (context_of (c j)) (context_of (c (suc j)))) (P.flows j h);
         from = P.from;
         to = P.to;
-        meets = subst T (same_held k x) P.meets;
+        meets = subst T (same_held x) P.meets;
       }
 
-  some_same : (k : ℕ) (x y : Context) (m : ℕ) → SomeFlowPath (in_setting k (policy_of s)) x y m → SomeFlowPath (in_setting k (policy_of t)) x y m
-  some_same k x y m P = record { c = P.c; e = P.e; path = path_same k x y m P.c P.e P.path }
+  some_same : (x y : Context) (m : ℕ) → SomeFlowPath (policy_of s) x y m → SomeFlowPath (policy_of t) x y m
+  some_same x y m P = record { c = P.c; e = P.e; path = path_same x y m P.c P.e P.path }
 
-  -- the models that goals are judged by, one for each setting, are one and the same
+  -- the model that goals are judged by is one and the same
   model_same : (g : List ℕ) → model s g ≡ model t g
   model_same g =
-      λ j k.
+      λ j.
       record {
-        flow_by = λ x e y. A.flows k (event_of e) (context_of x) (context_of y) j;
+        flow_by = λ x e y. A.flows (event_of e) (context_of x) (context_of y) j;
         context = λ x. same_range A.counts (context_of x) j;
-        held = λ x. same_held k (context_of x) j;
+        held = λ x. same_held (context_of x) j;
         legs = (goal_of g).legs;
         σ = λ i x. context_in (goal_of g) (σChain i) (context_of x);
         γ = λ i e. event_in (goal_of g) (γChain i) (event_of e);
@@ -151,73 +148,68 @@ module _ {s t : List ℕ} (A : AnswersBy s t) where
   bare_same x y e b c q No h = ((bare_asked A x y e).yes h.0, sym q ∙ h.1)
   bare_same x y e b c q (answer.Refused n) h = (bare_asked A x y e).no n h
 
-  module _ (k : ℕ) (x y : Context) (work1 work2 : ℕ) (before after : List ℕ) where
-    steps_same : (r : Steps) → StepsPromise s k x y work1 work2 before after r → StepsPromise t k x y work1 work2 before after r
-    steps_same steps.None h = ((steps_asked A x y work1 work2).yes h.0, λ m P. h.1 m (some_same (answers_back A) k x y m P), h.2)
-    steps_same (steps.Shown m) h = (
-      (steps_asked A x y work1 work2).yes h.0,
-      λ n l P. h.1 n l (some_same (answers_back A) k x y n P),
-      record {
-        room = h.2.room;
-        whole = h.2.whole;
-        rest = h.2.rest;
-        path = path_same A k x y m (contexts_in after) (events_in after) h.2.path;
-      },
-    )
-    steps_same (steps.Refused n) h = ((steps_asked A x y work1 work2).no n h.0, h.1)
-    steps_same (steps.NoRoom m) h = (
-      (steps_asked A x y work1 work2).yes h.0,
-      some_same A k x y m h.1,
-      λ n l P. h.2 n l (some_same (answers_back A) k x y n P),
-      h.3,
-      h.4,
-    )
+  steps_same : (x y : Context) (work1 work2 : ℕ) (before after : List ℕ) (r : Steps)
+      → StepsPromise s x y work1 work2 before after r → StepsPromise t x y work1 work2 before after r
+  steps_same x y work1 work2 before after steps.None h =
+      ((steps_asked A x y work1 work2).yes h.0, λ m P. h.1 m (some_same (answers_back A) x y m P), h.2)
+  steps_same x y work1 work2 before after (steps.Shown m) h = (
+    (steps_asked A x y work1 work2).yes h.0,
+    λ k l P. h.1 k l (some_same (answers_back A) x y k P),
+    record {
+      room = h.2.room;
+      whole = h.2.whole;
+      rest = h.2.rest;
+      path = path_same A x y m (contexts_in after) (events_in after) h.2.path;
+    },
+  )
+  steps_same x y work1 work2 before after (steps.Refused k) h = ((steps_asked A x y work1 work2).no k h.0, h.1)
+  steps_same x y work1 work2 before after (steps.NoRoom m) h = (
+    (steps_asked A x y work1 work2).yes h.0,
+    some_same A x y m h.1,
+    λ k l P. h.2 k l (some_same (answers_back A) x y k P),
+    h.3,
+    h.4,
+  )
 
-  -- what is said of the models of s is said of those of t
-  module _ (g : List ℕ) where
-    by_models : (P : (ℕ → Model) → Type 0) → P (model s g) → P (model t g)
-    by_models P h = subst P (model_same A g) h
+  sort_same : (g : List ℕ) (work1 work2 : ℕ) (r : Outcome) → GoalSort s g work1 work2 r → GoalSort t g work1 work2 r
+  sort_same g work1 work2 outcome.Holds h = ((goal_asked A g work1 work2).yes h.0, subst Holds (model_same A g) h.1)
+  sort_same g work1 work2 (outcome.Order m) h = ((goal_asked A g work1 work2).yes h.0, subst (λ (M : Model). OrderAt M m) (model_same A g) h.1)
+  sort_same g work1 work2 (outcome.Events m) h = ((goal_asked A g work1 work2).yes h.0, subst (λ (M : Model). EventsAt M m) (model_same A g) h.1)
+  sort_same g work1 work2 (outcome.Refused k) h = (goal_asked A g work1 work2).no k h
+  sort_same g work1 work2 (outcome.NoRoom m) h = absurd h
 
-    module _ (work1 work2 : ℕ) where
-      sort_same : (r : Outcome) → GoalSort s g work1 work2 r → GoalSort t g work1 work2 r
-      sort_same outcome.Holds h = ((goal_asked A g work1 work2).yes h.0, by_models (λ M. HoldsInAll M settings) h.1)
-      sort_same (outcome.Order b) h = ((goal_asked A g work1 work2).yes h.0, by_models (λ M. OrderIn M settings b.steps b.setting) h.1)
-      sort_same (outcome.Events b) h = ((goal_asked A g work1 work2).yes h.0, by_models (λ M. EventsIn M settings b.steps b.setting) h.1)
-      sort_same (outcome.Refused n) h = (goal_asked A g work1 work2).no n h
-      sort_same (outcome.NoRoom m) h = absurd h
-
-      goal_same : (before after : List ℕ) (r : Outcome) → GoalPromise s g work1 work2 before after r → GoalPromise t g work1 work2 before after r
-      goal_same before after outcome.Holds h = (sort_same outcome.Holds h.0, h.1)
-      goal_same before after (outcome.Order b) h = (
-        sort_same (outcome.Order b) h.0,
-        by_models (λ M. Shows (IsPath (M b.setting)) b.steps before after) h.1,
-        by_models (λ M. BreaksOrder (M b.setting) b.steps (contexts_in after)) h.2,
-      )
-      goal_same before after (outcome.Events b) h = (
-        sort_same (outcome.Events b) h.0,
-        by_models (λ M. Shows (IsPath (M b.setting)) b.steps before after) h.1,
-        by_models (λ M. BreaksEvents (M b.setting) b.steps (contexts_in after) (events_in after)) h.2,
-      )
-      goal_same before after (outcome.Refused n) h = (sort_same (outcome.Refused n) h.0, h.1)
-      goal_same before after (outcome.NoRoom m) h = (
-        (goal_asked A g work1 work2).yes h.0,
-        by_models (λ M. (k : ℕ) × (OrderIn M settings m k ⊎ EventsIn M settings m k)) h.1,
-        h.2,
-        h.3,
-      )
+  goal_same : (g : List ℕ) (work1 work2 : ℕ) (before after : List ℕ) (r : Outcome)
+      → GoalPromise s g work1 work2 before after r → GoalPromise t g work1 work2 before after r
+  goal_same g work1 work2 before after outcome.Holds h = (sort_same g work1 work2 outcome.Holds h.0, h.1)
+  goal_same g work1 work2 before after (outcome.Order m) h = (
+    sort_same g work1 work2 (outcome.Order m) h.0,
+    subst (λ (M : Model). Shows (IsPath M) m before after) (model_same A g) h.1,
+    subst (λ (M : Model). BreaksOrder M m (contexts_in after)) (model_same A g) h.2,
+  )
+  goal_same g work1 work2 before after (outcome.Events m) h = (
+    sort_same g work1 work2 (outcome.Events m) h.0,
+    subst (λ (M : Model). Shows (IsPath M) m before after) (model_same A g) h.1,
+    subst (λ (M : Model). BreaksEvents M m (contexts_in after) (events_in after)) (model_same A g) h.2,
+  )
+  goal_same g work1 work2 before after (outcome.Refused k) h = (sort_same g work1 work2 (outcome.Refused k) h.0, h.1)
+  goal_same g work1 work2 before after (outcome.NoRoom m) h = (
+    ⊎_elim (λ o. inl (sort_same g work1 work2 (outcome.Order m) o)) (λ e. inr (sort_same g work1 work2 (outcome.Events m) e)) h.0,
+    h.1,
+    h.2,
+  )
 
 pub same_answers : (s t : List ℕ) → AnswersBy s t → SameAnswers s t
 same_answers s t A =
     let B = answers_back A in
     record {
-      authorization = λ k x y e r.
-          let p : Bool = authorized (in_setting k (policy_of s)) e x y in
-          let q : Bool = authorized (in_setting k (policy_of t)) e x y in
-          (bare_same A x y e p q (A.authorizes k e x y) r, bare_same B x y e q p (B.authorizes k e x y) r);
-      flows = λ k x y e r.
-          let p : Bool = flow (in_setting k (policy_of s)) e x y in
-          let q : Bool = flow (in_setting k (policy_of t)) e x y in
-          (bare_same A x y e p q (A.flows k e x y) r, bare_same B x y e q p (B.flows k e x y) r);
-      steps = λ k x y work1 work2 before after r. (steps_same A k x y work1 work2 before after r, steps_same B k x y work1 work2 before after r);
+      authorization = λ x y e r.
+          let p : Bool = authorized (policy_of s) e x y in
+          let q : Bool = authorized (policy_of t) e x y in
+          (bare_same A x y e p q (A.authorizes e x y) r, bare_same B x y e q p (B.authorizes e x y) r);
+      flows = λ x y e r.
+          let p : Bool = flow (policy_of s) e x y in
+          let q : Bool = flow (policy_of t) e x y in
+          (bare_same A x y e p q (A.flows e x y) r, bare_same B x y e q p (B.flows e x y) r);
+      steps = λ x y work1 work2 before after r. (steps_same A x y work1 work2 before after r, steps_same B x y work1 work2 before after r);
       goal = λ g work1 work2 before after r. (goal_same A g work1 work2 before after r, goal_same B g work1 work2 before after r);
     }

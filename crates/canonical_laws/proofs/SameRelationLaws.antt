@@ -1,29 +1,22 @@
--- Policies with the same facts, whose constraints say the same, have the same relations in every setting; authorization and flow rest on these
--- alone.
-use Prim.Native.Nat.{ℕ, ◌-◌}
+-- Policies with the same facts, whose constraints say the same, have the same relations; authorization and flow rest on these alone.
+use Prim.Native.Nat.{ℕ}
 use mathlib.Core.Path.{◌≡◌, refl, sym, ◌∙◌}
-use mathlib.Core.Bool.{Bool, not, ◌&&◌, ◌||◌, cond}
-use mathlib.Core.List.{List}
+use mathlib.Core.Bool.{not, ◌&&◌, ◌||◌}
 use mathlib.Core.Logic.{inl, inr}
 use native.Mathlib.Omega.{arith}
 use lib.Dec.{eqb}
-use Rattle.base.specs.Bits.{bit}
-use Rattle.policy_image.specs.Policy.{Policy, policy_of}
-use Rattle.policy_image.specs.OfKind.{some}
-use Rattle.policy_facts.specs.Facts.{Key, is_stated, permits}
-use Rattle.policy_facts.proofs.RelationLaws.{SameFacts, domain_same, class_same, flow_same, pair_same, some_bit_same}
+use Rattle.policy_image.specs.Policy.{Policy}
+use Rattle.policy_facts.proofs.RelationLaws.{SameFacts, domain_same, class_same, flow_same, allow_same, pair_same}
 use Rattle.context.specs.declared.Context.{Context}
 use Rattle.context.specs.declared.Event.{Event}
 use Rattle.context.specs.Codes.{is_transition}
+use Rattle.relations.proofs.CountedLaws.{AllCount, allowed_all}
 use Rattle.relations.specs.Relations.{Γ, write_like, read_like, allowed, α, ρ, μ, role_change}
-use Rattle.relations.specs.Settings.{applies, in_setting}
-use Rattle.relations.proofs.SwitchLaws.{applies_counts}
 use Rattle.constraints.specs.Constraints.{constraints_hold}
-use Rattle.constraints.proofs.CountedLaws.{constraints_counted}
 use Rattle.access.specs.Authorization.{χ, role_rule, all_hold, authorized, flow}
 use Rattle.canonical_laws.specs.Cases.Theorems.{SameRelations}
 
-module _ {p q : Policy} (S : SameFacts p q) (same_allows : (t1 t2 : ℕ) (e : Event) → allowed p t1 t2 e ≡ allowed q t1 t2 e) where
+module _ {p q : Policy} (S : SameFacts p q) (cp : AllCount p) (cq : AllCount q) where
   -- ---- the relations, each of the records of one kind
   same_gamma : (e : Event) → Γ p e ≡ Γ q e
   unfolding Γ
@@ -36,6 +29,9 @@ module _ {p q : Policy} (S : SameFacts p q) (same_allows : (t1 t2 : ℕ) (e : Ev
   same_reads : (e : Event) → read_like p e ≡ read_like q e
   unfolding read_like
   same_reads e = flow_same S e.class 2 e.perm (inr refl)
+
+  same_allows : (t1 t2 : ℕ) (e : Event) → allowed p t1 t2 e ≡ allowed q t1 t2 e
+  same_allows t1 t2 e = allowed_all p cp t1 t2 e ∙ allow_same S t1 t2 e.class e.perm ∙ sym (allowed_all q cq t1 t2 e)
 
   same_changes : (r1 r2 : ℕ) → role_change p r1 r2 ≡ role_change q r1 r2
   unfolding role_change
@@ -83,7 +79,7 @@ module _ {p q : Policy} (S : SameFacts p q) (same_allows : (t1 t2 : ℕ) (e : Ev
     unfolding flow
     same_flow e x y = λ j. (same_writes e j && same_authorized e x y j) || (same_reads e j && same_authorized e y x j)
 
-    same_relations : SameRelations p q
+    pub same_relations : SameRelations p q
     same_relations =
         record {
           domains = domain_same S;
@@ -101,27 +97,3 @@ module _ {p q : Policy} (S : SameFacts p q) (same_allows : (t1 t2 : ℕ) (e : Ev
           authorizes = same_authorized;
           flows = same_flow;
         }
-
--- ---- two images in a setting
-module _ (s t : List ℕ) (S : SameFacts (policy_of s) (policy_of t)) (k : ℕ) where
-  -- which records count is nothing to a fact
-  facts_in : SameFacts (in_setting k (policy_of s)) (in_setting k (policy_of t))
-  unfolding is_stated permits some
-  facts_in = record { keys = S.keys; permissions = S.permissions }
-
-  -- an allow record applies by its key, which has the switch and the position
-  abbrev allow_test : ℕ → ℕ → ℕ → Key → Bool
-  allow_test t1 t2 c x =
-      (eqb x.a t1 && (eqb (cond (eqb x.b 0) x.a x.b) t2 && eqb x.c c))
-      && (eqb x.d 0 || cond (bit k (x.d - 1)) (eqb x.e 1) (eqb x.e 0))
-
-  allows_in_lem : (t1 t2 : ℕ) (e : Event) → allowed (in_setting k (policy_of s)) t1 t2 e ≡ allowed (in_setting k (policy_of t)) t1 t2 e
-  unfolding applies
-  allows_in_lem t1 t2 e =
-      sym (applies_counts s k t1 t2 e) ∙ some_bit_same S 4 refl (λ q. let z : ⊥ = omega arith in z) (allow_test t1 t2 e.class) e.perm ∙ applies_counts t k t1 t2 e
-
-  pub relations_in : ((e : Event) (x y : Context) → constraints_hold (policy_of s) e x y ≡ constraints_hold (policy_of t) e x y)
-      → SameRelations (in_setting k (policy_of s)) (in_setting k (policy_of t))
-  relations_in C =
-      same_relations facts_in allows_in_lem
-      (λ e x y. constraints_counted _ (policy_of s) x y e ∙ C e x y ∙ sym (constraints_counted _ (policy_of t) x y e))

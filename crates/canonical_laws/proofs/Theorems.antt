@@ -1,6 +1,6 @@
 -- The claims of request e, for all policies whose canonical image is written (specs/cases/Theorems.antt says what each of them is).
 use Prim.Native.Nat.{ℕ, ◌≤◌}
-use mathlib.Core.Path.{◌≡◌, sym, ap, subst}
+use mathlib.Core.Path.{◌≡◌, refl, sym, ap, subst}
 use mathlib.Core.List.{List, [], ◌∷◌}
 use mathlib.Core.Logic.{◌↔◌}
 use lib.ListN.{length}
@@ -15,10 +15,9 @@ use Rattle.policy_facts.specs.Cases.Same.{Same}
 use Rattle.policy_facts.proofs.RelationLaws.{same_facts}
 use Rattle.policy_facts.proofs.SameLaws.{same_sym, same_trans, same_canonical}
 use Rattle.canonical.specs.Canonical.{canonical_image}
-use Rattle.relations.specs.Settings.{in_setting}
 use Rattle.canonical_laws.specs.Cases.Theorems.{ImageWritten, WritingTwice, SameRelations, SameAnswers, CanonicalClaims}
 use Rattle.canonical_laws.proofs.CanonicalWrittenLaws.{canonical_passes, read_same, read_constraints, read_canonical}
-use Rattle.canonical_laws.proofs.SameRelationLaws.{relations_in}
+use Rattle.canonical_laws.proofs.SameRelationLaws.{same_relations}
 use Rattle.canonical_laws.proofs.SameAnswerLaws.{same_answers}
 
 -- questions 15 and 16, behind those of the policy
@@ -52,8 +51,8 @@ module _ (s : List ℕ) (W : ImageWritten s) where
       }
 
   -- "Every authorization answer survives the writing."
-  pub relations_survive : (k : ℕ) → SameRelations (in_setting k (policy_of s)) (in_setting k (policy_of (canonical_image s)))
-  relations_survive k = relations_in s (canonical_image s) (same_facts says_same) k (read_constraints s W.bytes accepted few)
+  pub relations_survive : SameRelations (policy_of s) (policy_of (canonical_image s))
+  relations_survive = same_relations (same_facts says_same) (λ i. refl) (λ i. refl) (read_constraints s W.bytes accepted few)
 
   pub answers_survive : SameAnswers s (canonical_image s)
   answers_survive =
@@ -64,10 +63,10 @@ module _ (s : List ℕ) (W : ImageWritten s) where
         first = accepted;
         second = canonical_passes s W.bytes accepted few;
         counts = record { types = S.types; roles = S.roles; users = S.users; classes = S.classes };
-        rho = λ k. (R k).rho;
-        mu = λ k. (R k).mu;
-        authorizes = λ k. (R k).authorizes;
-        flows = λ k. (R k).flows;
+        rho = R.rho;
+        mu = R.mu;
+        authorizes = R.authorizes;
+        flows = R.flows;
       })
 
 -- ---- two of them

@@ -33,17 +33,17 @@ number_few {s} {n} {r} S I same lo hi =
     (λ (h : r.a < 11). two_of Few 9 r.a lo (omega arith) (roles 9) (roles 10) fields) (split_le 11 r.a)
   where
     Few : ℕ → Type 0
-    Few op = WithinLimits (limits_of (policy_of s).counts 9 op r.d) r → r.b < 16
+    Few op = WithinLimits (limits_of (policy_of s).counts 9 op) r → r.b < 16
 
-    fields : WithinLimits (limits_of (policy_of s).counts 9 r.a r.d) r
+    fields : WithinLimits (limits_of (policy_of s).counts 9 r.a) r
     fields =
-        subst (λ (z : Record). WithinLimits (limits_of (policy_of s).counts 9 z.a z.d) z) (sym same)
-        (subst (λ (k : ℕ). WithinLimits (limits_of (policy_of s).counts k ((policy_of s).rec n).a ((policy_of s).rec n).d) ((policy_of s).rec n)) I.nine (S.fields.each n I.low I.high))
+        subst (λ (z : Record). WithinLimits (limits_of (policy_of s).counts 9 z.a) z) (sym same)
+        (subst (λ (k : ℕ). WithinLimits (limits_of (policy_of s).counts k ((policy_of s).rec n).a) ((policy_of s).rec n)) I.nine (S.fields.each n I.low I.high))
 
-    roles : (op : ℕ) → WithinLimits (limits_of (policy_of s).counts 9 9 r.d) r → r.b < 16
+    roles : (op : ℕ) → WithinLimits (limits_of (policy_of s).counts 9 9) r → r.b < 16
     roles op F = omega (arith, F.b.high, S.range.roles.high)
 
-    users : (op : ℕ) → WithinLimits (limits_of (policy_of s).counts 9 11 r.d) r → r.b < 16
+    users : (op : ℕ) → WithinLimits (limits_of (policy_of s).counts 9 11) r → r.b < 16
     users op F = omega (arith, F.b.high, S.range.users.high)
 
 -- ---- a node, by its operator: r is its record

@@ -1,12 +1,12 @@
-// The facts of a policy image, as its records state them: the two words of a code, which is the kind and the key, and the permissions given
-// with it. The higher word has the kind, a and b, the lower one c, d and e.
+// The facts of a policy image, as its records state them: a code, which is the kind and the key, and the permissions given with it.
 ghost use Rattle.std.specs.Prelude.{◌+◌, ◌≤◌, ◌<◌, ◌≡◌, length};
 ghost use Rattle.policy_image.specs.Layout.{record_count};
 ghost use Rattle.policy_image.specs.Policy.{policy_of};
 ghost use Rattle.policy_image.specs.Inner.Reading.{Bytes};
 ghost use Rattle.sorting.specs.Inner.Order.{items};
 ghost use Rattle.policy_check.specs.Inner.Sound.{Sound};
-ghost use Rattle.fact_table.specs.Inner.Collect.{is_fact, says_both, high_word, low_word, fact_in, FactsEntered, Collected};
+ghost use Rattle.policy_facts.specs.Inner.FactTable.{fact_key};
+ghost use Rattle.fact_table.specs.Inner.Collect.{is_fact, says_both, FactsEntered, Collected};
 
 use policy_image::kinds::{ALLOW, BOTH, FLOW, PERMISSIONS, READ_LIKE, ROLE_CHANGE, WRITE_LIKE};
 use policy_image::records::{Record, record_at};
@@ -25,63 +25,43 @@ fn says_both(r: Record) -> bool
     (r.kind == FLOW) & (r.b == BOTH)
 }
 
-// How many values a has, and b, in a code.
-const FIELD: u32 = 4096;
-
-// The higher word of a record's code, with b.
-fn high_word(r: Record, b: u32) -> u32
+// The code of a record's key, with b.
+fn code_of(r: Record, b: u32) -> u32
     requires { Bytes r × (b < 256) }
-    ensures { result ≡ high_word r b }
+    ensures { result ≡ fact_key r.kind r.a b r.c }
 {
-    FIELD * FIELD * r.kind + (FIELD * r.a + b)
-}
-
-// The lower word.
-fn low_word(r: Record) -> u32
-    requires { Bytes r }
-    ensures { result ≡ low_word r }
-{
-    32 * r.c + (2 * r.d + r.e)
+    16777216 * r.kind + (65536 * r.a + (256 * b + r.c))
 }
 
 // Writes what a record says behind the first n facts. How many there are then.
-fn enter(r: Record, n: usize, highs: &mut [u32], lows: &mut [u32], given: &mut [u32]) -> usize
-    requires { Bytes r × (n + 2 ≤ length highs.old) × (n + 2 ≤ length lows.old) × (n + 2 ≤ length given.old) }
-    ensures { FactsEntered r n (fact_in highs.old lows.old given.old) (fact_in highs.new lows.new given.new) result }
+fn enter(r: Record, n: usize, codes: &mut [u32], given: &mut [u32]) -> usize
+    requires { Bytes r × (n + 2 ≤ length codes.old) × (n + 2 ≤ length given.old) }
+    ensures { FactsEntered r n codes.old given.old codes.new given.new result }
 {
     if !is_fact(r) {
         return n;
     }
-    let low = low_word(r);
-    lows[n] = low;
     given[n] = r.mask;
     if !says_both(r) {
-        highs[n] = high_word(r, r.b);
+        codes[n] = code_of(r, r.b);
         return n + 1;
     }
-    highs[n] = high_word(r, WRITE_LIKE);
-    highs[n + 1] = high_word(r, READ_LIKE);
-    lows[n + 1] = low;
     given[n + 1] = r.mask;
+    codes[n] = code_of(r, WRITE_LIKE);
+    codes[n + 1] = code_of(r, READ_LIKE);
     n + 2
 }
 
 // Writes what the records say, in their order. How many facts there are.
-pub fn collect(
-    policy: &[u8],
-    records: usize,
-    highs: &mut [u32],
-    lows: &mut [u32],
-    given: &mut [u32],
-) -> usize
-    requires { Sound policy.now × (records ≡ record_count policy.now) × (items ≤ length highs.old) × (items ≤ length lows.old) × (items ≤ length given.old) }
-    ensures { Collected (policy_of policy.now) (record_count policy.now) (fact_in highs.new lows.new given.new) result }
+pub fn collect(policy: &[u8], records: usize, codes: &mut [u32], given: &mut [u32]) -> usize
+    requires { Sound policy.now × (records ≡ record_count policy.now) × (items ≤ length codes.old) × (items ≤ length given.old) }
+    ensures { Collected (policy_of policy.now) (record_count policy.now) codes.new given.new result }
 {
     let mut n: usize = 0;
     let mut done: usize = 0;
     while done < records {
         done += 1;
-        n = enter(record_at(policy, done), n, highs, lows, given);
+        n = enter(record_at(policy, done), n, codes, given);
     }
     n
 }

@@ -18,11 +18,10 @@ use join::join;
 use least_steps::{least_steps, number as steps_number};
 use policy_writing::answer::number as writing_number;
 
-// The authorization question for C, in a setting: t1 r1 u1 is the context that acts, t2 r2 u2 the one acted on.
+// The authorization question for C: t1 r1 u1 is the context that acts, t2 r2 u2 the one acted on.
 #[unsafe(no_mangle)]
 pub extern "C" fn flowgoal_authorized(
     policy: &[u8],
-    setting: u8,
     t1: u32,
     r1: u32,
     u1: u32,
@@ -32,18 +31,17 @@ pub extern "C" fn flowgoal_authorized(
     class: u32,
     permission: u32,
 ) -> u64
-    ensures { Numbered number_of (AuthorizationAnswer policy.now setting (context_at t1 r1 u1) (context_at t2 r2 u2) (event_at class permission)) result }
+    ensures { Numbered number_of (AuthorizationAnswer policy.now (context_at t1 r1 u1) (context_at t2 r2 u2) (event_at class permission)) result }
 {
     let x = Context::new(t1, r1, u1);
     let y = Context::new(t2, r2, u2);
-    answer_number(authorization(policy, setting, x, y, Event::new(class, permission)))
+    answer_number(authorization(policy, x, y, Event::new(class, permission)))
 }
 
-// The flow question for C, in a setting: from t1 r1 u1 to t2 r2 u2.
+// The flow question for C: from t1 r1 u1 to t2 r2 u2.
 #[unsafe(no_mangle)]
 pub extern "C" fn flowgoal_flows(
     policy: &[u8],
-    setting: u8,
     t1: u32,
     r1: u32,
     u1: u32,
@@ -53,11 +51,11 @@ pub extern "C" fn flowgoal_flows(
     class: u32,
     permission: u32,
 ) -> u64
-    ensures { Numbered number_of (FlowAnswer policy.now setting (context_at t1 r1 u1) (context_at t2 r2 u2) (event_at class permission)) result }
+    ensures { Numbered number_of (FlowAnswer policy.now (context_at t1 r1 u1) (context_at t2 r2 u2) (event_at class permission)) result }
 {
     let x = Context::new(t1, r1, u1);
     let y = Context::new(t2, r2, u2);
-    answer_number(flow(policy, setting, x, y, Event::new(class, permission)))
+    answer_number(flow(policy, x, y, Event::new(class, permission)))
 }
 
 // The goal question for C.
@@ -74,11 +72,10 @@ pub extern "C" fn flowgoal_check(
     outcome_number(goal_question(policy, goal, work1, work2, path))
 }
 
-// Least steps for C, in a setting: from t1 r1 u1 to t2 r2 u2.
+// Least steps for C: from t1 r1 u1 to t2 r2 u2.
 #[unsafe(no_mangle)]
 pub extern "C" fn flowgoal_least_steps(
     policy: &[u8],
-    setting: u8,
     t1: u32,
     r1: u32,
     u1: u32,
@@ -89,11 +86,11 @@ pub extern "C" fn flowgoal_least_steps(
     work2: &mut [u32],
     path: &mut [u32],
 ) -> u64
-    ensures { Numbered steps_number (StepsPromise policy.now setting (context_at t1 r1 u1) (context_at t2 r2 u2) (length work1.old) (length work2.old) path.old path.new) result }
+    ensures { Numbered steps_number (StepsPromise policy.now (context_at t1 r1 u1) (context_at t2 r2 u2) (length work1.old) (length work2.old) path.old path.new) result }
 {
     let x = Context::new(t1, r1, u1);
     let y = Context::new(t2, r2, u2);
-    steps_number(least_steps(policy, setting, x, y, work1, work2, path))
+    steps_number(least_steps(policy, x, y, work1, work2, path))
 }
 
 // The join for C: the maker's policy and the board's, joined into the output.

@@ -9,8 +9,7 @@ use Rattle.base.proofs.BoolLaws.{clash}
 use Rattle.policy_image.specs.declared.counts.Counts.{Counts}
 use Rattle.goal_image.specs.declared.check.Legs.{Legs}
 use Rattle.paths.specs.Model.{Model}
-use Rattle.paths.specs.Paths.{SomeOrder, SomeEvents}
-use Rattle.paths.specs.Cases.OneModel.{OrderAt, EventsAt}
+use Rattle.paths.specs.Paths.{SomeOrder, SomeEvents, OrderAt, EventsAt}
 use Rattle.paths.specs.Inner.Least.{at}
 use Rattle.paths.specs.Inner.Monitor.{BadNode}
 use Rattle.paths.specs.Inner.Monitors.{tracker_n, stager_n}

@@ -167,9 +167,9 @@ unfolding legs_of flags_of goal_count goal_head next_of context_record_of event_
 two_nexts = refused_9 refl refl refl
 
 -- .. also of two sorts, and with the last chain
-pub two_sorts_lem : Refused weir_counts (goal 1 0 (chains (1 ∷ []) (1 ∷ []) 0 0) (context 0 1 0 0 ∷ [])) 9
+pub two_sorts : Refused weir_counts (goal 1 0 (chains (1 ∷ []) (1 ∷ []) 0 0) (context 0 1 0 0 ∷ [])) 9
 unfolding legs_of flags_of goal_count goal_head next_of context_record_of event_record_of
-two_sorts_lem = refused_9 refl refl refl
+two_sorts = refused_9 refl refl refl
 
 pub two_exceptions : Refused weir_counts (goal 1 0 (chains (1 ∷ []) [] 0 1) (context 0 1 0 0 ∷ [])) 9
 unfolding legs_of flags_of goal_count goal_head next_of context_record_of event_record_of

@@ -144,7 +144,7 @@ module _ (p : Policy) where
   uncovered steps = any_context (λ x. any_defined (λ e. any_context (λ y. missed steps x e y)))
 
   module _ (steps : List Step) (covers : T (not (uncovered steps))) where
-    pub miss : (x e y : ℕ) → T (context x) → T (context y) → T (step x e y) → T (not (is_listed steps x e y)) → T (uncovered steps)
+    miss : (x e y : ℕ) → T (context x) → T (context y) → T (step x e y) → T (not (is_listed steps x e y)) → T (uncovered steps)
     unfolding uncovered
     miss x e y cx cy w k =
         context_back (λ x. any_defined (λ e. any_context (λ y. missed steps x e y))) x cx

@@ -1,4 +1,2 @@
 pub mod Cover
 pub mod Cases
-pub mod InSettings
-pub mod PlainLaws

@@ -7,7 +7,6 @@ use Rattle.policy_image.specs.Policy.{Policy, policy_of}
 use Rattle.context.specs.declared.Context.{Context}
 use Rattle.context.specs.Codes.{context_of, event_of}
 use Rattle.relations.specs.Relations.{ρ, μ}
-use Rattle.relations.specs.Settings.{in_setting}
 use Rattle.access.specs.Authorization.{flow}
 use Rattle.goal_image.specs.Goal.{Goal, goal_of, σChain, γChain, σeChain, γeChain}
 use Rattle.goal_image.specs.Sets.{context_in, event_in}
@@ -38,6 +37,6 @@ model_of p g =
       γe = λ e. event_in g γeChain (event_of e);
     }
 
--- from the bytes of the two images, in a setting: "A path stays within one setting" (paper 02, g)
-abbrev pub model : List ℕ → List ℕ → ℕ → Model
-model s g setting = model_of (in_setting setting (policy_of s)) (goal_of g)
+-- from the bytes of the two images
+abbrev pub model : List ℕ → List ℕ → Model
+model s g = model_of (policy_of s) (goal_of g)

@@ -1,4 +1,5 @@
 pub mod GoalLaws
+pub mod ModelLaws
 pub mod SizeLaws
 pub mod AnswerLaws
 pub mod AskedLaws

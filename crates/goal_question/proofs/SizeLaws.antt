@@ -18,14 +18,11 @@ use Rattle.goal_image.specs.Questions.{goal_questions}
 use Rattle.goal_image.specs.Inner.Answer.{legs_in}
 use Rattle.goal_image.specs.Inner.Sound.{SoundGoal}
 use Rattle.goal_image.proofs.AnswerLaws.{sound as goal_sound}
-use Rattle.plan.specs.Inner.Plan.{Ready, Prepared}
-use Rattle.plan.specs.Inner.Regions.{plan_entries}
+use Rattle.plan.specs.Inner.Plan.{Ready, Planned}
 use Rattle.search_graph.specs.Inner.Tasks.{state_count}
-use Rattle.search_graph.specs.Inner.Visits.{Cleared}
-use Rattle.search_graph.proofs.GivenLaws.{ready_of}
+use Rattle.search_graph.proofs.GivenLaws.{ready_of, given}
 use Rattle.goal_question.specs.GoalQuestion.{work_length, WorkFits}
-use Rattle.goal_answer.specs.Inner.Finding.{nodes_of}
-use Rattle.goal_settings.specs.Inner.Rounds.{RoundGiven}
+use Rattle.goal_answer.specs.Inner.Finding.{Searchable}
 use Rattle.goal_question.specs.Inner.Parts.{Passed}
 
 -- what is known of the policy's counts and the goal's legs
@@ -64,17 +61,11 @@ module _ {s g : List ℕ} {n : Counts} {l : Legs} {work1 work2 : ℕ} (P : Passe
   work_room = omega (arith, work_length_lem s g P.counts P.legs, work_fits.second)
 
   -- .. and those entries are enough
-  pub round_given : {plan queue back : List ℕ} → Prepared s n plan → plan_entries ≤ length plan → length queue ≡ work1 → nodes_of n l ≤ length back → Cleared back 0
-      → RoundGiven s n l plan queue back
-  round_given D size e h F =
+  pub searchable : {plan : List ℕ} {k : ℕ} → Planned s n plan → context_count n * state_count l.count ≤ k → Searchable s plan n l work1 k
+  searchable L h =
       let Z = passed_sizes in
       record {
-        ready = Z.ready;
-        prepared = D;
-        size = size;
-        some_leg = Z.some_leg;
-        few_legs = Z.few_legs;
+        given = given Z.ready L Z.some_leg Z.few_legs;
         first = omega (arith, work_length_lem s g P.counts P.legs, work_fits.first);
         second = h;
-        fresh = F;
       }

@@ -1,5 +1,5 @@
--- The promise of the goal question (paper 01, "Questions in order" and "Paths that break a goal"; paper 02, g, for the settings): for
--- all bytes of the two images, all lengths of the two work slices and all path slices, what the answer and the path slice are afterwards.
+-- The promise of the goal question (paper 01, "Questions in order" and "Paths that break a goal"): for all bytes of the two
+-- images, all lengths of the two work slices and all path slices, what the answer and the path slice are afterwards.
 -- It fixes everything but what the work slices hold afterwards and which of the shortest paths is shown: "Only the work slices
 -- and the choice among shortest paths are open".
 use Rattle.std.specs.Prelude.{ℕ, ◌+◌, ◌*◌, ◌^◌, ◌≤◌, ◌<◌, List, [], ◌∷◌, ◌++◌, ◌⊎◌, ◌≡◌, length}
@@ -8,8 +8,7 @@ use Rattle.policy_image.specs.Layout.{counts_of}
 use Rattle.policy_check.specs.Questions.{policy_questions}
 use Rattle.goal_image.specs.Layout.{legs_of}
 use Rattle.goal_image.specs.Questions.{goal_questions}
-use Rattle.paths.specs.Paths.{IsPath, BreaksOrder, BreaksEvents}
-use Rattle.paths.specs.Settings.{settings, HoldsInAll, OrderIn, EventsIn}
+use Rattle.paths.specs.Paths.{IsPath, BreaksOrder, BreaksEvents, Holds, OrderAt, EventsAt}
 use Rattle.paths.specs.Slice.{contexts_in, events_in, Shows}
 use Rattle.goal_model.specs.Images.{model}
 use Rattle.goal_question.specs.declared.goal.Outcome.{Outcome}
@@ -31,13 +30,12 @@ module _ (s g : List ℕ) (work1 work2 : ℕ) where
 
   -- the sort of an answer, whatever is shown of it
   abbrev pub GoalSort : Outcome → Type 0
-  -- "A goal holds exactly when it holds in all 256"
-  GoalSort outcome.Holds = AllYes all_questions × HoldsInAll (model s g) settings
-  -- "The answer is order when some path of m steps breaks order": m is "least over every setting", with "the lowest setting that
-  -- has one of that length and sort"
-  GoalSort (outcome.Order b) = AllYes all_questions × OrderIn (model s g) settings b.steps b.setting
+  -- "A goal holds exactly when no path breaks either"
+  GoalSort outcome.Holds = AllYes all_questions × Holds (model s g)
+  -- "The answer is order when some path of m steps breaks order": m is the least
+  GoalSort (outcome.Order m) = AllYes all_questions × OrderAt (model s g) m
   -- "and else events"
-  GoalSort (outcome.Events b) = AllYes all_questions × EventsIn (model s g) settings b.steps b.setting
+  GoalSort (outcome.Events m) = AllYes all_questions × EventsAt (model s g) m
   -- the number of the first question whose answer is no
   GoalSort (outcome.Refused k) = RefusedWith all_questions k
   -- 12 is asked of the path slice: it is no sort
@@ -47,27 +45,20 @@ module _ (s g : List ℕ) (work1 work2 : ℕ) where
   abbrev pub GoalPromise : List ℕ → List ℕ → Outcome → Type 0
   -- all entries are unchanged
   GoalPromise before after outcome.Holds = GoalSort outcome.Holds × (after ≡ before)
-  -- the path shown breaks order, in the setting given: "A path stays within one setting"
-  GoalPromise before after (outcome.Order b) =
-      GoalSort (outcome.Order b) × Shows (IsPath (model s g b.setting)) b.steps before after
-      × BreaksOrder (model s g b.setting) b.steps (contexts_in after)
-  -- the path shown breaks events, in the setting given
-  GoalPromise before after (outcome.Events b) =
-      GoalSort (outcome.Events b) × Shows (IsPath (model s g b.setting)) b.steps before after
-      × BreaksEvents (model s g b.setting) b.steps (contexts_in after) (events_in after)
+  -- the path shown breaks order
+  GoalPromise before after (outcome.Order m) = GoalSort (outcome.Order m) × Shows (IsPath (model s g)) m before after × BreaksOrder (model s g) m (contexts_in after)
+  -- the path shown breaks events
+  GoalPromise before after (outcome.Events m) =
+      GoalSort (outcome.Events m) × Shows (IsPath (model s g)) m before after × BreaksEvents (model s g) m (contexts_in after) (events_in after)
   -- "Any refusal leaves the path slice unchanged."
   GoalPromise before after (outcome.Refused k) = GoalSort (outcome.Refused k) × (after ≡ before)
-  -- Question 12: "If a path breaks the goal, has the path slice at least 2m + 1 entries for the least? 12, with m". No setting is
-  -- given: "0 where no path is shown, as with 12"
-  GoalPromise before after (outcome.NoRoom m) =
-      AllYes all_questions × ((k : ℕ) × (OrderIn (model s g) settings m k ⊎ EventsIn (model s g) settings m k))
-      × (length before < 2 * m + 1) × (after ≡ before)
+  -- Question 12: "If a path breaks the goal, has the path slice at least 2m + 1 entries for the least? 12, with m"
+  GoalPromise before after (outcome.NoRoom m) = (GoalSort (outcome.Order m) ⊎ GoalSort (outcome.Events m)) × (length before < 2 * m + 1) × (after ≡ before)
 
--- "a 64-bit number: 256m + 4 × number + answer (0 holds, 1 order, 2 events, 3 refused; unused parts 0)"; "For the C caller, the
--- setting sits at 2^40 times itself."
+-- "a 64-bit number: 256m + 4 × number + answer (0 holds, 1 order, 2 events, 3 refused; unused parts 0)"
 abbrev pub outcome_number : Outcome → ℕ
 outcome_number outcome.Holds = 0
-outcome_number (outcome.Order b) = 2 ^ 40 * b.setting + 256 * b.steps + 1
-outcome_number (outcome.Events b) = 2 ^ 40 * b.setting + 256 * b.steps + 2
+outcome_number (outcome.Order m) = 256 * m + 1
+outcome_number (outcome.Events m) = 256 * m + 2
 outcome_number (outcome.Refused k) = 4 * k + 3
 outcome_number (outcome.NoRoom m) = 256 * m + 4 * 12 + 3

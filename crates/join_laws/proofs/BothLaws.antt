@@ -13,9 +13,7 @@ use Rattle.policy_lists.specs.Inner.Tests.{IgnoresNext}
 use Rattle.context.specs.declared.Context.{Context}
 use Rattle.context.specs.declared.Event.{Event}
 use Rattle.context.specs.Codes.{is_transition}
-use Rattle.relations.specs.Settings.{applies, in_setting}
-use Rattle.relations.proofs.CountedLaws.{AllCount, allowed_in}
-use Rattle.constraints.proofs.CountedLaws.{constraints_counted}
+use Rattle.relations.proofs.CountedLaws.{AllCount, allowed_all}
 use Rattle.relations.specs.Relations.{Γ, flows_as, write_like, read_like, target_of, allowed, α, ρ, μ, role_change}
 use Rattle.constraints.specs.Constraints.{constraints_hold}
 use Rattle.access.specs.Authorization.{χ, role_rule, authorized, flow}
@@ -29,68 +27,56 @@ Adds r p q = (k : ℕ) (f : Record → Bool) → 1 ≤ k → k ≤ 7 → Ignores
 abbrev pub AllApply : Policy → Policy → Policy → Type 0
 AllApply r p q = (e : Event) (x y : Context) → constraints_hold r e x y ≡ (constraints_hold p e x y && constraints_hold q e x y)
 
--- ---- the relations in a setting, each of the records of one kind
-module _ (r p q : Policy) (A : Adds r p q) (cr : AllCount r) (cp : AllCount p) (cq : AllCount q) (setting : ℕ) where
-  abbrev within : Policy → Policy
-  within = in_setting setting
-
-  adds_domains : (t : ℕ) → domain (within r) t ≡ domain_both (within p) (within q) t
-  unfolding domain domain_both some
+-- ---- the relations, each of the records of one kind
+module _ (r p q : Policy) (A : Adds r p q) (cr : AllCount r) (cp : AllCount p) (cq : AllCount q) where
+  adds_domains : (t : ℕ) → domain r t ≡ domain_both p q t
+  unfolding domain domain_both
   adds_domains t = A 1 (λ r. eqb r.a t) (omega arith) (omega arith) (λ n r. refl)
 
-  adds_gamma : (e : Event) → Γ (within r) e ≡ ΓBoth (within p) (within q) e
-  unfolding Γ ΓBoth some
+  adds_gamma : (e : Event) → Γ r e ≡ ΓBoth p q e
+  unfolding Γ ΓBoth
   adds_gamma e = A 2 (λ r. eqb r.a e.class && bit r.mask e.perm) (omega arith) (omega arith) (λ n r. refl)
 
-  adds_ways : (way : ℕ) (e : Event) → flows_as (within r) way e ≡ (flows_as (within p) way e || flows_as (within q) way e)
-  unfolding some
+  adds_ways : (way : ℕ) (e : Event) → flows_as r way e ≡ (flows_as p way e || flows_as q way e)
   adds_ways way e =
       A 3 (λ r. (eqb r.a e.class && (eqb r.b way || eqb r.b 3)) && bit r.mask e.perm)
       (omega arith) (omega arith) (λ n r. refl)
 
-  adds_writes : (e : Event) → write_like (within r) e ≡ write_like_both (within p) (within q) e
+  adds_writes : (e : Event) → write_like r e ≡ write_like_both p q e
   unfolding write_like write_like_both
   adds_writes e = adds_ways 1 e
 
-  adds_reads : (e : Event) → read_like (within r) e ≡ read_like_both (within p) (within q) e
+  adds_reads : (e : Event) → read_like r e ≡ read_like_both p q e
   unfolding read_like read_like_both
   adds_reads e = adds_ways 2 e
 
-  adds_allows : (t1 t2 : ℕ) (e : Event) → allowed (within r) t1 t2 e ≡ allowed_both (within p) (within q) t1 t2 e
-  unfolding allowed_both applies
+  adds_allows : (t1 t2 : ℕ) (e : Event) → allowed r t1 t2 e ≡ allowed_both p q t1 t2 e
+  unfolding allowed_both
   adds_allows t1 t2 e =
-      allowed_in setting r cr t1 t2 e
-      ∙ A 4 (λ r. applies setting r && ((eqb r.a t1 && (eqb (target_of r) t2 && eqb r.c e.class)) && bit r.mask e.perm))
-      (omega arith) (omega arith) (λ n r. refl)
-      ∙ sym (ap₂ ◌||◌ (allowed_in setting p cp t1 t2 e) (allowed_in setting q cq t1 t2 e))
+      allowed_all r cr t1 t2 e
+      ∙ A 4 (λ r. (eqb r.a t1 && (eqb (target_of r) t2 && eqb r.c e.class)) && bit r.mask e.perm) (omega arith) (omega arith) (λ n r. refl)
+      ∙ sym (ap₂ ◌||◌ (allowed_all p cp t1 t2 e) (allowed_all q cq t1 t2 e))
 
-  adds_roles : (role t : ℕ) → some (within r) 5 (pairs role t) ≡ role_holds_both (within p) (within q) role t
-  unfolding role_holds_both some
+  adds_roles : (role t : ℕ) → some r 5 (pairs role t) ≡ role_holds_both p q role t
+  unfolding role_holds_both
   adds_roles role t = A 5 (pairs role t) (omega arith) (omega arith) (λ n r. refl)
 
-  adds_users : (u role : ℕ) → some (within r) 6 (pairs u role) ≡ user_holds_both (within p) (within q) u role
-  unfolding user_holds_both some
+  adds_users : (u role : ℕ) → some r 6 (pairs u role) ≡ user_holds_both p q u role
+  unfolding user_holds_both
   adds_users u role = A 6 (pairs u role) (omega arith) (omega arith) (λ n r. refl)
 
-  adds_changes : (r1 r2 : ℕ) → role_change (within r) r1 r2 ≡ role_change_both (within p) (within q) r1 r2
-  unfolding role_change role_change_both some
+  adds_changes : (r1 r2 : ℕ) → role_change r r1 r2 ≡ role_change_both p q r1 r2
+  unfolding role_change role_change_both
   adds_changes r1 r2 = A 7 (pairs r1 r2) (omega arith) (omega arith) (λ n r. refl)
 
-  -- which allow records count is nothing to a constraint
-  held : (o : Policy) (e : Event) (x y : Context) → constraints_hold (within o) e x y ≡ constraints_hold o e x y
-  held o e x y = constraints_counted (λ i. applies setting (o.rec i)) o x y e
-
-  adds_constraints : AllApply r p q → AllApply (within r) (within p) (within q)
-  adds_constraints C e x y = held r e x y ∙ C e x y ∙ sym (ap₂ ◌&&◌ (held p e x y) (held q e x y))
-
-  pub together : AllApply r p q → TakenTogether (in_setting setting r) (in_setting setting p) (in_setting setting q)
+  pub together : AllApply r p q → TakenTogether r p q
   unfolding constraints_both
   together C =
       record {
         domains = adds_domains;
         gamma = adds_gamma;
         allows = adds_allows;
-        constraints = adds_constraints C;
+        constraints = C;
         roles = adds_roles;
         users = adds_users;
         changes = adds_changes;

@@ -17,7 +17,6 @@ use Rattle.context.specs.declared.Event.{Event}
 use Rattle.constraints.specs.Constraints.{constraints_hold}
 use Rattle.access.specs.Authorization.{authorized, flow}
 use Rattle.image_laws.proofs.CarryLaws.{says}
-use Rattle.relations.specs.Settings.{in_setting}
 use Rattle.relations.proofs.CountedLaws.{AllCount}
 use Rattle.join_laws.specs.Cases.Both.{TakenTogether, authorized_both, flow_both}
 use Rattle.join_laws.proofs.JoinEvalLaws.{joined_constraints}
@@ -29,16 +28,14 @@ joined_adds p q k f a b I = some_of_both p q k f I (record { low = a; high = b }
 
 module _ (p q : Policy) (cp : AllCount p) (cq : AllCount q) (small : (joined p q).size < 65536) (N : NodesInOrder p) (M : NodesInOrder q) where
   -- "Its relations are those of both record lists taken together"
-  pub joined_together : (setting : ℕ) → TakenTogether (in_setting setting (joined p q)) (in_setting setting p) (in_setting setting q)
-  joined_together setting = together (joined p q) p q (joined_adds p q) (λ i. refl) cp cq setting (joined_constraints p q small N M)
+  pub joined_together : TakenTogether (joined p q) p q
+  joined_together = together (joined p q) p q (joined_adds p q) (λ i. refl) cp cq (joined_constraints p q small N M)
 
-  pub joined_authorized : (setting : ℕ) (e : Event) (x y : Context)
-      → authorized (in_setting setting (joined p q)) e x y ≡ authorized_both (in_setting setting p) (in_setting setting q) e x y
-  joined_authorized k = together_authorized (in_setting k (joined p q)) (in_setting k p) (in_setting k q) (joined_together k)
+  pub joined_authorized : (e : Event) (x y : Context) → authorized (joined p q) e x y ≡ authorized_both p q e x y
+  joined_authorized = together_authorized (joined p q) p q joined_together
 
-  pub joined_flow : (setting : ℕ) (e : Event) (x y : Context)
-      → flow (in_setting setting (joined p q)) e x y ≡ flow_both (in_setting setting p) (in_setting setting q) e x y
-  joined_flow k = together_flow (in_setting k (joined p q)) (in_setting k p) (in_setting k q) (joined_together k)
+  pub joined_flow : (e : Event) (x y : Context) → flow (joined p q) e x y ≡ flow_both p q e x y
+  joined_flow = together_flow (joined p q) p q joined_together
 
 -- ---- a list of no records adds nothing
 module _ (o : Policy) (z : o.size ≡ 0) where
@@ -49,38 +46,26 @@ module _ (o : Policy) (z : o.size ≡ 0) where
   unfolding constraints_hold
   nothing_forbids e x y = every_yes o 8 (says e x y o) (λ i K. let n : ⊥ = omega (arith, K.low, K.high) in absurd n)
 
-pub empty_board : (p q : Policy) → AllCount p → AllCount q → q.size ≡ 0
-    → (setting : ℕ) → TakenTogether (in_setting setting p) (in_setting setting p) (in_setting setting q)
-empty_board p q cp cq z setting =
-    together p p q (λ k f a b I. sym (or_none (some p k f) (some q k f) (nothing_some q z k f))) cp cp cq setting
+pub empty_board : (p q : Policy) → AllCount p → AllCount q → q.size ≡ 0 → TakenTogether p p q
+empty_board p q cp cq z =
+    together p p q (λ k f a b I. sym (or_none (some p k f) (some q k f) (nothing_some q z k f))) cp cp cq
     (λ e x y. sym (and_yes (constraints_hold p e x y) (constraints_hold q e x y) (nothing_forbids q z e x y)))
 
-pub empty_maker : (p q : Policy) → AllCount p → AllCount q → p.size ≡ 0
-    → (setting : ℕ) → TakenTogether (in_setting setting q) (in_setting setting p) (in_setting setting q)
-empty_maker p q cp cq z setting =
-    together q p q (λ k f a b I. ap (λ (t : Bool). t || some q k f) (sym (nothing_some p z k f))) cq cp cq setting
+pub empty_maker : (p q : Policy) → AllCount p → AllCount q → p.size ≡ 0 → TakenTogether q p q
+empty_maker p q cp cq z =
+    together q p q (λ k f a b I. ap (λ (t : Bool). t || some q k f) (sym (nothing_some p z k f))) cq cp cq
     (λ e x y. ap (λ (t : Bool). t && constraints_hold q e x y) (sym (nothing_forbids p z e x y)))
 
 -- so joining with it changes no authorization and no flow
-module _ (p q : Policy) (cp : AllCount p) (cq : AllCount q) (small : (joined p q).size < 65536) (N : NodesInOrder p) (M : NodesInOrder q)
-    (setting : ℕ) (e : Event) (x y : Context) where
-  abbrev p' : Policy
-  p' = in_setting setting p
+module _ (p q : Policy) (cp : AllCount p) (cq : AllCount q) (small : (joined p q).size < 65536) (N : NodesInOrder p) (M : NodesInOrder q) (e : Event) (x y : Context) where
+  pub empty_board_authorized : q.size ≡ 0 → authorized (joined p q) e x y ≡ authorized p e x y
+  empty_board_authorized z = joined_authorized p q cp cq small N M e x y ∙ sym (together_authorized p p q (empty_board p q cp cq z) e x y)
 
-  abbrev q' : Policy
-  q' = in_setting setting q
+  pub empty_board_flow : q.size ≡ 0 → flow (joined p q) e x y ≡ flow p e x y
+  empty_board_flow z = joined_flow p q cp cq small N M e x y ∙ sym (together_flow p p q (empty_board p q cp cq z) e x y)
 
-  abbrev both : Policy
-  both = in_setting setting (joined p q)
+  pub empty_maker_authorized : p.size ≡ 0 → authorized (joined p q) e x y ≡ authorized q e x y
+  empty_maker_authorized z = joined_authorized p q cp cq small N M e x y ∙ sym (together_authorized q p q (empty_maker p q cp cq z) e x y)
 
-  pub empty_board_authorized : q.size ≡ 0 → authorized both e x y ≡ authorized p' e x y
-  empty_board_authorized z = joined_authorized p q cp cq small N M setting e x y ∙ sym (together_authorized p' p' q' (empty_board p q cp cq z setting) e x y)
-
-  pub empty_board_flow : q.size ≡ 0 → flow both e x y ≡ flow p' e x y
-  empty_board_flow z = joined_flow p q cp cq small N M setting e x y ∙ sym (together_flow p' p' q' (empty_board p q cp cq z setting) e x y)
-
-  pub empty_maker_authorized : p.size ≡ 0 → authorized both e x y ≡ authorized q' e x y
-  empty_maker_authorized z = joined_authorized p q cp cq small N M setting e x y ∙ sym (together_authorized q' p' q' (empty_maker p q cp cq z setting) e x y)
-
-  pub empty_maker_flow : p.size ≡ 0 → flow both e x y ≡ flow q' e x y
-  empty_maker_flow z = joined_flow p q cp cq small N M setting e x y ∙ sym (together_flow q' p' q' (empty_maker p q cp cq z setting) e x y)
+  pub empty_maker_flow : p.size ≡ 0 → flow (joined p q) e x y ≡ flow q e x y
+  empty_maker_flow z = joined_flow p q cp cq small N M e x y ∙ sym (together_flow q p q (empty_maker p q cp cq z) e x y)

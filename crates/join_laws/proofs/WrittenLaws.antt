@@ -24,7 +24,6 @@ use Rattle.policy_lists.proofs.JoinWritableLaws.{joined_few, joined_writable}
 use Rattle.join.specs.Join.{joined_image}
 use Rattle.context.specs.declared.Context.{Context}
 use Rattle.context.specs.declared.Event.{Event}
-use Rattle.relations.specs.Settings.{in_setting}
 use Rattle.access.specs.Authorization.{authorized, flow}
 use Rattle.image_laws.proofs.AgreeLaws.{Agrees, agrees_record, some_agrees}
 use Rattle.image_laws.proofs.AgreeQuestionLaws.{agrees_constraints}
@@ -77,43 +76,34 @@ module _ (s t : List ℕ) (B : AllBytes s) (D : AllBytes t) (a : AllYes (policy_
   pub written_counts : (joined (policy_of s) (policy_of t)).counts ≡ (policy_of (joined_image s t)).counts
   written_counts = agrees.counts
 
-  -- "Its relations are those of both record lists taken together"; "joined policies share switch numbers" (paper 02, g)
-  pub written_together : (setting : ℕ) → TakenTogether (in_setting setting (policy_of (joined_image s t))) (in_setting setting (policy_of s)) (in_setting setting (policy_of t))
-  written_together setting =
+  -- "Its relations are those of both record lists taken together"
+  pub written_together : TakenTogether (policy_of (joined_image s t)) (policy_of s) (policy_of t)
+  written_together =
       together result p q
       (λ k f l h I.
       sym (some_agrees (joined p q) result agrees k f f (λ i K. ap f (agrees_record (joined p q) result agrees k i K)))
       ∙ joined_adds p q k f l h I)
-      (λ i. refl) (λ i. refl) (λ i. refl) setting
+      (λ i. refl) (λ i. refl) (λ i. refl)
       (λ e x y.
       sym (agrees_constraints (joined p q) result agrees nodes e x y)
       ∙ joined_constraints p q small S.nodes T.nodes e x y)
 
-  module _ (setting : ℕ) (e : Event) (x y : Context) where
-    abbrev maker : Policy
-    maker = in_setting setting (policy_of s)
+  module _ (e : Event) (x y : Context) where
+    pub written_authorized : authorized (policy_of (joined_image s t)) e x y ≡ authorized_both (policy_of s) (policy_of t) e x y
+    written_authorized = together_authorized result p q written_together e x y
 
-    abbrev board : Policy
-    board = in_setting setting (policy_of t)
-
-    abbrev written : Policy
-    written = in_setting setting (policy_of (joined_image s t))
-
-    pub written_authorized : authorized written e x y ≡ authorized_both maker board e x y
-    written_authorized = together_authorized written maker board (written_together setting) e x y
-
-    pub written_flow : flow written e x y ≡ flow_both maker board e x y
-    written_flow = together_flow written maker board (written_together setting) e x y
+    pub written_flow : flow (policy_of (joined_image s t)) e x y ≡ flow_both (policy_of s) (policy_of t) e x y
+    written_flow = together_flow result p q written_together e x y
 
     -- a board's image of no records changes no authorization and no flow of the maker's, and the other way round
-    pub no_board_authorized : record_count t ≡ 0 → authorized written e x y ≡ authorized maker e x y
-    no_board_authorized z = written_authorized ∙ sym (together_authorized maker maker board (empty_board p q (λ i. refl) (λ i. refl) z setting) e x y)
+    pub no_board_authorized : record_count t ≡ 0 → authorized (policy_of (joined_image s t)) e x y ≡ authorized (policy_of s) e x y
+    no_board_authorized z = written_authorized ∙ sym (together_authorized p p q (empty_board p q (λ i. refl) (λ i. refl) z) e x y)
 
-    pub no_board_flow : record_count t ≡ 0 → flow written e x y ≡ flow maker e x y
-    no_board_flow z = written_flow ∙ sym (together_flow maker maker board (empty_board p q (λ i. refl) (λ i. refl) z setting) e x y)
+    pub no_board_flow : record_count t ≡ 0 → flow (policy_of (joined_image s t)) e x y ≡ flow (policy_of s) e x y
+    no_board_flow z = written_flow ∙ sym (together_flow p p q (empty_board p q (λ i. refl) (λ i. refl) z) e x y)
 
-    pub no_maker_authorized : record_count s ≡ 0 → authorized written e x y ≡ authorized board e x y
-    no_maker_authorized z = written_authorized ∙ sym (together_authorized board maker board (empty_maker p q (λ i. refl) (λ i. refl) z setting) e x y)
+    pub no_maker_authorized : record_count s ≡ 0 → authorized (policy_of (joined_image s t)) e x y ≡ authorized (policy_of t) e x y
+    no_maker_authorized z = written_authorized ∙ sym (together_authorized q p q (empty_maker p q (λ i. refl) (λ i. refl) z) e x y)
 
-    pub no_maker_flow : record_count s ≡ 0 → flow written e x y ≡ flow board e x y
-    no_maker_flow z = written_flow ∙ sym (together_flow board maker board (empty_maker p q (λ i. refl) (λ i. refl) z setting) e x y)
+    pub no_maker_flow : record_count s ≡ 0 → flow (policy_of (joined_image s t)) e x y ≡ flow (policy_of t) e x y
+    no_maker_flow z = written_flow ∙ sym (together_flow q p q (empty_maker p q (λ i. refl) (λ i. refl) z) e x y)

@@ -4,19 +4,18 @@ use mathlib.Core.List.{List}
 use mathlib.Core.Path.{◌≡◌, subst}
 use native.Mathlib.Omega.{arith}
 use Rattle.policy_image.specs.declared.counts.Counts.{Counts}
-use Rattle.policy_image.specs.Policy.{policy_of}
+use Rattle.policy_image.specs.Policy.{Policy, policy_of}
 use Rattle.context.specs.declared.Context.{Context}
 use Rattle.context.specs.Inner.Places.{context_count}
-use Rattle.relations.specs.Settings.{applies}
 use Rattle.paths.specs.Model.{Model}
+use Rattle.paths.specs.Slice.{Shows}
 use Rattle.paths.specs.Inner.Monitor.{plain}
 use Rattle.paths.specs.Inner.Least.{Least}
-use Rattle.plan.specs.Inner.Plan.{Ready, Planned}
+use Rattle.plan.specs.Inner.Plan.{Ready, ruled, Planned}
 use Rattle.plan.specs.Inner.Ends.{EndsPlan}
 use Rattle.plan.specs.Inner.Put.{RulesPut}
 use Rattle.plan.proofs.ContextLaws.{plan_counts}
 use Rattle.plan.proofs.EndsLaws.{ends_kept}
-use Rattle.plan.proofs.RuledLaws.{RuledAs}
 use Rattle.search_graph.specs.declared.monitor.Mode.TheVariants.{Any}
 use Rattle.search_graph.specs.declared.task.Task.{Task}
 use Rattle.search_graph.specs.Inner.Model.{plan_model}
@@ -28,7 +27,7 @@ use Rattle.search.proofs.FoundLaws.{least_of_all}
 use Rattle.witness.specs.declared.path.Showing.{Showing}
 use Rattle.witness.specs.declared.path.Showing.TheVariants as showing
 use Rattle.witness.specs.Inner.Shown.{FoundShown}
-use Rattle.least_steps.specs.LeastSteps.{StepsPromise}
+use Rattle.least_steps.specs.LeastSteps.{FlowPath, SomeFlowPath, NoFlowPath, NoneShorter, StepsPromise}
 use Rattle.least_steps.specs.Inner.Parts.{ends_legs, StepsPassed, steps_of}
 use Rattle.least_steps.proofs.AskedLaws.{passed_ready, passed_range}
 use Rattle.least_steps.proofs.PathLaws.{some_path, none_shorter, no_path, shown_path}
@@ -43,30 +42,33 @@ pub ends_over : {s counted old plan : List ℕ} {x y : Context} {n : Counts} {wo
 ends_over {old = old} {plan} P R E =
     ends_kept old plan (passed_range P).first (passed_range P).second (plan_counts (passed_ready P)) (λ i h. R.below i (omega arith)) E
 
--- where the questions are passed
-module _ {s plan : List ℕ} {x y : Context} {n : Counts} {work1 work2 : ℕ} (P : StepsPassed s x y n work1 work2) (L : Planned s n plan) where
+-- where the questions are passed, and the ends are in a plan in which every allow record counts
+module _ {s plan : List ℕ} {x y : Context} {n : Counts} {work1 work2 : ℕ} (P : StepsPassed s x y n work1 work2) (L : Planned s n plan) (E : EndsPlan x y n plan)
+    (all : ruled s plan ≡ policy_of s) where
   abbrev t : Task
   t = task_for n ends_legs Any
 
   abbrev M : Model
   M = plan_model s plan n ends_legs
 
+  R : Ready s n
+  R = passed_ready P
+
   pub any_given : Given s plan t
-  any_given = given (passed_ready P) L (omega arith) (omega arith) Any
+  any_given = given R L (omega arith) (omega arith) Any
 
-  -- and the ends and the rules of the setting k are in the plan
-  module _ (E : EndsPlan x y n plan) (k : ℕ) (S : RuledAs s plan (λ i. applies k ((policy_of s).rec i))) (back : List ℕ) (r : LeastEnd) (f : FoundLeast s plan t unbounded back r) where
-    R : Ready s n
-    R = passed_ready P
-
+  module _ (back : List ℕ) (r : LeastEnd) (f : FoundLeast s plan t unbounded back r) where
     least : Least M plain (reached_by r)
     least = least_of_all any_given back r f
 
-    pub promised : (before after : List ℕ) (q : Showing) → FoundShown M Any r before after q → StepsPromise s k x y work1 work2 before after (steps_of q)
-    promised before after showing.Nothing h = (P.questions, no_path R E S (subst (Least M plain) h.0 least), h.1)
+    shortest : {m : ℕ} → NoneShorter (ruled s plan) x y m → NoneShorter (policy_of s) x y m
+    shortest {m} h = subst (λ (p : Policy). NoneShorter p x y m) all h
+
+    pub promised : (before after : List ℕ) (q : Showing) → FoundShown M Any r before after q → StepsPromise s x y work1 work2 before after (steps_of q)
+    promised before after showing.Nothing h = (P.questions, subst (λ (p : Policy). NoFlowPath p x y) all (no_path R E (subst (Least M plain) h.0 least)), h.1)
     promised before after (showing.NoRoom m) h =
         let z = subst (Least M plain) h.0 least in
-        (P.questions, some_path R E S z.0, none_shorter R E S z.1, h.1, h.2)
+        (P.questions, subst (λ (p : Policy). SomeFlowPath p x y m) all (some_path R E z.0), shortest (none_shorter R E z.1), h.1, h.2)
     promised before after (showing.Path m) h =
         let z = subst (Least M plain) h.0 least in
-        (P.questions, none_shorter R E S z.1, shown_path R E S h.1.shows)
+        (P.questions, shortest (none_shorter R E z.1), subst (λ (p : Policy). Shows (FlowPath p x y) m before after) all (shown_path R E h.1.shows))

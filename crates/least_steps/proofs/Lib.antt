@@ -1,5 +1,4 @@
 pub mod StepsLaws
-pub mod PlainLaws
 pub mod PathLaws
 pub mod AskedLaws
 pub mod AnswerLaws

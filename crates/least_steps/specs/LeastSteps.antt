@@ -1,5 +1,5 @@
--- Least steps between two contexts (paper 02, a, in a setting by g): what a path from one to the other is, and what is promised, for all bytes
--- of the policy, all settings, all contexts, all lengths of the two work slices and all path slices. What stands in quotes is the paper's.
+-- Least steps between two contexts (paper 02, a): what a path from one to the other is, and what is promised, for all bytes of the
+-- policy, all contexts, all lengths of the two work slices and all path slices. What stands in quotes is the paper's.
 -- The promise fixes everything but what the work slices hold afterwards and which of the shortest paths is shown.
 use Rattle.std.specs.Prelude.{ℕ, suc, ◌+◌, ◌*◌, ◌≤◌, ◌<◌, List, [], ◌∷◌, ◌++◌, ◌≡◌, T, length}
 use Rattle.base.specs.Questions.{Question, ask, AllYes, RefusedWith}
@@ -10,7 +10,6 @@ use Rattle.policy_check.specs.Questions.{policy_questions}
 use Rattle.context.specs.declared.Context.{Context}
 use Rattle.context.specs.Codes.{context_of, event_of}
 use Rattle.context.specs.Ranges.{ContextInRange}
-use Rattle.relations.specs.Settings.{in_setting}
 use Rattle.access.specs.Authorization.{flow}
 use Rattle.goal_model.specs.Images.{in_range, meetsρμ}
 use Rattle.paths.specs.Slice.{Shows}
@@ -64,23 +63,18 @@ pub record StepsFit (s : List ℕ) (work1 work2 : ℕ) : Type 0 where
 abbrev pub steps_questions : List ℕ → Context → Context → ℕ → ℕ → List Question
 steps_questions s x y work1 work2 = policy_questions s ++ (ask 13 (BothInRange (counts_of s) x y) ∷ ask 11 (StepsFit s work1 work2) ∷ [])
 
--- what each case of the answer says, with the path slice before and after the call: "Bare questions and least steps take a setting.", k, and
--- the paths are those of the policy in it; no question asks of it
-abbrev pub StepsPromise : List ℕ → ℕ → Context → Context → ℕ → ℕ → List ℕ → List ℕ → Steps → Type 0
+-- what each case of the answer says, with the path slice before and after the call
+abbrev pub StepsPromise : List ℕ → Context → Context → ℕ → ℕ → List ℕ → List ℕ → Steps → Type 0
 -- "exactly when no path leads from x to y, 'none', which leaves the path slice unchanged"
-StepsPromise s k x y work1 work2 before after steps.None =
-    AllYes (steps_questions s x y work1 work2) × NoFlowPath (in_setting k (policy_of s)) x y × (after ≡ before)
+StepsPromise s x y work1 work2 before after steps.None = AllYes (steps_questions s x y work1 work2) × NoFlowPath (policy_of s) x y × (after ≡ before)
 -- "the least number of flow steps and one path of that length"
-StepsPromise s k x y work1 work2 before after (steps.Shown m) =
-    AllYes (steps_questions s x y work1 work2) × NoneShorter (in_setting k (policy_of s)) x y m
-    × Shows (FlowPath (in_setting k (policy_of s)) x y) m before after
+StepsPromise s x y work1 work2 before after (steps.Shown m) =
+    AllYes (steps_questions s x y work1 work2) × NoneShorter (policy_of s) x y m × Shows (FlowPath (policy_of s) x y) m before after
 -- the number of the first question whose answer is no; a refusal leaves the path slice unchanged, as it does everywhere
-StepsPromise s k x y work1 work2 before after (steps.Refused number) =
-    RefusedWith (steps_questions s x y work1 work2) number × (after ≡ before)
+StepsPromise s x y work1 work2 before after (steps.Refused k) = RefusedWith (steps_questions s x y work1 work2) k × (after ≡ before)
 -- 12, "with the count": there is a path, and the slice has fewer than the 2m + 1 entries of a shortest
-StepsPromise s k x y work1 work2 before after (steps.NoRoom m) =
-    AllYes (steps_questions s x y work1 work2) × SomeFlowPath (in_setting k (policy_of s)) x y m × NoneShorter (in_setting k (policy_of s)) x y m
-    × (length before < 2 * m + 1) × (after ≡ before)
+StepsPromise s x y work1 work2 before after (steps.NoRoom m) =
+    AllYes (steps_questions s x y work1 work2) × SomeFlowPath (policy_of s) x y m × NoneShorter (policy_of s) x y m × (length before < 2 * m + 1) × (after ≡ before)
 
 -- the number that C gets: 256m + 4 × number + answer, with 0 none, 1 a path is shown, 3 refused; unused parts are 0
 abbrev pub steps_number : Steps → ℕ

@@ -1,4 +1,4 @@
-// Least steps between two contexts in a setting: how near is one to the other? It asks nothing of its caller, and its promise fixes the answer and the
+// Least steps between two contexts: how near is one to the other? It asks nothing of its caller, and its promise fixes the answer and the
 // count.
 ghost use Rattle.std.specs.Prelude.{◌≡◌, length};
 ghost use Rattle.base.specs.Inner.Decides.{Decides};
@@ -10,9 +10,9 @@ use context::Context;
 use goal_image::check::Legs;
 use plan::ends::put_ends;
 use plan::make::make_plan;
-use plan::regions::ENTRIES;
+use plan::regions::{ENTRIES, RECORD_WORDS};
 use plan::rules::put_rules;
-use plan_index::settings::counted_in;
+use plan_index::extract::ALL_BITS;
 use policy_check::{check, refusal};
 use policy_image::counts::{Checked, Counts};
 use search::levels::UNBOUNDED;
@@ -71,7 +71,6 @@ fn steps_of(showing: Showing) -> Steps
 // The answer where no question refuses: a search from x, which σ0 has alone, to y, which σ1 has alone.
 fn answer(
     policy: &[u8],
-    setting: u8,
     counts: Counts,
     x: Context,
     y: Context,
@@ -80,13 +79,13 @@ fn answer(
     path: &mut [u32],
 ) -> Steps
     requires { StepsPassed policy.now x y counts (length work1.old) (length work2.old) }
-    ensures { StepsPromise policy.now setting x y (length work1.old) (length work2.old) path.old path.new result }
+    ensures { StepsPromise policy.now x y (length work1.old) (length work2.old) path.old path.new result }
 {
     let mut plan = [0u32; ENTRIES];
     make_plan(policy, counts, &mut plan);
     put_ends(x, y, counts, &mut plan);
-    let counted = counted_in(policy, setting as u32, 0);
-    put_rules(policy, counts, &counted, &mut plan);
+    let all = [ALL_BITS; RECORD_WORDS];
+    put_rules(policy, counts, &all, &mut plan);
     let task = Task {
         counts: counts,
         legs: Legs {
@@ -102,17 +101,16 @@ fn answer(
     steps_of(show_found(policy, &plan, task, found, back, path))
 }
 
-// How few steps lead from x to y in the setting? The work slices are overwritten; of the path slice, just the entries of the path that is shown.
+// How few steps lead from x to y? The work slices are overwritten; of the path slice, just the entries of the path that is shown.
 pub fn least_steps(
     policy: &[u8],
-    setting: u8,
     x: Context,
     y: Context,
     work1: &mut [u32],
     work2: &mut [u32],
     path: &mut [u32],
 ) -> Steps
-    ensures { StepsPromise policy.now setting x y (length work1.old) (length work2.old) path.old path.new result }
+    ensures { StepsPromise policy.now x y (length work1.old) (length work2.old) path.old path.new result }
 {
     let checked = check(policy);
     let Checked::Accepted(counts) = checked else {
@@ -124,7 +122,7 @@ pub fn least_steps(
     if !work_fits(counts, work1.len(), work2.len()) {
         return Steps::Refused(11);
     }
-    answer(policy, setting, counts, x, y, work1, work2, path)
+    answer(policy, counts, x, y, work1, work2, path)
 }
 
 // The number that C gets for an answer.

@@ -6,8 +6,7 @@ use native.Mathlib.Nat.{le_refl}
 use native.Mathlib.Omega.{arith}
 use lib.Dec.{T}
 use Rattle.paths.specs.Model.{Model}
-use Rattle.paths.specs.Paths.{IsPath, BreaksOrder, FollowsEvents, BreaksEvents, SomeOrder, SomeEvents, NoneBelow, Holds}
-use Rattle.paths.specs.Cases.OneModel.{OrderAt, EventsAt}
+use Rattle.paths.specs.Paths.{IsPath, BreaksOrder, FollowsEvents, BreaksEvents, SomeOrder, SomeEvents, NoneBelow, Holds, OrderAt, EventsAt}
 use Rattle.paths.specs.Slice.{Shows}
 use Rattle.paths.specs.Inner.Agree.{Agree}
 

@@ -1,12 +1,12 @@
 -- Truth values, tests of the numbers below a bound, and functions cut off at a number.
 use mathlib.Core.Path.{◌≡◌, refl, subst}
-use mathlib.Core.Bool.{Bool, true, false, not, ◌&&◌, ◌||◌}
+use mathlib.Core.Bool.{Bool, true, false, ◌&&◌, ◌||◌}
 use mathlib.Core.Logic.{◌⊎◌, inl, inr, ◌↔◌}
 use Prim.Native.Nat.{ℕ, zero, suc, ◌<◌}
 use native.Mathlib.Nat.{not-suc-le-zero, le_refl}
 use native.Mathlib.Decide.{ℕ_discrete, dec_lt}
 use native.Mathlib.Omega.{arith}
-use lib.Dec.{T, T_not, not_T}
+use lib.Dec.{T}
 use Rattle.paths.specs.Inner.Below.{any_below}
 
 -- ---- truth values
@@ -69,17 +69,6 @@ any_of (suc n) f k h t = go (ℕ_discrete k n) (λ s. any_of n f k s t)
     go : Dec (k ≡ n) → (k < n → T (any_below n f)) → T (any_below n f || f n)
     go (yes e) ih = or_right (any_below n f) (f n) (subst (λ (q : ℕ). T (f q)) e t)
     go (no ne) ih = or_left (any_below n f) (f n) (ih (omega arith))
-
--- every number below n
-abbrev pub every_below : ℕ → (ℕ → Bool) → Bool
-every_below n f = not (any_below n (λ i. not (f i)))
-
-pub every_at : (n : ℕ) (f : ℕ → Bool) → T (every_below n f) → (i : ℕ) → i < n → T (f i)
-every_at n f t i h = go (T-dec (f i))
-  where
-    go : Dec (T (f i)) → T (f i)
-    go (yes u) = u
-    go (no u) = absurd (T_not (any_below n (λ i. not (f i))) t (any_of n (λ i. not (f i)) i h (not_T (f i) u)))
 
 pub any_same : (n : ℕ) (f g : ℕ → Bool) → ((k : ℕ) → k < n → f k ≡ g k) → any_below n f ≡ any_below n g
 any_same zero f g h = refl

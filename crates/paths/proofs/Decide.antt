@@ -5,8 +5,7 @@ use Prim.Native.Nat.{ℕ, ◌<◌}
 use lib.Dec.{T, eqb, ltb, eqb→eq, ltb→lt, T_not, not_T}
 use Rattle.paths.specs.Inner.Below.{any_below}
 use Rattle.paths.specs.Model.{Model}
-use Rattle.paths.specs.Paths.{SomeOrder, SomeEvents, NoneBelow, Holds}
-use Rattle.paths.specs.Cases.OneModel.{OrderAt, EventsAt}
+use Rattle.paths.specs.Paths.{SomeOrder, SomeEvents, NoneBelow, Holds, OrderAt, EventsAt}
 use Rattle.paths.proofs.Any.{any_of, and_T}
 use Rattle.paths.proofs.Finite.{Finite, any_at, bad_end, bad_at, saturated, none_at_all}
 use Rattle.paths.specs.Inner.Monitors.{tracker_n, stager_n}
@@ -48,10 +47,10 @@ module _ (M : Model) (F : Finite M) where
   below : (f : ℕ → Bool) (m : ℕ) → T (not (any_below m f)) → (k : ℕ) → k < m → T (not (f k))
   below f m t k h = not_T (f k) (λ u. T_not (any_below m f) t (any_of m f k h u))
 
-  pub no_events_lem : (m : ℕ) → T (not (events_b m)) → ¬ SomeEvents M m
+  no_events_lem : (m : ℕ) → T (not (events_b m)) → ¬ SomeEvents M m
   no_events_lem m t b = T_not (events_b m) t ((bad_at M F (stager_n M) m).0 ((events_iff M m).0 b))
 
-  pub some_events : (m : ℕ) → T (events_b m) → SomeEvents M m
+  some_events : (m : ℕ) → T (events_b m) → SomeEvents M m
   some_events m t = (events_iff M m).1 ((bad_at M F (stager_n M) m).1 t)
 
   never_events : (k : ℕ) → T (events_never k) → (m : ℕ) → ¬ SomeEvents M m
@@ -60,10 +59,10 @@ module _ (M : Model) (F : Finite M) where
       none_at_all M F (stager_n M) same same_eq k v.0 v.1 m ((events_iff M m).0 b)
 
   module _ (some_leg : 0 < M.legs) where
-    pub no_order : (m : ℕ) → T (not (order_b m)) → ¬ SomeOrder M m
+    no_order : (m : ℕ) → T (not (order_b m)) → ¬ SomeOrder M m
     no_order m t b = T_not (order_b m) t ((bad_at M F (tracker_n M) m).0 ((order_iff M some_leg m).0 b))
 
-    pub some_order : (m : ℕ) → T (order_b m) → SomeOrder M m
+    some_order : (m : ℕ) → T (order_b m) → SomeOrder M m
     some_order m t = (order_iff M some_leg m).1 ((bad_at M F (tracker_n M) m).1 t)
 
     never_order : (k : ℕ) → T (order_never k) → (m : ℕ) → ¬ SomeOrder M m
@@ -71,7 +70,7 @@ module _ (M : Model) (F : Finite M) where
         let v = (and_T (saturated M F (tracker_n M) same k) (not (any_below k order_b))).0 t in
         none_at_all M F (tracker_n M) same same_eq k v.0 v.1 m ((order_iff M some_leg m).0 b)
 
-    pub none_below : (m : ℕ) → T (none_below_b m) → NoneBelow M m
+    none_below : (m : ℕ) → T (none_below_b m) → NoneBelow M m
     none_below m t k h =
         let q = (and_T (not (any_below m order_b)) (not (any_below m events_b))).0 t in
         (no_order k (below order_b m q.0 k h), no_events_lem k (below events_b m q.1 k h))

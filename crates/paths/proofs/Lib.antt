@@ -11,9 +11,5 @@ pub mod StageLaws
 pub mod TrackerLaws
 pub mod Finite
 pub mod Decide
-pub mod DecideIn
 pub mod Drawn
 pub mod Cases
-pub mod SettingLaws
-pub mod FewSettings
-pub mod SettingCases

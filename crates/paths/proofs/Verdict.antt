@@ -7,8 +7,7 @@ use native.Mathlib.Omega.{arith}
 use native.Mathlib.Decide.{dec_lt}
 use lib.Dec.{T}
 use Rattle.paths.specs.Model.{Model}
-use Rattle.paths.specs.Paths.{IsPath, BreaksOrder, BreaksEvents, SomeOrder, SomeEvents}
-use Rattle.paths.specs.Cases.OneModel.{OrderAt, EventsAt}
+use Rattle.paths.specs.Paths.{IsPath, BreaksOrder, BreaksEvents, SomeOrder, SomeEvents, OrderAt, EventsAt}
 use Rattle.paths.specs.Inner.Verdict.{Verdict, holds, order, events, Right}
 use Rattle.paths.specs.Inner.Monitor.{BadNode}
 use Rattle.paths.specs.Inner.Least.{at, nowhere, Least}

@@ -1,5 +1,3 @@
 -- Named inputs, written out, and what the theorems about them say. No outward promise rests on them.
 pub mod Drawn
 pub mod Drawings
-pub mod Settings
-pub mod OneModel

@@ -87,3 +87,12 @@ module _ (M : Model) where
   -- Defined term: holds. "A goal holds exactly when no path breaks either."
   abbrev pub Holds : Type 0
   Holds = (m : ℕ) → (¬ SomeOrder m) × (¬ SomeEvents m)
+
+  -- "Otherwise the count given is m, the number of steps of some path that breaks the goal, where every other path that breaks
+  -- it has at least as many. The answer is order when some path of m steps breaks order, ..
+  abbrev pub OrderAt : ℕ → Type 0
+  OrderAt m = NoneBelow m × SomeOrder m
+
+  -- .. and else events, so order on a tie."
+  abbrev pub EventsAt : ℕ → Type 0
+  EventsAt m = NoneBelow m × SomeEvents m × (¬ SomeOrder m)

@@ -14,14 +14,14 @@ use Rattle.base.proofs.Numbers.{split_eq}
 use Rattle.base.proofs.BoolLaws.{or_left, or_true}
 use Rattle.policy_image.specs.declared.counts.Counts.{Counts}
 use Rattle.policy_image.specs.Policy.{Policy, policy_of}
-use Rattle.policy_image.specs.Counting.{counting}
+use Rattle.policy_image.specs.Inner.Counting.{counting}
 use Rattle.policy_image.specs.OfKind.{some}
 use Rattle.policy_image.specs.Layout.{counts_of}
 use Rattle.policy_image.specs.Inner.Reading.{Counted}
 use Rattle.context.specs.Codes.{event_at}
 use Rattle.relations.specs.Relations.{α, flows_as, write_like, read_like}
 use Rattle.plan_tables.specs.Inner.Tables.{FlowMasks}
-use Rattle.plan_index.specs.Inner.Index.{code_in, Bears, Ranged}
+use Rattle.plan_index.specs.Inner.Index.{Bears, Ranged}
 use Rattle.plan_index.specs.Inner.Meaning.{AllowBlock, AllowIndex}
 use Rattle.plan_index.proofs.MeaningLaws.{entry_writes, entry_reads}
 use Rattle.base.specs.Inner.Fill.{Filled}
@@ -103,7 +103,7 @@ module _ {p : Policy} {first keys writes reads write read old p1 p2 p3 plan : Li
     class_at : (j : ℕ) → lo ≤ j → j < hi → get_or keys j 0 / 4096 % 32 ≡ get_or keys j 0 / 4096
     class_at j l h = omega (arith, (range_at j l h).class.high)
 
-    entry_of : {mask : ℕ → ℕ} {k q : ℕ} → Bears (code_in keys) mask lo hi k q → EntryOf plan lo hi k
+    entry_of : {masks : List ℕ} {k q : ℕ} → Bears keys masks lo hi k q → EntryOf plan lo hi k
     entry_of b = record { place = b.place; low = b.low; high = b.high; key = key_same b.place (omega (arith, b.high)) ∙ b.key }
 
     offer_block : OfferBlock p t plan lo hi

@@ -7,5 +7,4 @@ pub mod BlockLaws
 pub mod LeadLaws
 pub mod EventLaws
 pub mod PlanLaws
-pub mod RuledLaws
 pub mod EndsLaws

@@ -13,7 +13,7 @@ use Rattle.base.specs.Inner.Fill.{Filled}
 use Rattle.base.proofs.Numbers.{split_le}
 use Rattle.policy_image.specs.declared.counts.Counts.{Counts}
 use Rattle.policy_image.specs.Policy.{Policy, policy_of}
-use Rattle.policy_image.specs.Counting.{counting}
+use Rattle.policy_image.specs.Inner.Counting.{counting}
 use Rattle.policy_image.specs.OfKind.{some}
 use Rattle.policy_sources.specs.Sources.{domain}
 use Rattle.relations.specs.Relations.{ρ, μ, role_change}

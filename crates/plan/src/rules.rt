@@ -1,7 +1,7 @@
 // The part of the rules: the blocks of the types, by the allow records that count, and what is read off them.
 ghost use Rattle.std.specs.Prelude.{◌+◌, ◌≤◌, ◌<◌, length, get_or};
 ghost use Rattle.policy_image.specs.Policy.{policy_of};
-ghost use Rattle.policy_image.specs.Counting.{counting};
+ghost use Rattle.policy_image.specs.Inner.Counting.{counting};
 ghost use Rattle.plan_index.specs.Inner.Counting.{is_counted};
 ghost use Rattle.plan_tables.specs.Inner.Tables.{type_entries};
 ghost use Rattle.plan.specs.Inner.Plan.{Ready, Prepared, SpecialOf};

@@ -18,7 +18,7 @@ use Rattle.base.proofs.BoolLaws.{clash}
 use Rattle.policy_image.specs.declared.records.Record.{Record}
 use Rattle.policy_image.specs.Layout.{policy_head}
 use Rattle.policy_image.specs.Policy.{Policy, policy_of, policy_links}
-use Rattle.policy_image.specs.Counting.{counting}
+use Rattle.policy_image.specs.Inner.Counting.{counting}
 use Rattle.policy_links.proofs.KindLaws.{OfKind, kind_counted, counted_kind}
 use Rattle.policy_check.specs.Inner.Sound.{Sound}
 use Rattle.policy_check.proofs.Along.{along_start, along_step, along_kind, along_end}

@@ -69,7 +69,7 @@ module _ {p : Policy} {codes masks : List ℕ} {n : ℕ} (E : Extracted p codes 
       order : lo ≤ hi
       order = ⊎_elim (λ h. h) (λ (h : hi < lo). absurd (omega (arith, start.below hi h, stop.above hi (omega arith) (omega (arith, start.few))))) (split_le lo hi)
 
-      shows : {R : ℕ → ℕ → ℕ → ℕ → Type 0} {give : ℕ → ℕ} {side : List ℕ} → Says R (code_in codes) give n → Unites (code_in codes) give n (code_in entries) (code_in side) m → MasksShow (λ c o q. R t c o q) keys side lo hi
+      shows : {R : ℕ → ℕ → ℕ → ℕ → Type 0} {give : ℕ → ℕ} {side : List ℕ} → Says R (code_in codes) give n → Unites (code_in codes) give n entries side m → MasksShow (λ c o q. R t c o q) keys side lo hi
       shows {give = give} H W =
           record {
             sound = λ k q lq b.
@@ -113,14 +113,14 @@ module _ {p : Policy} {codes masks : List ℕ} {n : ℕ} (E : Extracted p codes 
 
 -- ---- for those who read the index: an entry's masks, bit for bit
 -- keys rise, so one place has the key
-one_place : (keys : List ℕ) (lo hi i j : ℕ) → RisingKeys (code_in keys) lo hi → lo ≤ i → i < hi → lo ≤ j → j < hi → get_or keys i 0 ≡ get_or keys j 0 → i ≡ j
+one_place : (keys : List ℕ) (lo hi i j : ℕ) → RisingKeys keys lo hi → lo ≤ i → i < hi → lo ≤ j → j < hi → get_or keys i 0 ≡ get_or keys j 0 → i ≡ j
 one_place keys lo hi i j S li hi' lj hj e =
     ⊎_elim (λ q. q)
     (λ n. ⊎_elim (λ (l : i ≤ j). absurd (omega (arith, S.rising i j li (omega (arith, n)) hj))) (λ (l : j < i). absurd (omega (arith, S.rising j i lj l hi'))) (split_le i j))
     (split_eq i j)
 
 -- the mask at an entry has bit q exactly when R holds
-entry : (f : ℕ → ℕ → ℕ → Bool) (types : ℕ) (keys masks : List ℕ) (lo hi : ℕ) → RisingKeys (code_in keys) lo hi → ((k : ℕ) → Has keys lo hi k → Ranged types k)
+entry : (f : ℕ → ℕ → ℕ → Bool) (types : ℕ) (keys masks : List ℕ) (lo hi : ℕ) → RisingKeys keys lo hi → ((k : ℕ) → Has keys lo hi k → Ranged types k)
     → MasksShow (λ c o q. f c o q ≡ true) keys masks lo hi → (j q : ℕ) → lo ≤ j → j < hi → q < 32
     → bit (get_or masks j 0) q ≡ f (get_or keys j 0 / type_codes) (get_or keys j 0 % type_codes) q
 entry f types keys masks lo hi S N H j q lj hj lq =

@@ -1,7 +1,6 @@
 -- Definitions that contracts inside the project and proofs speak of. No outward promise rests on them.
 pub mod Codes
 pub mod Counting
-pub mod Settings
 pub mod Index
 pub mod Items
 pub mod Unite

@@ -1,7 +1,7 @@
 // The items of a policy image's allow records: each record gives one for its source and one for its target.
 ghost use Rattle.std.specs.Prelude.{◌≡◌, ◌+◌, ◌*◌, ◌≤◌, ◌<◌, length};
 ghost use Rattle.policy_image.specs.Policy.{policy_of};
-ghost use Rattle.policy_image.specs.Counting.{counting};
+ghost use Rattle.policy_image.specs.Inner.Counting.{counting};
 ghost use Rattle.policy_image.specs.Inner.Reading.{Bytes};
 ghost use Rattle.policy_check.specs.Inner.Sound.{Sound};
 ghost use Rattle.plan_tables.specs.Inner.Tables.{GammaMasks};

@@ -1,13 +1,12 @@
 // The index of a policy's allow records: for each type what it may do to others and others to it.
 pub mod codes;
 pub mod extract;
-pub mod settings;
 pub mod split;
 pub mod unite;
 
 ghost use Rattle.std.specs.Prelude.{◌+◌, ◌<◌, length};
 ghost use Rattle.policy_image.specs.Policy.{policy_of};
-ghost use Rattle.policy_image.specs.Counting.{counting};
+ghost use Rattle.policy_image.specs.Inner.Counting.{counting};
 ghost use Rattle.policy_image.specs.Inner.Reading.{Counted};
 ghost use Rattle.policy_check.specs.Inner.Sound.{Sound};
 ghost use Rattle.plan_index.specs.Inner.Counting.{is_counted};

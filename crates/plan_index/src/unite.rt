@@ -31,7 +31,7 @@ pub fn unite(
     writes: &mut [u32],
     reads: &mut [u32],
 ) -> usize
-    requires { (n ≤ items) × Ordered (code_in codes.now) n order.now × EntryRoom keys.old writes.old reads.old }
+    requires { (n ≤ items) × Ordered codes.now n order.now × EntryRoom keys.old writes.old reads.old }
     ensures { UnitedItems (code_in codes.now) (side_mask masks.now 0) (side_mask masks.now 1) n keys.new writes.new reads.new result }
 {
     let mut m: usize = 0;

@@ -27,9 +27,9 @@ within false m = m.a.high
 
 module _ (s : List ℕ) (S : Sound s) where
   -- a record of kind k is within the ranges of kind k
-  pub meets : (k i : ℕ) → OfKind (policy_of s) k i → WithinLimits (limits_of (counts_of s) k ((policy_of s).rec i).a ((policy_of s).rec i).d) ((policy_of s).rec i)
+  pub meets : (k i : ℕ) → OfKind (policy_of s) k i → WithinLimits (limits_of (counts_of s) k ((policy_of s).rec i).a) ((policy_of s).rec i)
   meets k i o =
-      subst (λ (j : ℕ). WithinLimits (limits_of (counts_of s) j ((policy_of s).rec i).a ((policy_of s).rec i).d) ((policy_of s).rec i)) o.kind
+      subst (λ (j : ℕ). WithinLimits (limits_of (counts_of s) j ((policy_of s).rec i).a) ((policy_of s).rec i)) o.kind
       (S.fields.each i o.low o.high)
 
   pub shifts : (k i : ℕ) → OfKind (policy_of s) k i → Shifts k ((policy_of s).rec i)
@@ -50,7 +50,7 @@ module _ (s : List ℕ) (S : Sound s) where
 
   -- what the pass over the records of kind k asks for, where its table has n entries: question 5 lets no record name a number above m,
   -- and m is below n
-  pub gathers : (k m n : ℕ) → (leb 1 k && (leb k 9 && ltb m n)) ≡ true → ((op switch : ℕ) → highest (limits_of (counts_of s) k op switch) k ≤ m)
+  pub gathers : (k m n : ℕ) → (leb 1 k && (leb k 9 && ltb m n)) ≡ true → ((op : ℕ) → highest (limits_of (counts_of s) k op) k ≤ m)
       → Sound s × (1 ≤ k) × (k ≤ 9) × Room (policy_of s) k n
   gathers k m n tests h =
       let rest = and_second (leb 1 k) (leb k 9 && ltb m n) tests in
@@ -61,6 +61,6 @@ module _ (s : List ℕ) (S : Sound s) where
         record {
           at = λ i a b e.
               let l = within (eqb k 5) (meets k i (record { low = a; high = b; kind = e })) in
-              omega (arith, h ((policy_of s).rec i).a ((policy_of s).rec i).d);
+              omega (arith, h ((policy_of s).rec i).a);
         },
       )

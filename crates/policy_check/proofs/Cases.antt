@@ -303,38 +303,13 @@ pub domain_with_mask : Refused (image 1 1 1 1 (chain_of 1) (line 0 1 1 0 0 0 0 1
 unfolding counts_of record_count record_of policy_head payload_of decoded use_of
 domain_with_mask = refused_5 refl refl refl refl refl
 
-pub domain_with_d : Refused (image 1 1 1 1 (chain_of 1) (line 0 1 1 0 0 1 0 0 0 0 0 ∷ [])) 5
+pub allow_with_d : Refused (image 1 1 1 1 (chain_of 4) (line 0 4 1 1 1 1 0 1 0 0 0 ∷ [])) 5
 unfolding counts_of record_count record_of policy_head payload_of decoded use_of
-domain_with_d = refused_5 refl refl refl refl refl
+allow_with_d = refused_5 refl refl refl refl refl
 
-pub domain_with_e : Refused (image 1 1 1 1 (chain_of 1) (line 0 1 1 0 0 0 1 0 0 0 0 ∷ [])) 5
+pub allow_with_e : Refused (image 1 1 1 1 (chain_of 4) (line 0 4 1 1 1 0 1 1 0 0 0 ∷ [])) 5
 unfolding counts_of record_count record_of policy_head payload_of decoded use_of
-domain_with_e = refused_5 refl refl refl refl refl
-
--- "d is the switch (0 none, else 1 to 8) and e the position, 0 or 1, in which the rule applies; e is 0 when d is 0" (paper 02, g)
-pub switch_nine : Refused (image 1 1 1 1 (chain_of 4) (line 0 4 1 1 1 9 0 1 0 0 0 ∷ [])) 5
-unfolding counts_of record_count record_of policy_head payload_of decoded use_of
-switch_nine = refused_5 refl refl refl refl refl
-
-pub position_two : Refused (image 1 1 1 1 (chain_of 4) (line 0 4 1 1 1 1 2 1 0 0 0 ∷ [])) 5
-unfolding counts_of record_count record_of policy_head payload_of decoded use_of
-position_two = refused_5 refl refl refl refl refl
-
-pub position_without_switch : Refused (image 1 1 1 1 (chain_of 4) (line 0 4 1 1 1 0 1 1 0 0 0 ∷ [])) 5
-unfolding counts_of record_count record_of policy_head payload_of decoded use_of
-position_without_switch = refused_5 refl refl refl refl refl
-
-pub last_switch_on : Accepted (image 1 1 1 1 (1 ∷ 0 ∷ 0 ∷ 2 ∷ 0 ∷ 0 ∷ 0 ∷ 0 ∷ 0 ∷ []) (domain 0 1 ∷ line 0 4 1 1 1 8 1 1 0 0 0 ∷ []))
-unfolding counts_of record_count record_of policy_head payload_of decoded use_of
-last_switch_on = accepted refl refl refl refl refl refl refl
-
-pub last_switch_off : Accepted (image 1 1 1 1 (1 ∷ 0 ∷ 0 ∷ 2 ∷ 0 ∷ 0 ∷ 0 ∷ 0 ∷ 0 ∷ []) (domain 0 1 ∷ line 0 4 1 1 1 8 0 1 0 0 0 ∷ []))
-unfolding counts_of record_count record_of policy_head payload_of decoded use_of
-last_switch_off = accepted refl refl refl refl refl refl refl
-
-pub first_switch_off : Accepted (image 1 1 1 1 (1 ∷ 0 ∷ 0 ∷ 2 ∷ 0 ∷ 0 ∷ 0 ∷ 0 ∷ 0 ∷ []) (domain 0 1 ∷ line 0 4 1 1 1 1 0 1 0 0 0 ∷ []))
-unfolding counts_of record_count record_of policy_head payload_of decoded use_of
-first_switch_off = accepted refl refl refl refl refl refl refl
+allow_with_e = refused_5 refl refl refl refl refl
 
 -- a mask may be empty, or name what no kind 2 record gives
 pub empty_mask : Accepted (image 1 1 1 1 (1 ∷ 0 ∷ 0 ∷ 2 ∷ 0 ∷ 0 ∷ 0 ∷ 0 ∷ 0 ∷ []) (domain 0 1 ∷ allow 0 1 1 1 0 ∷ []))

@@ -124,12 +124,12 @@ dec_meets l r =
     both dec_within l.e.low l.e.high r.e both dec_within l.mask.low l.mask.high r.mask)
 
 abbrev pub fields_b : Policy → Bool
-fields_b p = all_upto (λ i. meets_b (limits_of p.counts (p.rec i).kind (p.rec i).a (p.rec i).d) (p.rec i)) p.size
+fields_b p = all_upto (λ i. meets_b (limits_of p.counts (p.rec i).kind (p.rec i).a) (p.rec i)) p.size
 
 pub dec_fields : (p : Policy) → Says (fields_b p) (FieldsInRange p)
 dec_fields p =
     says_iff (λ h. record { each = h }) (λ h. h.each)
-    (dec_all (λ i. dec_meets (limits_of p.counts (p.rec i).kind (p.rec i).a (p.rec i).d) (p.rec i)) p.size)
+    (dec_all (λ i. dec_meets (limits_of p.counts (p.rec i).kind (p.rec i).a) (p.rec i)) p.size)
 
 -- ---- question 6
 

@@ -16,61 +16,55 @@ use Rattle.policy_expressions.specs.Nodes.{NodesInOrder}
 use Rattle.policy_lists.specs.Lists.{record_in}
 use Rattle.policy_lists.proofs.LimitLaws.{AtLeast}
 use Rattle.policy_lists.proofs.StemFieldLaws.{from_fields, stem_fits}
-use Rattle.policy_facts.specs.Facts.{Key, permits, united_mask, carries_mask}
-use Rattle.policy_facts.specs.Canonical.{key_of, fact_record, canonical_node, canonical_list, canonical_of}
+use Rattle.policy_facts.specs.Facts.{says_b, permits, united_mask, carries_mask}
+use Rattle.policy_facts.specs.Canonical.{key_a, key_b, key_c, fact_record, canonical_node, canonical_list, canonical_of}
 use Rattle.policy_facts.specs.Inner.FactTable.{Written}
 use Rattle.policy_facts.proofs.MaskLaws.{mask_small}
 use Rattle.policy_facts.proofs.FactFieldLaws.{most_mask, fact_limits}
-use Rattle.policy_facts.proofs.KeyLaws.{says_cases, HasFields, key_has}
+use Rattle.policy_facts.proofs.KeyLaws.{says_cases, key_has}
 use Rattle.policy_facts.proofs.StatedLaws.{written_key, no_mask}
 use Rattle.policy_facts.proofs.CanonicalStemLaws.{FactRecord, canonical_begin, canonical_stems, canonical_is}
 
 -- ---- the record of a fact
 module _ (p : Policy) (C : CountsInRange p.counts) (F : FieldsInRange p) (k x : ℕ) (w : Within 1 7 k) (W : Written p k x) where
-  abbrev key : Key
-  key = key_of x
-
   abbrev lines : Limits
-  lines = limits_of p.counts k key.a key.d
+  lines = limits_of p.counts k (key_a x)
 
   -- a record that states the key lies within its ranges ..
-  stated_fits : (i : ℕ) → OfKind p k i → HasFields key (p.rec i) → WithinLimits lines (p.rec i)
-  stated_fits i O H =
-      let r = p.rec i in
-      let f : WithinLimits (limits_of p.counts k r.a r.d) r =
-      subst (λ (κ : ℕ). WithinLimits (limits_of p.counts κ r.a r.d) r) O.kind (F.each i O.low O.high) in
-      subst (λ (d : ℕ). WithinLimits (limits_of p.counts k key.a d) r) H.d
-      (subst (λ (a : ℕ). WithinLimits (limits_of p.counts k a r.d) r) H.a f)
+  stated_fits : (i : ℕ) → OfKind p k i → (p.rec i).a ≡ key_a x → WithinLimits lines (p.rec i)
+  stated_fits i O e =
+      subst (λ (a : ℕ). WithinLimits (limits_of p.counts k a) (p.rec i)) e
+      (subst (λ (κ : ℕ). WithinLimits (limits_of p.counts κ (p.rec i).a) (p.rec i)) O.kind (F.each i O.low O.high))
 
   -- .. and the b that it says does, too: of kind 3 it may say 1 and 2 by 3
-  says_within : (i : ℕ) → OfKind p k i → HasFields key (p.rec i) → Within lines.b.low lines.b.high key.b
-  says_within i O H =
+  says_within : (i : ℕ) → OfKind p k i → (p.rec i).a ≡ key_a x → says_b (p.rec i) (key_b x) ≡ true → Within lines.b.low lines.b.high (key_b x)
+  says_within i O e h =
       ⊎_elim
       (λ s.
-      subst (λ (κ : ℕ). Within (limits_of p.counts κ key.a key.d).b.low (limits_of p.counts κ key.a key.d).b.high key.b) (sym s.0.0 ∙ O.kind)
+      subst (λ (κ : ℕ). Within (limits_of p.counts κ (key_a x)).b.low (limits_of p.counts κ (key_a x)).b.high (key_b x)) (sym s.0.0 ∙ O.kind)
       (⊎_elim (λ e. record { low = omega arith; high = omega arith }) (λ e. record { low = omega arith; high = omega arith }) s.1))
-      (λ s. subst (Within lines.b.low lines.b.high) s.1 (stated_fits i O H).b)
-      (says_cases (p.rec i) key.b H.b)
+      (λ s. subst (Within lines.b.low lines.b.high) s.1 (stated_fits i O e).b)
+      (says_cases (p.rec i) (key_b x) h)
 
-  united_most : united_mask p k key ≤ most_mask (carries_mask k)
+  united_most : united_mask p k (key_a x) (key_b x) (key_c x) ≤ most_mask (carries_mask k)
   united_most = go (carries_mask k) refl
     where
-      go : (t : Bool) → carries_mask k ≡ t → united_mask p k key ≤ most_mask t
-      go true e = let m = mask_small (permits p k key) 32 in omega arith
-      go false e = let z = no_mask p C F k key w e in omega arith
+      go : (t : Bool) → carries_mask k ≡ t → united_mask p k (key_a x) (key_b x) (key_c x) ≤ most_mask t
+      go true e = let m = mask_small (permits p k (key_a x) (key_b x) (key_c x)) 32 in omega arith
+      go false e = let z = no_mask p C F k (key_a x) (key_b x) (key_c x) w e in omega arith
 
   fact_fits : Fits p.counts (fact_record p k x)
   fact_fits =
-      let S = written_key p k key W in
-      let H = key_has key (p.rec S.0) S.2 in
-      let G = stated_fits S.0 S.1 H in
-      let l = fact_limits p.counts C key.a key.d k w in
+      let S = written_key p k (key_a x) (key_b x) (key_c x) W in
+      let H = key_has (key_a x) (key_b x) (key_c x) (p.rec S.0) S.2 in
+      let G = stated_fits S.0 S.1 H.0 in
+      let l = fact_limits p.counts C (key_a x) k w in
       record {
-        a = subst (Within lines.a.low lines.a.high) H.a G.a;
-        b = says_within S.0 S.1 H;
-        c = subst (Within lines.c.low lines.c.high) H.c G.c;
-        d = subst (Within lines.d.low lines.d.high) H.d G.d;
-        e = subst (Within lines.e.low lines.e.high) H.e G.e;
+        a = subst (Within lines.a.low lines.a.high) H.0 G.a;
+        b = says_within S.0 S.1 H.0 H.1;
+        c = subst (Within lines.c.low lines.c.high) H.2 G.c;
+        d = record { low = omega (arith, l.d); high = omega arith };
+        e = record { low = omega (arith, l.e); high = omega arith };
         mask = record { low = omega (arith, l.least); high = omega (arith, l.most, united_most) };
       }
 

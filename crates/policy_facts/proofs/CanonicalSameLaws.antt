@@ -85,8 +85,8 @@ module _ (p : Policy) where
           roles = refl;
           users = refl;
           classes = refl;
-          keys = λ k x w m. sym (states_canonical p C E k x w m);
-          permissions = λ k x i m. sym (permits_canonical p C E k x i m);
+          keys = λ k a b c w m. sym (states_canonical p C E k a b c w m);
+          permissions = λ k a b c i m. sym (permits_canonical p C E k a b c i m);
           constraints = place_same 8 (omega arith) (omega arith);
           nodes = place_same 9 (omega arith) (omega arith);
         }

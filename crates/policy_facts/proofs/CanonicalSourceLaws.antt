@@ -15,7 +15,7 @@ use Rattle.policy_fields.specs.Fields.{FieldsInRange}
 use Rattle.policy_sources.specs.Sources.{domain, AllowsFromDomains}
 use Rattle.policy_lists.specs.Inner.Tests.{IgnoresNext}
 use Rattle.policy_lists.proofs.ListLaws.{every_not}
-use Rattle.policy_facts.specs.Canonical.{key_of, key_numbers, fact_record, canonical_of}
+use Rattle.policy_facts.specs.Canonical.{key_a, key_b, key_c, key_numbers, fact_record, canonical_of}
 use Rattle.policy_facts.specs.Inner.FactTable.{Written}
 use Rattle.policy_facts.proofs.FactListLaws.{fact_some}
 use Rattle.policy_facts.proofs.KeyLaws.{key_has}
@@ -36,6 +36,6 @@ pub canonical_sources : (p : Policy) → CountsInRange p.counts → FieldsInRang
 canonical_sources p C E A =
     every_fact p 4 (λ r. domain (canonical_of p) r.a) (λ n r. refl) (record { low = omega arith; high = omega arith })
     (λ x W.
-    let s = written_key p 4 (key_of x) W in
-    let h = key_has (key_of x) (p.rec s.0) s.2 in
-    domain_same (canonical_facts p C E) (key_of x).a ∙ ap (domain p) (sym h.a) ∙ every_record p 4 (λ r. domain p r.a) A s.0 s.1)
+    let s = written_key p 4 (key_a x) (key_b x) (key_c x) W in
+    let h = key_has (key_a x) (key_b x) (key_c x) (p.rec s.0) s.2 in
+    domain_same (canonical_facts p C E) (key_a x) ∙ ap (domain p) (sym h.0) ∙ every_record p 4 (λ r. domain p r.a) A s.0 s.1)

@@ -20,7 +20,7 @@ use Rattle.policy_lists.proofs.StemLaws.{InKind, find_kind, Stems, stems_at}
 use Rattle.policy_lists.proofs.StemNodeLaws.{nodes_first, nodes_most, moved_is}
 use Rattle.policy_facts.specs.Canonical.{key_numbers, fact_record, fact_kind, canonical_node, canonical_kind, canonical_list, canonical_of}
 use Rattle.policy_facts.specs.Inner.FactTable.{Written}
-use Rattle.policy_facts.proofs.FactListLaws.{fact_in_lem}
+use Rattle.policy_facts.proofs.FactListLaws.{fact_in}
 use Rattle.policy_facts.proofs.StatedLaws.{canonical_fact}
 use Rattle.policy_facts.proofs.CanonicalTurnLaws.{canonical_kept, constraints_end, canonical_size}
 
@@ -48,7 +48,7 @@ module _ (p : Policy) where
   fact_there i f h =
       let k : ℕ = suc f.below in
       let e = canonical_fact p k h in
-      let g = fact_in_lem p k key_numbers f.at (subst (λ (l : List Record). f.at < length l) e f.room) in
+      let g = fact_in p k key_numbers f.at (subst (λ (l : List Record). f.at < length l) e f.room) in
       let n = ending_next (canonical_kind p) f.below in
       let r = endings_rise (canonical_kind p) k 7 h in
       record {

@@ -21,10 +21,10 @@ use Rattle.policy_image.specs.Policy.{Policy}
 use Rattle.policy_links.proofs.KindLaws.{OfKind}
 use Rattle.policy_lists.specs.Lists.{records_upto, kind_list}
 use Rattle.policy_lists.specs.Joined.{nodes_upto, kinds_upto, renumbered}
-use Rattle.policy_facts.specs.Facts.{has_key, is_stated, permits, united_mask, carries_mask}
-use Rattle.policy_facts.specs.Canonical.{key_of, key_numbers, fact_kind, canonical_list}
-use Rattle.policy_facts.specs.Inner.FactTable.{fact_code, kind_in, number_in, key_in, key_with, table_record, Written, Entry, CodeStands, FactTable}
-use Rattle.policy_facts.proofs.KeyLaws.{SaysBoth, says_cases, HasFields, key_has, number_key, states_record, permits_record}
+use Rattle.policy_facts.specs.Facts.{says_b, has_key, is_stated, permits, united_mask, carries_mask}
+use Rattle.policy_facts.specs.Canonical.{key_a, key_b, key_c, key_numbers, fact_kind, canonical_list}
+use Rattle.policy_facts.specs.Inner.FactTable.{fact_key, kind_in, number_in, table_record, Written, Entry, KeyStands, FactTable}
+use Rattle.policy_facts.proofs.KeyLaws.{SaysBoth, says_cases, key_has, states_record, permits_record}
 use Rattle.policy_facts.proofs.MaskLaws.{mask_found}
 use Rattle.policy_facts.proofs.FactTableLaws.{table_list}
 
@@ -37,10 +37,10 @@ rises_b low (key ∷ keys) = leb low key && rises_b (suc key) keys
 -- each key is written, with its mask
 module _ (p : Policy) where
   abbrev united_in : ℕ → ℕ
-  united_in key = united_mask p (kind_in key) (key_in key)
+  united_in key = united_mask p (kind_in key) (key_a (number_in key)) (key_b (number_in key)) (key_c (number_in key))
 
   abbrev stated_in : ℕ → Bool
-  stated_in key = is_stated p (kind_in key) (key_in key)
+  stated_in key = is_stated p (kind_in key) (key_a (number_in key)) (key_b (number_in key)) (key_c (number_in key))
 
   abbrev entry_b : ℕ → ℕ → Bool
   entry_b key mask =
@@ -57,7 +57,7 @@ stands_b [] key = false
 stands_b (first ∷ keys) key = eqb first key || stands_b keys key
 
 abbrev with_b : List ℕ → Record → ℕ → Bool
-with_b keys r b = stands_b keys (fact_code r.kind (key_with r b))
+with_b keys r b = stands_b keys (fact_key r.kind r.a b r.c)
 
 abbrev silent_b : Record → Bool
 silent_b r = not (within_b 1 7 r.kind) || (carries_mask r.kind && eqb r.mask 0)
@@ -110,7 +110,7 @@ module _ (p : Policy) where
       entries keys masks (and_second (entry_b p key mask) (entries_b p keys masks) e) i (omega arith)
 
 -- ---- and no other is
-stands : (keys : List ℕ) (k x key : ℕ) → key ≡ 17179869184 * k + x → stands_b keys key ≡ true → CodeStands (λ i. get_or keys i 0) (length keys) k x
+stands : (keys : List ℕ) (k x key : ℕ) → key ≡ 16777216 * k + x → stands_b keys key ≡ true → KeyStands keys (length keys) k x
 stands [] k x key s e = absurd (clash e refl)
 stands (first ∷ keys) k x key s e =
     ⊎_elim
@@ -130,37 +130,31 @@ says_something r k isK w d e =
 
 -- a key that it has is one of those that are asked for
 module _ (keys : List ℕ) (r : Record) (k x : ℕ) (isK : r.kind ≡ k) (low : x < key_numbers) where
-  stands_with : (b : ℕ) → HasFields (key_of x) r → b ≡ (key_of x).b → with_b keys r b ≡ true → CodeStands (λ i. get_or keys i 0) (length keys) k x
-  stands_with b K is_b e =
-      let is_a = K.a in
-      let isC = K.c in
-      let isD = K.d in
-      let isE = K.e in
-      let is = number_key x in
-      stands keys k x (fact_code r.kind (key_with r b)) (omega arith) e
+  stands_with : (b : ℕ) → r.a ≡ key_a x → b ≡ key_b x → r.c ≡ key_c x → with_b keys r b ≡ true → KeyStands keys (length keys) k x
+  stands_with b is_a is_b is_c e = stands keys k x (fact_key r.kind r.a b r.c) (omega arith) e
 
-  held : has_key (key_of x) r ≡ true → held_b keys r ≡ true → CodeStands (λ i. get_or keys i 0) (length keys) k x
+  held : has_key (key_a x) (key_b x) (key_c x) r ≡ true → held_b keys r ≡ true → KeyStands keys (length keys) k x
   held h e = go (eqb r.kind 3) (eqb r.b 3) refl refl e
     where
-      K : HasFields (key_of x) r
-      K = key_has (key_of x) r h
+      K : (r.a ≡ key_a x) × (says_b r (key_b x) ≡ true) × (r.c ≡ key_c x)
+      K = key_has (key_a x) (key_b x) (key_c x) r h
 
-      one : (SaysBoth r → ⊥) → with_b keys r r.b ≡ true → CodeStands (λ i. get_or keys i 0) (length keys) k x
+      one : (SaysBoth r → ⊥) → with_b keys r r.b ≡ true → KeyStands keys (length keys) k x
       one d t =
-          ⊎_elim (λ s. absurd (d s.0)) (λ s. stands_with r.b K s.1 t) (says_cases r (key_of x).b K.b)
+          ⊎_elim (λ s. absurd (d s.0)) (λ s. stands_with r.b K.0 s.1 K.2 t) (says_cases r (key_b x) K.1)
 
-      both : SaysBoth r → (with_b keys r 1 && with_b keys r 2) ≡ true → CodeStands (λ i. get_or keys i 0) (length keys) k x
+      both : SaysBoth r → (with_b keys r 1 && with_b keys r 2) ≡ true → KeyStands keys (length keys) k x
       both s t =
           ⊎_elim
           (λ c.
-          ⊎_elim (λ b. stands_with 1 K (sym b) (and_first (with_b keys r 1) (with_b keys r 2) t))
-          (λ b. stands_with 2 K (sym b) (and_second (with_b keys r 1) (with_b keys r 2) t))
+          ⊎_elim (λ b. stands_with 1 K.0 (sym b) K.2 (and_first (with_b keys r 1) (with_b keys r 2) t))
+          (λ b. stands_with 2 K.0 (sym b) K.2 (and_second (with_b keys r 1) (with_b keys r 2) t))
           c.1)
           (λ c. absurd (c.0 s))
-          (says_cases r (key_of x).b K.b)
+          (says_cases r (key_b x) K.1)
 
       go : (m n : Bool) → eqb r.kind 3 ≡ m → eqb r.b 3 ≡ n → cond (m && n) (with_b keys r 1 && with_b keys r 2) (with_b keys r r.b) ≡ true
-          → CodeStands (λ i. get_or keys i 0) (length keys) k x
+          → KeyStands keys (length keys) k x
       go true true a b t = both (eqb-true r.kind 3 a, eqb-true r.b 3 b) t
       go true false a b t = one (λ s. eqb-false r.b 3 b s.1) t
       go false n a b t = one (λ s. eqb-false r.kind 3 a s.0) t
@@ -172,8 +166,8 @@ module _ (p : Policy) (keys masks : List ℕ) (e : table_b p keys masks ≡ true
   entered : (entries_b p keys masks && all_covered) ≡ true
   entered = and_second (rises_b 0 keys) (entries_b p keys masks && all_covered) e
 
-  covered : (k x i : ℕ) → Within 1 7 k → x < key_numbers → OfKind p k i → has_key (key_of x) (p.rec i) ≡ true
-      → (carries_mask k ≡ true → (p.rec i).mask ≡ 0 → ⊥) → CodeStands (λ i. get_or keys i 0) (length keys) k x
+  covered : (k x i : ℕ) → Within 1 7 k → x < key_numbers → OfKind p k i → has_key (key_a x) (key_b x) (key_c x) (p.rec i) ≡ true
+      → (carries_mask k ≡ true → (p.rec i).mask ≡ 0 → ⊥) → KeyStands keys (length keys) k x
   covered k x i w low o h d =
       let r = p.rec i in
       ⊎_elim
@@ -182,22 +176,22 @@ module _ (p : Policy) (keys masks : List ℕ) (e : table_b p keys masks ≡ true
       (or_cases (silent_b r) (held_b keys r)
       (all_at (λ i. covered_b keys (p.rec i)) p.size i (and_second (entries_b p keys masks) all_covered entered) o.low o.high))
 
-  every_written : (k x : ℕ) → Within 1 7 k → x < key_numbers → Written p k x → CodeStands (λ i. get_or keys i 0) (length keys) k x
+  every_written : (k x : ℕ) → Within 1 7 k → x < key_numbers → Written p k x → KeyStands keys (length keys) k x
   every_written k x w low t = go (carries_mask k) refl t
     where
       united : ℕ
-      united = united_mask p k (key_of x)
+      united = united_mask p k (key_a x) (key_b x) (key_c x)
 
-      go : (m : Bool) → carries_mask k ≡ m → cond m (not (eqb united 0)) (is_stated p k (key_of x)) ≡ true → CodeStands (λ i. get_or keys i 0) (length keys) k x
+      go : (m : Bool) → carries_mask k ≡ m → cond m (not (eqb united 0)) (is_stated p k (key_a x) (key_b x) (key_c x)) ≡ true → KeyStands keys (length keys) k x
       go true m t =
-          let f = mask_found (permits p k (key_of x)) 32 (eqb-false united 0 (not-true (eqb united 0) t)) in
-          let s = permits_record p k (key_of x) f.0 f.2 in
+          let f = mask_found (permits p k (key_a x) (key_b x) (key_c x)) 32 (eqb-false united 0 (not-true (eqb united 0) t)) in
+          let s = permits_record p k (key_a x) (key_b x) (key_c x) f.0 f.2 in
           covered k x s.0 w low s.1 s.2 (λ _ z. clash s.3 (ap (λ (n : ℕ). bit n f.0) z ∙ bit_zero f.0))
       go false m t =
-          let s = states_record p k (key_of x) t in
+          let s = states_record p k (key_a x) (key_b x) (key_c x) t in
           covered k x s.0 w low s.1 s.2 (λ n _. clash n m)
 
-  pub table_computed : FactTable p (λ i. get_or keys i 0) (λ i. get_or masks i 0) (length keys)
+  pub table_computed : FactTable p keys masks (length keys)
   table_computed =
       record {
         rising = rises 0 keys (and_first (rises_b 0 keys) (entries_b p keys masks && all_covered) e);
@@ -215,7 +209,7 @@ computed_list p facts = facts ++ map (renumbered to) (kind_list p 8) ++ map (ren
 -- .. where these are given: they are the records of kinds 1 to 7 of q
 module _ (p q : Policy) where
   abbrev keys_of : List ℕ
-  keys_of = map (λ r. fact_code r.kind (key_with r r.b)) (kinds_upto (kind_list q) 7)
+  keys_of = map (λ r. fact_key r.kind r.a r.b r.c) (kinds_upto (kind_list q) 7)
 
   abbrev masks_of : List ℕ
   masks_of = map (λ r. r.mask) (kinds_upto (kind_list q) 7)

@@ -1,12 +1,11 @@
--- Question 5 of a policy, for records of kinds 1 to 7: a and b are bytes, c, d and e are as small as a key has room for, masks have 32 bits, and
--- a kind that carries none has the mask 0.
+-- Question 5 of a policy, for records of kinds 1 to 7: a, b and c are bytes, masks have 32 bits, and a kind that carries none has the mask 0.
 use Prim.Native.Nat.{ℕ, ◌^◌, ◌≤◌, ◌<◌}
 use mathlib.Core.Path.{◌≡◌, refl, ap, subst}
 use mathlib.Core.Bool.{Bool, true, false, cond}
 use mathlib.Core.Logic.{⊎_elim}
 use native.Mathlib.Omega.{arith}
 use borrow.Author.Tests.{leb-true}
-use lib.Dec.{eqb, leb}
+use lib.Dec.{leb}
 use Rattle.base.specs.Ranges.{Within}
 use Rattle.base.proofs.Numbers.{split_le, three_of}
 use Rattle.base.proofs.BoolLaws.{and_first, and_second}
@@ -16,7 +15,7 @@ use Rattle.policy_image.specs.Counts.{CountsInRange}
 use Rattle.policy_image.specs.Policy.{Policy}
 use Rattle.policy_links.proofs.KindLaws.{OfKind}
 use Rattle.policy_fields.specs.declared.Limits.{Limits}
-use Rattle.policy_fields.specs.Fields.{position, limits_of, WithinLimits, FieldsInRange}
+use Rattle.policy_fields.specs.Fields.{limits_of, WithinLimits, FieldsInRange}
 use Rattle.policy_facts.specs.Facts.{carries_mask}
 
 -- the kinds that carry a mask are some of them
@@ -34,29 +33,21 @@ most_mask_lem : (t : Bool) → most_mask t ≤ 4294967295
 most_mask_lem true = omega arith
 most_mask_lem false = omega arith
 
--- a switch has two positions
-last_most : (d : ℕ) → (position d).high ≤ 1
-last_most d = go (eqb d 0)
-  where
-    go : (t : Bool) → cond t 0 1 ≤ 1
-    go true = omega arith
-    go false = omega arith
-
 -- ---- the ranges of kind k
 pub record FactLimits (k : ℕ) (l : Limits) : Type 0 where
   pub a : l.a.high ≤ 255
   pub b : l.b.high ≤ 255
-  pub c : l.c.high ≤ 31
-  pub d : l.d.high ≤ 8
-  pub e : l.e.high ≤ 1
+  pub c : l.c.high ≤ 255
+  pub d : l.d.low ≡ 0
+  pub e : l.e.low ≡ 0
   pub least : l.mask.low ≡ 0
   pub most : l.mask.high ≡ most_mask (carries_mask k)
 
-module _ (n : Counts) (C : CountsInRange n) (op d : ℕ) where
+module _ (n : Counts) (C : CountsInRange n) (op : ℕ) where
   abbrev Limited : ℕ → Type 0
-  Limited k = FactLimits k (limits_of n k op d)
+  Limited k = FactLimits k (limits_of n k op)
 
-  pub fact_limits : (k : ℕ) → Within 1 7 k → FactLimits k (limits_of n k op d)
+  pub fact_limits : (k : ℕ) → Within 1 7 k → FactLimits k (limits_of n k op)
   fact_limits k w =
       ⊎_elim
       (λ h. three_of Limited 1 k w.low h one two three)
@@ -64,48 +55,44 @@ module _ (n : Counts) (C : CountsInRange n) (op d : ℕ) where
       (split_le k 3)
     where
       one : Limited 1
-      one = record { a = omega arith; b = omega arith; c = omega arith; d = omega arith; e = omega arith; least = refl; most = refl }
+      one = record { a = omega arith; b = omega arith; c = omega arith; d = refl; e = refl; least = refl; most = refl }
 
       two : Limited 2
-      two = record { a = omega arith; b = omega arith; c = omega arith; d = omega arith; e = omega arith; least = refl; most = refl }
+      two = record { a = omega arith; b = omega arith; c = omega arith; d = refl; e = refl; least = refl; most = refl }
 
       three : Limited 3
-      three = record { a = omega arith; b = omega arith; c = omega arith; d = omega arith; e = omega arith; least = refl; most = refl }
+      three = record { a = omega arith; b = omega arith; c = omega arith; d = refl; e = refl; least = refl; most = refl }
 
       four : Limited 4
-      four = record { a = omega arith; b = omega arith; c = omega arith; d = omega arith; e = last_most d; least = refl; most = refl }
+      four = record { a = omega arith; b = omega arith; c = omega arith; d = refl; e = refl; least = refl; most = refl }
 
       five : Limited 5
-      five = record { a = omega arith; b = omega arith; c = omega arith; d = omega arith; e = omega arith; least = refl; most = refl }
+      five = record { a = omega arith; b = omega arith; c = omega arith; d = refl; e = refl; least = refl; most = refl }
 
       six : Limited 6
-      six = record { a = omega arith; b = omega arith; c = omega arith; d = omega arith; e = omega arith; least = refl; most = refl }
+      six = record { a = omega arith; b = omega arith; c = omega arith; d = refl; e = refl; least = refl; most = refl }
 
       seven : Limited 7
-      seven = record { a = omega arith; b = omega arith; c = omega arith; d = omega arith; e = omega arith; least = refl; most = refl }
+      seven = record { a = omega arith; b = omega arith; c = omega arith; d = refl; e = refl; least = refl; most = refl }
 
 -- ---- the records of kind k
 pub record FactFields (k : ℕ) (r : Record) : Type 0 where
   pub a : r.a < 256
   pub b : r.b < 256
-  pub c : r.c < 32
-  pub d : r.d < 16
-  pub e : r.e < 2
+  pub c : r.c < 256
   pub mask : r.mask < 2 ^ 32
   pub bare : carries_mask k ≡ false → r.mask ≡ 0
 
 pub fact_fields : (p : Policy) → CountsInRange p.counts → FieldsInRange p → (k i : ℕ) → Within 1 7 k → OfKind p k i → FactFields k (p.rec i)
 fact_fields p C E k i w o =
     let r = p.rec i in
-    let F : WithinLimits (limits_of p.counts k r.a r.d) r =
-    subst (λ (κ : ℕ). WithinLimits (limits_of p.counts κ r.a r.d) r) o.kind (E.each i o.low o.high) in
-    let L = fact_limits p.counts C r.a r.d k w in
+    let F : WithinLimits (limits_of p.counts k r.a) r =
+    subst (λ (κ : ℕ). WithinLimits (limits_of p.counts κ r.a) r) o.kind (E.each i o.low o.high) in
+    let L = fact_limits p.counts C r.a k w in
     record {
       a = omega (arith, F.a.high, L.a);
       b = omega (arith, F.b.high, L.b);
       c = omega (arith, F.c.high, L.c);
-      d = omega (arith, F.d.high, L.d);
-      e = omega (arith, F.e.high, L.e);
       mask = omega (arith, F.mask.high, L.most, most_mask_lem (carries_mask k));
       bare = λ e. let h = ap most_mask e in omega (arith, F.mask.high, L.most, h);
     }

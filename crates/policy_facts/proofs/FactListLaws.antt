@@ -12,7 +12,7 @@ use Rattle.policy_lists.specs.Lists.{no_record}
 use Rattle.policy_lists.specs.Inner.Tests.{some_in}
 use Rattle.policy_lists.proofs.JoinTurnLaws.{Each}
 use Rattle.policy_facts.specs.Facts.{is_written}
-use Rattle.policy_facts.specs.Canonical.{key_of, fact_record, fact_at, facts_below}
+use Rattle.policy_facts.specs.Canonical.{key_a, key_b, key_c, fact_record, fact_at, facts_below}
 use Rattle.policy_facts.specs.Inner.FactTable.{Written}
 use Rattle.policy_facts.proofs.GatherLaws.{gather, gather_same, gather_each, gather_part, gather_yes, gather_some}
 
@@ -43,15 +43,15 @@ module _ (p : Policy) (k : ℕ) where
   pub fact_own : (n : ℕ) → Each (λ r. r.kind ≡ k) (facts_below p k n)
   fact_own n =
       subst (Each (λ r. r.kind ≡ k)) (sym (facts_gather n))
-      (gather_each (fact_at p k) (λ r. r.kind ≡ k) n (λ x h. either_own (fact_record p k x) (λ r. r.kind ≡ k) (is_written p k (key_of x)) refl))
+      (gather_each (fact_at p k) (λ r. r.kind ≡ k) n (λ x h. either_own (fact_record p k x) (λ r. r.kind ≡ k) (is_written p k (key_a x) (key_b x) (key_c x)) refl))
 
   -- each is the record of a key that is written
-  pub fact_in_lem : (n j : ℕ) → j < length (facts_below p k n)
+  pub fact_in : (n j : ℕ) → j < length (facts_below p k n)
       → (x : ℕ) × (x < n) × Written p k x × (get_or (facts_below p k n) j no_record ≡ fact_record p k x)
-  fact_in_lem n j h =
+  fact_in n j h =
       let g = gather_part (fact_at p k) n j (subst (λ (l : List Record). j < length l) (facts_gather n) h) in
       let x : ℕ = g.of in
-      let w = either_at (fact_record p k x) (is_written p k (key_of x)) g.at g.room in
+      let w = either_at (fact_record p k x) (is_written p k (key_a x) (key_b x) (key_c x)) g.at g.room in
       (x, g.low, w.0, ap (λ (l : List Record). get_or l j no_record) (facts_gather n) ∙ g.same ∙ w.1)
 
   -- ---- tests of them
@@ -66,7 +66,7 @@ module _ (p : Policy) (k : ℕ) where
     fact_some n e =
         let g = gather_some (fact_at p k) f n (ap (λ (l : List Record). some_in l f) (sym (facts_gather n)) ∙ e) in
         let x : ℕ = g.0 in
-        let w = either_some (fact_record p k x) (is_written p k (key_of x)) f g.2 in
+        let w = either_some (fact_record p k x) (is_written p k (key_a x) (key_b x) (key_c x)) f g.2 in
         (x, g.1, w.0, w.1)
 
 -- what is written for each key decides

@@ -17,40 +17,40 @@ use Rattle.policy_lists.specs.Lists.{records_upto, of_kind_in, no_record, record
 use Rattle.policy_lists.specs.Joined.{kinds_upto}
 use Rattle.policy_lists.proofs.ListLaws.{upto_length}
 use Rattle.policy_facts.specs.Facts.{is_written}
-use Rattle.policy_facts.specs.Canonical.{key_of, key_numbers, fact_record, fact_at, fact_kind}
+use Rattle.policy_facts.specs.Canonical.{key_a, key_b, key_c, key_numbers, fact_record, fact_at, fact_kind}
 use Rattle.policy_facts.specs.Inner.FactTable.{kind_in, number_in, table_record, FactTable}
 use Rattle.policy_facts.proofs.KindsLaws.{upto_at, kinds_of}
 use Rattle.policy_facts.proofs.GatherLaws.{gather, gather_same, gather_next, gather_none, gather_more}
 use Rattle.policy_facts.proofs.FactListLaws.{facts_gather, fact_own}
 
--- ---- kinds 1 to n, code by code
--- what is written for a code; kind 0 has no facts
-abbrev coded_at : Policy → ℕ → List Record
-coded_at p code = cond (eqb (kind_in code) 0) [] (fact_at p (kind_in code) (number_in code))
+-- ---- kinds 1 to n, key by key
+-- what is written for a key, the kind above a, b and c; kind 0 has no facts
+abbrev keyed_at : Policy → ℕ → List Record
+keyed_at p key = cond (eqb (kind_in key) 0) [] (fact_at p (kind_in key) (number_in key))
 
 module _ (p : Policy) where
-  coded_none : (code : ℕ) → kind_in code ≡ 0 → coded_at p code ≡ []
-  coded_none code e = ap (λ (t : Bool). cond t [] (fact_at p (kind_in code) (number_in code))) (eq-eqb (kind_in code) 0 e)
+  keyed_none : (key : ℕ) → kind_in key ≡ 0 → keyed_at p key ≡ []
+  keyed_none key e = ap (λ (t : Bool). cond t [] (fact_at p (kind_in key) (number_in key))) (eq-eqb (kind_in key) 0 e)
 
-  coded_kind : (code : ℕ) → (kind_in code ≡ 0 → ⊥) → coded_at p code ≡ fact_at p (kind_in code) (number_in code)
-  coded_kind code d = ap (λ (t : Bool). cond t [] (fact_at p (kind_in code) (number_in code))) (ne_eqb (kind_in code) 0 d)
+  keyed_kind : (key : ℕ) → (kind_in key ≡ 0 → ⊥) → keyed_at p key ≡ fact_at p (kind_in key) (number_in key)
+  keyed_kind key d = ap (λ (t : Bool). cond t [] (fact_at p (kind_in key) (number_in key))) (ne_eqb (kind_in key) 0 d)
 
-  -- the codes of kind k + 1 stand from 17179869184 * (k + 1) on
-  coded_more : (k x : ℕ) → x < key_numbers → fact_at p (suc k) x ≡ coded_at p (17179869184 * suc k + x)
-  coded_more k x h =
+  -- the keys of kind k + 1 stand from 16777216 * (k + 1) on
+  keyed_more : (k x : ℕ) → x < key_numbers → fact_at p (suc k) x ≡ keyed_at p (16777216 * suc k + x)
+  keyed_more k x h =
       ap₂ (fact_at p)
-      (let e : suc k ≡ (17179869184 * suc k + x) / 17179869184 = omega arith in e)
-      (let e : x ≡ (17179869184 * suc k + x) % 17179869184 = omega arith in e)
-      ∙ sym (coded_kind (17179869184 * suc k + x) (λ e. let z : ⊥ = omega arith in z))
+      (let e : suc k ≡ (16777216 * suc k + x) / 16777216 = omega arith in e)
+      (let e : x ≡ (16777216 * suc k + x) % 16777216 = omega arith in e)
+      ∙ sym (keyed_kind (16777216 * suc k + x) (λ e. let z : ⊥ = omega arith in z))
 
-  kinds_gather : (n : ℕ) → kinds_upto (fact_kind p) n ≡ gather (coded_at p) (17179869184 * suc n)
-  kinds_gather zero = sym (gather_none (coded_at p) (17179869184 * 1) (λ x h. coded_none x (omega arith)))
+  kinds_gather : (n : ℕ) → kinds_upto (fact_kind p) n ≡ gather (keyed_at p) (16777216 * suc n)
+  kinds_gather zero = sym (gather_none (keyed_at p) (16777216 * 1) (λ x h. keyed_none x (omega arith)))
   kinds_gather (suc n) =
       ap₂ ◌++◌ (kinds_gather n)
       (facts_gather p (suc n) key_numbers
-      ∙ gather_same (fact_at p (suc n)) (λ x. coded_at p (17179869184 * suc n + x)) key_numbers (coded_more n))
-      ∙ sym (gather_more (coded_at p) (17179869184 * suc n) key_numbers)
-      ∙ ap (gather (coded_at p)) (let e : 17179869184 * suc n + key_numbers ≡ 17179869184 * suc (suc n) = omega arith in e)
+      ∙ gather_same (fact_at p (suc n)) (λ x. keyed_at p (16777216 * suc n + x)) key_numbers (keyed_more n))
+      ∙ sym (gather_more (keyed_at p) (16777216 * suc n) key_numbers)
+      ∙ ap (gather (keyed_at p)) (let e : 16777216 * suc n + key_numbers ≡ 16777216 * suc (suc n) = omega arith in e)
 
 -- ---- lists that hold one record each at rising numbers, and none elsewhere
 module _ (f : ℕ → List Record) (key : ℕ → ℕ) (row : ℕ → Record) (m bound : ℕ)
@@ -122,39 +122,42 @@ module _ (f : ℕ → List Record) (key : ℕ → ℕ) (row : ℕ → Record) (m
       (λ l. let a = B.1.most in omega arith) (split_le (suc i) m))
 
 -- ---- the table
-module _ {p : Policy} {code_at maskAt : ℕ → ℕ} {m : ℕ} (T : FactTable p code_at maskAt m) where
-  abbrev entry_at : ℕ → Record
-  entry_at i = table_record (code_at i) (maskAt i)
+module _ {p : Policy} {keys masks : List ℕ} {m : ℕ} (T : FactTable p keys masks m) where
+  abbrev key_at : ℕ → ℕ
+  key_at i = get_or keys i 0
 
-  -- what is written for a code of the table is its record ..
-  table_here : (i : ℕ) → i < m → coded_at p (code_at i) ≡ entry_at i ∷ []
+  abbrev entry_at : ℕ → Record
+  entry_at i = table_record (get_or keys i 0) (get_or masks i 0)
+
+  -- what is written for a key of the table is its record ..
+  table_here : (i : ℕ) → i < m → keyed_at p (key_at i) ≡ entry_at i ∷ []
   table_here i h =
       let E = T.entry i h in
       let a = E.kind.low in
-      coded_kind p (code_at i) (λ e. let z : ⊥ = omega arith in z)
-      ∙ ap (λ (t : Bool). cond t (fact_record p (kind_in (code_at i)) (number_in (code_at i)) ∷ []) []) E.written
-      ∙ ap (λ (n : ℕ). table_record (code_at i) n ∷ []) (sym E.united)
+      keyed_kind p (key_at i) (λ e. let z : ⊥ = omega arith in z)
+      ∙ ap (λ (t : Bool). cond t (fact_record p (kind_in (key_at i)) (number_in (key_at i)) ∷ []) []) E.written
+      ∙ ap (λ (n : ℕ). table_record (key_at i) n ∷ []) (sym E.united)
 
-  -- .. and for other codes nothing is written
-  table_none : (x : ℕ) → x < 17179869184 * 8 → ((i : ℕ) → i < m → code_at i ≡ x → ⊥) → coded_at p x ≡ []
+  -- .. and for other keys nothing is written
+  table_none : (x : ℕ) → x < 16777216 * 8 → ((i : ℕ) → i < m → key_at i ≡ x → ⊥) → keyed_at p x ≡ []
   table_none x b d =
-      ⊎_elim (λ e. coded_none p x e)
+      ⊎_elim (λ e. keyed_none p x e)
       (λ n.
-      coded_kind p x n
+      keyed_kind p x n
       ∙ ⊎_elim
       (λ w.
       let s = T.every (kind_in x) (number_in x) (record { low = omega (arith, n); high = omega arith }) (omega arith) w in
       absurd (d s.at s.low (omega (arith, s.same))))
       (λ w. ap (λ (t : Bool). cond t (fact_record p (kind_in x) (number_in x) ∷ []) []) w)
-      (true_or_false (is_written p (kind_in x) (key_of (number_in x)))))
+      (true_or_false (is_written p (kind_in x) (key_a (number_in x)) (key_b (number_in x)) (key_c (number_in x)))))
       (split_eq (kind_in x) 0)
 
   -- so the table has the records of kinds 1 to 7, in their order; `row` gives its records from 1 on
-  module _ (row : ℕ → Record) (rows : (i : ℕ) → i < m → row (suc i) ≡ table_record (code_at i) (maskAt i)) where
+  module _ (row : ℕ → Record) (rows : (i : ℕ) → i < m → row (suc i) ≡ table_record (get_or keys i 0) (get_or masks i 0)) where
     pub table_list : kinds_upto (fact_kind p) 7 ≡ records_upto row m
     table_list =
         kinds_gather p 7
-        ∙ keys_gather (coded_at p) code_at row m (17179869184 * 8) T.rising
+        ∙ keys_gather (keyed_at p) key_at row m (16777216 * 8) T.rising
         (λ i h. let a = (T.entry i h).kind.high in omega arith)
         (λ i h. table_here i h ∙ ap (λ (r : Record). r ∷ []) (sym (rows i h))) table_none
 
@@ -172,9 +175,9 @@ module _ {p : Policy} {code_at maskAt : ℕ → ℕ} {m : ℕ} (T : FactTable p 
   pub table_length : length (kinds_upto (fact_kind p) 7) ≡ m
   table_length = ap length (table_list row_at row_at_lem) ∙ upto_length row_at m
 
-  pub table_record_lem : (i : ℕ) → i < m → record_in (kinds_upto (fact_kind p) 7) (suc i) ≡ table_record (code_at i) (maskAt i)
+  pub table_record_lem : (i : ℕ) → i < m → record_in (kinds_upto (fact_kind p) 7) (suc i) ≡ table_record (get_or keys i 0) (get_or masks i 0)
   table_record_lem i h = ap (λ (l : List Record). get_or l i no_record) (table_list row_at row_at_lem) ∙ upto_at row_at m i h ∙ row_at_lem i h
 
   pub table_kinds : (k : ℕ) → 1 ≤ k → k ≤ 7
-      → length (fact_kind p k) ≡ length (of_kind_in k (records_upto (λ i. table_record (code_at (i - 1)) (maskAt (i - 1))) m))
+      → length (fact_kind p k) ≡ length (of_kind_in k (records_upto (λ i. table_record (get_or keys (i - 1) 0) (get_or masks (i - 1) 0)) m))
   table_kinds = table_kind row_at row_at_lem

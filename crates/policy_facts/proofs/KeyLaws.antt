@@ -1,5 +1,5 @@
 -- Which keys a record has, which records of a policy have a key, and the number of a key.
-use Prim.Native.Nat.{ℕ, ◌+◌, ◌*◌, ◌/◌, ◌<◌}
+use Prim.Native.Nat.{ℕ, ◌+◌, ◌*◌, ◌<◌}
 use mathlib.Core.Path.{◌≡◌, refl, sym, ap, ap₂, ◌∙◌}
 use mathlib.Core.Bool.{Bool, true, false, ◌&&◌, ◌||◌, cond}
 use mathlib.Core.Logic.{◌⊎◌, inl, inr, ⊎_elim}
@@ -11,9 +11,8 @@ use Rattle.base.proofs.BoolLaws.{and_true, and_first, and_second, or_cases, or_l
 use Rattle.policy_image.specs.declared.records.Record.{Record}
 use Rattle.policy_image.specs.Policy.{Policy}
 use Rattle.policy_links.proofs.KindLaws.{OfKind, some_yes, some_record}
-use Rattle.policy_facts.specs.Facts.{Key, says_b, has_key, is_stated, permits}
-use Rattle.policy_facts.specs.Canonical.{key_of, key_numbers}
-use Rattle.policy_facts.specs.Inner.FactTable.{key_number, key_with}
+use Rattle.policy_facts.specs.Facts.{says_b, has_key, is_stated, permits}
+use Rattle.policy_facts.specs.Canonical.{key_a, key_b, key_c, key_numbers}
 
 -- ---- what a record says for b
 -- a flow record that says 1 and 2
@@ -65,101 +64,49 @@ module _ (r : Record) where
         ⊎_elim (λ x. ⊎_elim (λ y. omega (arith, y)) (λ y. omega (arith, y)) x.1) (λ x. omega (arith, x.1)) (says_cases e)
 
 -- ---- the keys that it has
--- r has the key x, field by field
-pub record HasFields (x : Key) (r : Record) : Type 0 where
-  pub a : r.a ≡ x.a
-  pub b : says_b r x.b ≡ true
-  pub c : r.c ≡ x.c
-  pub d : r.d ≡ x.d
-  pub e : r.e ≡ x.e
+module _ (a b c : ℕ) (r : Record) where
+  pub has_key_lem : r.a ≡ a → says_b r b ≡ true → r.c ≡ c → has_key a b c r ≡ true
+  has_key_lem x y z =
+      and_true (eqb r.a a) (says_b r b && eqb r.c c) (eq-eqb r.a a x) (and_true (says_b r b) (eqb r.c c) y (eq-eqb r.c c z))
 
-module _ (x : Key) (r : Record) where
-  abbrev test_e : Bool
-  test_e = eqb r.e x.e
-
-  abbrev test_d : Bool
-  test_d = eqb r.d x.d && test_e
-
-  abbrev test_c : Bool
-  test_c = eqb r.c x.c && test_d
-
-  abbrev test_b : Bool
-  test_b = says_b r x.b && test_c
-
-  pub has_key_lem : HasFields x r → has_key x r ≡ true
-  has_key_lem F =
-      and_true (eqb r.a x.a) test_b (eq-eqb r.a x.a F.a)
-      (and_true (says_b r x.b) test_c F.b
-      (and_true (eqb r.c x.c) test_d (eq-eqb r.c x.c F.c)
-      (and_true (eqb r.d x.d) test_e (eq-eqb r.d x.d F.d) (eq-eqb r.e x.e F.e))))
-
-  pub key_has : has_key x r ≡ true → HasFields x r
-  key_has h =
-      let hb = and_second (eqb r.a x.a) test_b h in
-      let hc = and_second (says_b r x.b) test_c hb in
-      let hd = and_second (eqb r.c x.c) test_d hc in
-      record {
-        a = eqb-true r.a x.a (and_first (eqb r.a x.a) test_b h);
-        b = and_first (says_b r x.b) test_c hb;
-        c = eqb-true r.c x.c (and_first (eqb r.c x.c) test_d hc);
-        d = eqb-true r.d x.d (and_first (eqb r.d x.d) test_e hd);
-        e = eqb-true r.e x.e (and_second (eqb r.d x.d) test_e hd);
-      }
-
--- each record has the key with a b that it says
-pub key_with_lem : (r : Record) (b : ℕ) → says_b r b ≡ true → has_key (key_with r b) r ≡ true
-key_with_lem r b h = has_key_lem (key_with r b) r (record { a = refl; b = h; c = refl; d = refl; e = refl })
+  pub key_has : has_key a b c r ≡ true → (r.a ≡ a) × (says_b r b ≡ true) × (r.c ≡ c)
+  key_has e =
+      let h = and_second (eqb r.a a) (says_b r b && eqb r.c c) e in (
+        eqb-true r.a a (and_first (eqb r.a a) (says_b r b && eqb r.c c) e),
+        and_first (says_b r b) (eqb r.c c) h,
+        eqb-true r.c c (and_second (says_b r b) (eqb r.c c) h),
+      )
 
 -- ---- the facts of a policy, by its records
-module _ (p : Policy) (k : ℕ) (x : Key) where
-  pub states_yes : (i : ℕ) → OfKind p k i → has_key x (p.rec i) ≡ true → is_stated p k x ≡ true
+module _ (p : Policy) (k a b c : ℕ) where
+  pub states_yes : (i : ℕ) → OfKind p k i → has_key a b c (p.rec i) ≡ true → is_stated p k a b c ≡ true
   unfolding is_stated
-  states_yes i o e = some_yes p k (has_key x) i o e
+  states_yes i o e = some_yes p k (has_key a b c) i o e
 
-  pub states_record : is_stated p k x ≡ true → (i : ℕ) × OfKind p k i × (has_key x (p.rec i) ≡ true)
+  pub states_record : is_stated p k a b c ≡ true → (i : ℕ) × OfKind p k i × (has_key a b c (p.rec i) ≡ true)
   unfolding is_stated
-  states_record e = some_record p k (has_key x) e
+  states_record e = some_record p k (has_key a b c) e
 
   module _ (n : ℕ) where
-    pub permits_yes : (i : ℕ) → OfKind p k i → has_key x (p.rec i) ≡ true → bit (p.rec i).mask n ≡ true → permits p k x n ≡ true
+    pub permits_yes : (i : ℕ) → OfKind p k i → has_key a b c (p.rec i) ≡ true → bit (p.rec i).mask n ≡ true → permits p k a b c n ≡ true
     unfolding permits
     permits_yes i o e h =
-        some_yes p k (λ r. has_key x r && bit r.mask n) i o (and_true (has_key x (p.rec i)) (bit (p.rec i).mask n) e h)
+        some_yes p k (λ r. has_key a b c r && bit r.mask n) i o (and_true (has_key a b c (p.rec i)) (bit (p.rec i).mask n) e h)
 
-    pub permits_record : permits p k x n ≡ true
-        → (i : ℕ) × OfKind p k i × (has_key x (p.rec i) ≡ true) × (bit (p.rec i).mask n ≡ true)
+    pub permits_record : permits p k a b c n ≡ true
+        → (i : ℕ) × OfKind p k i × (has_key a b c (p.rec i) ≡ true) × (bit (p.rec i).mask n ≡ true)
     unfolding permits
     permits_record e =
-        let s = some_record p k (λ r. has_key x r && bit r.mask n) e in
+        let s = some_record p k (λ r. has_key a b c r && bit r.mask n) e in
         let r = p.rec s.0 in
-        (s.0, s.1, and_first (has_key x r) (bit r.mask n) s.2, and_second (has_key x r) (bit r.mask n) s.2)
+        (s.0, s.1, and_first (has_key a b c r) (bit r.mask n) s.2, and_second (has_key a b c r) (bit r.mask n) s.2)
 
 -- ---- the number of a key
--- a key is what its fields are
-pub key_same : (x y : Key) → x.a ≡ y.a → x.b ≡ y.b → x.c ≡ y.c → x.d ≡ y.d → x.e ≡ y.e → x ≡ y
-key_same x y a b c d e = λ j. record { a = a j; b = b j; c = c j; d = d j; e = e j }
+pub record KeyOf (a b c x : ℕ) : Type 0 where
+  pub is_a : key_a x ≡ a
+  pub is_b : key_b x ≡ b
+  pub is_c : key_c x ≡ c
 
--- a key that has a number: its fields are as small as the number has room for
-pub record SmallKey (x : Key) : Type 0 where
-  pub a : x.a < 4096
-  pub b : x.b < 4096
-  pub c : x.c < 32
-  pub d : x.d < 16
-  pub e : x.e < 2
-
-pub key_number_lem : (x : Key) → SmallKey x → (key_number x < key_numbers) × (key_of (key_number x) ≡ x)
-key_number_lem x S =
-    let a = S.a in
-    let b = S.b in
-    let c = S.c in
-    let d = S.d in
-    let e = S.e in
-    (omega arith, key_same (key_of (key_number x)) x (omega arith) (omega arith) (omega arith) (omega arith) (omega arith))
-
--- .. and the key of a number has that number
-pub number_key : (x : ℕ) → key_number (key_of x) ≡ x
-number_key x =
-    let d : x / 2 / 16 ≡ x / 32 = omega arith in
-    let c : x / 32 / 32 ≡ x / 1024 = omega arith in
-    let b : x / 1024 / 4096 ≡ x / 4194304 = omega arith in
-    omega arith
+pub key_number : (a b c : ℕ) → a < 256 → b < 256 → c < 256 → (x : ℕ) × (x < key_numbers) × KeyOf a b c x
+key_number a b c h k l =
+    (65536 * a + (256 * b + c), omega arith, record { is_a = omega arith; is_b = omega arith; is_c = omega arith })

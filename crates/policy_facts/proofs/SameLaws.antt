@@ -18,8 +18,8 @@ use Rattle.policy_fields.specs.Fields.{FieldsInRange}
 use Rattle.policy_lists.specs.Lists.{kind_list, with_next, policy_from}
 use Rattle.policy_lists.specs.Joined.{nodes_upto, kinds_upto, renumbered}
 use Rattle.policy_lists.proofs.NodeLaws.{most_length}
-use Rattle.policy_facts.specs.Facts.{Key, is_stated, permits, united_mask, carries_mask, is_written}
-use Rattle.policy_facts.specs.Canonical.{key_of, key_numbers, fact_at, fact_kind, canonical_node, canonical_kind, canonical_list, canonical_of}
+use Rattle.policy_facts.specs.Facts.{is_stated, permits, united_mask, carries_mask, is_written}
+use Rattle.policy_facts.specs.Canonical.{key_a, key_b, key_c, key_numbers, fact_at, fact_kind, canonical_node, canonical_kind, canonical_list, canonical_of}
 use Rattle.policy_facts.specs.Cases.Same.{by_place, Same}
 use Rattle.policy_facts.proofs.KindsLaws.{kinds_map, kinds_same}
 use Rattle.policy_facts.proofs.FactListLaws.{facts_same}
@@ -37,8 +37,8 @@ same_refl p =
       roles = refl;
       users = refl;
       classes = refl;
-      keys = λ k x w m. refl;
-      permissions = λ k x i m. refl;
+      keys = λ k a b c w m. refl;
+      permissions = λ k a b c i m. refl;
       constraints = refl;
       nodes = refl;
     }
@@ -50,8 +50,8 @@ same_sym S =
       roles = sym S.roles;
       users = sym S.users;
       classes = sym S.classes;
-      keys = λ k x w m. sym (S.keys k x w m);
-      permissions = λ k x i m. sym (S.permissions k x i m);
+      keys = λ k a b c w m. sym (S.keys k a b c w m);
+      permissions = λ k a b c i m. sym (S.permissions k a b c i m);
       constraints = sym S.constraints;
       nodes = sym S.nodes;
     }
@@ -63,8 +63,8 @@ same_trans S T =
       roles = S.roles ∙ T.roles;
       users = S.users ∙ T.users;
       classes = S.classes ∙ T.classes;
-      keys = λ k x w m. S.keys k x w m ∙ T.keys k x w m;
-      permissions = λ k x i m. S.permissions k x i m ∙ T.permissions k x i m;
+      keys = λ k a b c w m. S.keys k a b c w m ∙ T.keys k a b c w m;
+      permissions = λ k a b c i m. S.permissions k a b c i m ∙ T.permissions k a b c i m;
       constraints = S.constraints ∙ T.constraints;
       nodes = S.nodes ∙ T.nodes;
     }
@@ -91,27 +91,26 @@ by_place_lem p k h =
 -- ---- kinds 1 to 7: what is written for a key
 module _ (p q : Policy) (C : CountsInRange p.counts) (D : CountsInRange q.counts) (E : FieldsInRange p) (F : FieldsInRange q) (S : Same p q) where
   module _ (k : ℕ) (w : Within 1 7 k) where
-    united_same : (x : Key) → united_mask p k x ≡ united_mask q k x
-    united_same x =
+    united_same : (a b c : ℕ) → united_mask p k a b c ≡ united_mask q k a b c
+    united_same a b c =
         ⊎_elim
-        (λ m. mask_same (permits p k x) (permits q k x) 32 (λ i l. S.permissions k x i m))
-        (λ m. no_mask p C E k x w m ∙ sym (no_mask q D F k x w m))
+        (λ m. mask_same (permits p k a b c) (permits q k a b c) 32 (λ i l. S.permissions k a b c i m))
+        (λ m. no_mask p C E k a b c w m ∙ sym (no_mask q D F k a b c w m))
         (true_or_false (carries_mask k))
 
-    written_same : (x : Key) → is_written p k x ≡ is_written q k x
-    written_same x = go (carries_mask k) refl
+    written_same : (a b c : ℕ) → is_written p k a b c ≡ is_written q k a b c
+    written_same a b c = go (carries_mask k) refl
       where
         go : (t : Bool) → carries_mask k ≡ t
-            → cond t (not (eqb (united_mask p k x) 0)) (is_stated p k x) ≡ cond t (not (eqb (united_mask q k x) 0)) (is_stated q k x)
-        go true m = ap (λ (n : ℕ). not (eqb n 0)) (united_same x)
-        go false m = S.keys k x w m
+            → cond t (not (eqb (united_mask p k a b c) 0)) (is_stated p k a b c) ≡ cond t (not (eqb (united_mask q k a b c) 0)) (is_stated q k a b c)
+        go true m = ap (λ (n : ℕ). not (eqb n 0)) (united_same a b c)
+        go false m = S.keys k a b c w m
 
     fact_same : (x : ℕ) → fact_at p k x ≡ fact_at q k x
     fact_same x =
-        let key = key_of x in
         ap₂
-        (λ (t : Bool) (n : ℕ). cond t (record { next = 0; kind = k; a = key.a; b = key.b; c = key.c; d = key.d; e = key.e; mask = n } ∷ []) [])
-        (written_same key) (united_same key)
+        (λ (t : Bool) (n : ℕ). cond t (record { next = 0; kind = k; a = key_a x; b = key_b x; c = key_c x; d = 0; e = 0; mask = n } ∷ []) [])
+        (written_same (key_a x) (key_b x) (key_c x)) (united_same (key_a x) (key_b x) (key_c x))
 
     kind_same : fact_kind p k ≡ fact_kind q k
     kind_same = facts_same p q k key_numbers (λ x h. fact_same x)

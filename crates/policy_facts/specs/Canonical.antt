@@ -4,16 +4,21 @@ use Rattle.policy_image.specs.declared.records.Record.{Record}
 use Rattle.policy_image.specs.Policy.{Policy}
 use Rattle.policy_lists.specs.Lists.{kind_list, policy_from}
 use Rattle.policy_lists.specs.Joined.{nodes_upto, kinds_upto, renumbered}
-use Rattle.policy_facts.specs.Facts.{Key, united_mask, is_written}
+use Rattle.policy_facts.specs.Facts.{united_mask, is_written}
 
--- ---- "Kinds 1 to 7 are sorted by a, b, c", and the sorting "includes d and e" (g): a key is one number, in which a counts before b, b
--- before c, c before d, and d before e. It has room for b below 4,096, c below 32, d below 16 and e below 2
-abbrev pub key_of : ℕ → Key
-key_of x = record { a = x / 4194304; b = x / 1024 % 4096; c = x / 32 % 32; d = x / 2 % 16; e = x % 2 }
+-- ---- "Kinds 1 to 7 are sorted by a, b, c": a key is one number, in which a counts before b, and b before c
+abbrev pub key_a : ℕ → ℕ
+key_a x = x / 65536
 
--- the numbers below it are those of keys whose a is below 4,096
+abbrev pub key_b : ℕ → ℕ
+key_b x = x / 256 % 256
+
+abbrev pub key_c : ℕ → ℕ
+key_c x = x % 256
+
+-- the numbers below it are the keys whose a, b and c are bytes
 abbrev pub key_numbers : ℕ
-key_numbers = 4096 * 4194304
+key_numbers = 256 * 256 * 256
 
 -- the record of a key
 abbrev pub fact_record : Policy → ℕ → ℕ → Record
@@ -21,17 +26,17 @@ fact_record p k x =
     record {
       next = 0;
       kind = k;
-      a = (key_of x).a;
-      b = (key_of x).b;
-      c = (key_of x).c;
-      d = (key_of x).d;
-      e = (key_of x).e;
-      mask = united_mask p k (key_of x);
+      a = key_a x;
+      b = key_b x;
+      c = key_c x;
+      d = 0;
+      e = 0;
+      mask = united_mask p k (key_a x) (key_b x) (key_c x);
     }
 
 -- it, where it is written, else nothing
 abbrev pub fact_at : Policy → ℕ → ℕ → List Record
-fact_at p k x = cond (is_written p k (key_of x)) (fact_record p k x ∷ []) []
+fact_at p k x = cond (is_written p k (key_a x) (key_b x) (key_c x)) (fact_record p k x ∷ []) []
 
 -- those of the keys below n, each "once", in turn
 unfoldable pub facts_below : Policy → ℕ → ℕ → List Record

@@ -1,7 +1,6 @@
 -- Question 5 of a policy (paper 01): "Are types, roles, users, classes from 1 to their counts (allow's b from 0), kind 3's b
--- and the operators in range, other fields 0?" Each kind's line of "The policy image" is a line of a table of ranges. For the
--- switches of paper 02, g: "Question 5 checks them."
-use Rattle.std.specs.Prelude.{ℕ, ◌≤◌, cond, List, [], ◌∷◌, eqb, get_or}
+-- and the operators in range, other fields 0?" Each kind's line of "The policy image" is a line of a table of ranges.
+use Rattle.std.specs.Prelude.{ℕ, ◌≤◌, List, [], ◌∷◌, get_or}
 use Rattle.base.specs.Ranges.{Within}
 use Rattle.policy_image.specs.declared.counts.Counts.{Counts}
 use Rattle.policy_image.specs.declared.records.Record.{Record}
@@ -61,17 +60,9 @@ node_limits n =
     ∷ limits (up_to 12) (up_to n.users) unused unused unused unused
     ∷ []
 
--- "0 none, else 1 to 8"
-abbrev pub a_switch : Range
-a_switch = range 0 8
-
--- "the position, 0 or 1, in which the rule applies; e is 0 when d is 0"
-abbrev pub position : ℕ → Range
-position d = range 0 (cond (eqb d 0) 0 1)
-
--- by the kind, 0 being none; op is field a, and d the field of that name
-abbrev pub kind_limits : Counts → ℕ → ℕ → List Limits
-kind_limits n op d =
+-- by the kind, 0 being none; op is field a
+abbrev pub kind_limits : Counts → ℕ → List Limits
+kind_limits n op =
     none
     -- 1: type a is a domain
     ∷ limits (up_to n.types) unused unused unused unused unused
@@ -79,8 +70,8 @@ kind_limits n op d =
     ∷ limits (up_to n.classes) unused unused unused unused any_mask
     -- 3: class a, permissions in mask: b = 1 write-like, 2 read-like, 3 both
     ∷ limits (up_to n.classes) (up_to 3) unused unused unused any_mask
-    -- 4: source type a may act on target type b in class c with mask; b = 0 means the source type itself; "d is the switch .. and e the position"
-    ∷ limits (up_to n.types) (range 0 n.types) (up_to n.classes) a_switch (position d) any_mask
+    -- 4: source type a may act on target type b in class c with mask; b = 0 means the source type itself
+    ∷ limits (up_to n.types) (range 0 n.types) (up_to n.classes) unused unused any_mask
     -- 5: role a may hold type b
     ∷ limits (up_to n.roles) (up_to n.types) unused unused unused unused
     -- 6: user a may hold role b
@@ -93,8 +84,8 @@ kind_limits n op d =
     ∷ get_or (node_limits n) op none
     ∷ []
 
-abbrev pub limits_of : Counts → ℕ → ℕ → ℕ → Limits
-limits_of n kind op d = get_or (kind_limits n op d) kind none
+abbrev pub limits_of : Counts → ℕ → ℕ → Limits
+limits_of n kind op = get_or (kind_limits n op) kind none
 
 -- every field of r lies within its range
 pub record WithinLimits (l : Limits) (r : Record) : Type 0 where
@@ -105,9 +96,9 @@ pub record WithinLimits (l : Limits) (r : Record) : Type 0 where
   pub e : Within l.e.low l.e.high r.e
   pub mask : Within l.mask.low l.mask.high r.mask
 
--- the ranges that the kind, the operator and the switch of r fix, for a policy with the counts n
+-- the ranges that the kind and the operator of r fix, for a policy with the counts n
 abbrev pub Fits : Counts → Record → Type 0
-Fits n r = WithinLimits (limits_of n r.kind r.a r.d) r
+Fits n r = WithinLimits (limits_of n r.kind r.a) r
 
 -- Question 5
 pub record FieldsInRange (p : Policy) : Type 0 where

@@ -3,13 +3,13 @@ ghost use Rattle.std.specs.Prelude.{◌≡◌, get_or};
 ghost use Rattle.base.specs.Inner.Decides.{Decides};
 ghost use Rattle.policy_image.specs.Policy.{policy_of};
 ghost use Rattle.policy_image.specs.Inner.Reading.{Counted};
-ghost use Rattle.policy_fields.specs.Fields.{limits, range, position, node_limits, limits_of, none, WithinLimits, FieldsInRange};
+ghost use Rattle.policy_fields.specs.Fields.{limits, range, node_limits, limits_of, none, WithinLimits, FieldsInRange};
 
 use base::ranges::within;
 use policy_image::counts::Counts;
 use policy_image::kinds::{
     ALLOW, AND, CONSTRAINT, DOMAIN, FLOW, NODE, NOT, OR, PERMISSIONS, ROLE_1, ROLE_2, ROLE_CHANGE,
-    ROLE_TYPE, SAME_TYPE, SAME_USER, SWITCHES, TYPE_1, TYPE_2, USER_1, USER_2, USER_ROLE,
+    ROLE_TYPE, SAME_TYPE, SAME_USER, TYPE_1, TYPE_2, USER_1, USER_2, USER_ROLE,
 };
 use policy_image::records::{Record, record_at};
 
@@ -60,39 +60,22 @@ fn node_limits(n: Counts, op: u32) -> Limits
     }
 }
 
-// The highest position of a switch, which without a switch is 0.
-fn last_position(d: u32) -> u32
-    ensures { result ≡ (position d).high }
-{
-    if d == 0 { 0 } else { 1 }
-}
-
-// The limits of an allow record: its target may be 0, for self, and it may have a switch.
-fn allow_limits(n: Counts, d: u32) -> Limits
-    ensures { result ≡ limits_of n 4 0 d }
+// The limits of an allow record: its target may be 0, for self.
+fn allow_limits(n: Counts) -> Limits
+    ensures { result ≡ limits_of n 4 0 }
 {
     let class = Range {
         low: 1,
         high: n.classes,
     };
-    let switch = Range {
-        low: 0,
-        high: SWITCHES,
-    };
-    let position = Range {
-        low: 0,
-        high: last_position(d),
-    };
     let mut l = plain(n.types, 0, n.types, 4294967295);
     l.c = class;
-    l.d = switch;
-    l.e = position;
     l
 }
 
 // The limits of a constraint: d and e are its root, which question 6 judges.
 fn constraint_limits(n: Counts) -> Limits
-    ensures { result ≡ limits_of n 8 0 0 }
+    ensures { result ≡ limits_of n 8 0 }
 {
     let byte = Range { low: 0, high: 255 };
     let mut l = plain(n.classes, 0, 0, 4294967295);
@@ -101,15 +84,15 @@ fn constraint_limits(n: Counts) -> Limits
     l
 }
 
-// The limits of a record, by its kind; op is its field a, and d the field of that name.
-fn kind_limits(n: Counts, kind: u32, op: u32, d: u32) -> Limits
-    ensures { result ≡ limits_of n kind op d }
+// The limits of a record, by its kind; op is its field a.
+fn kind_limits(n: Counts, kind: u32, op: u32) -> Limits
+    ensures { result ≡ limits_of n kind op }
 {
     match kind {
         DOMAIN => plain(n.types, 0, 0, 0),
         PERMISSIONS => plain(n.classes, 0, 0, 4294967295),
         FLOW => plain(n.classes, 1, 3, 4294967295),
-        ALLOW => allow_limits(n, d),
+        ALLOW => allow_limits(n),
         ROLE_TYPE => plain(n.roles, 1, n.types, 0),
         USER_ROLE => plain(n.users, 1, n.roles, 0),
         ROLE_CHANGE => plain(n.roles, 1, n.roles, 0),
@@ -150,7 +133,7 @@ pub fn fields_in_range(image: &[u8], counts: Counts) -> bool
     let mut i = 1;
     while i <= n {
         let r = record_at(image, i);
-        if !record_in_range(kind_limits(counts, r.kind, r.a, r.d), r) {
+        if !record_in_range(kind_limits(counts, r.kind, r.a), r) {
             return false;
         }
         i += 1;

@@ -2,7 +2,6 @@ pub mod Layout
 pub mod Policy
 pub mod Encoding
 pub mod OfKind
-pub mod Counting
 pub mod Counts
 pub mod Inner
 pub mod Cases

@@ -58,6 +58,3 @@ pub const WRITE_LIKE: u32 = 1;
 pub const READ_LIKE: u32 = 2;
 
 pub const BOTH: u32 = 3;
-
-// The switches of allow records, numbered from 1; 0 is none.
-pub const SWITCHES: u32 = 8;

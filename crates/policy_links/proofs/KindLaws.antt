@@ -11,7 +11,7 @@ use Rattle.base.proofs.BoolLaws.{or_true, or_left, or_false, and_true, and_first
 use Rattle.base.proofs.UptoLaws.{any_yes, any_found, all_yes, all_no}
 use Rattle.policy_image.specs.declared.records.Record.{Record}
 use Rattle.policy_image.specs.Policy.{Policy, policy_links}
-use Rattle.policy_image.specs.Counting.{counting}
+use Rattle.policy_image.specs.Inner.Counting.{counting}
 use Rattle.policy_image.specs.OfKind.{some, some_counted, every}
 use Rattle.policy_links.specs.Chains.{LinksRise, ChainsByKind}
 

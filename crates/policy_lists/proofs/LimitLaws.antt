@@ -117,8 +117,8 @@ module _ (c d : Counts) (G : AtLeast c d) where
     ),
   )
 
-  kinds_wider : (op switch : ℕ) → WiderTable (kind_limits c op switch) (kind_limits d op switch)
-  kinds_wider op switch = (
+  kinds_wider : (op : ℕ) → WiderTable (kind_limits c op) (kind_limits d op)
+  kinds_wider op = (
     all_kept _,
     (
       (types, kept _, kept _, kept _, kept _, kept _),
@@ -152,5 +152,5 @@ module _ (c d : Counts) (G : AtLeast c d) where
 
   pub fits_more : (r : Record) → Fits c r → Fits d r
   fits_more r h =
-      wider_fits (limits_of c r.kind r.a r.d) (limits_of d r.kind r.a r.d) r
-      (wider_at (kind_limits c r.a r.d) (kind_limits d r.a r.d) (kinds_wider r.a r.d) r.kind) h
+      wider_fits (limits_of c r.kind r.a) (limits_of d r.kind r.a) r
+      (wider_at (kind_limits c r.a) (kind_limits d r.a) (kinds_wider r.a) r.kind) h

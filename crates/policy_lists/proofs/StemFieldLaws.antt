@@ -51,8 +51,8 @@ module _ (c : Counts) (to : ℕ → ℕ) (r : Record) (fits : (s n : ℕ) → us
   fits_root a =
       let k = eqb-true r.kind 8 a in
       let n = fits 0 (root_of r) (use_first r true (has_left r) a refl) in
-      subst (λ (κ : ℕ). WithinLimits (limits_of c κ r.a (with_root (to (root_of r)) r).d) (with_root (to (root_of r)) r)) (sym k)
-      (with_root_lem (limits_of c 8 r.a r.d) (to (root_of r)) r refl refl refl refl n (subst (λ (κ : ℕ). WithinLimits (limits_of c κ r.a r.d) r) k F))
+      subst (λ (κ : ℕ). WithinLimits (limits_of c κ r.a) (with_root (to (root_of r)) r)) (sym k)
+      (with_root_lem (limits_of c 8 r.a) (to (root_of r)) r refl refl refl refl n (subst (λ (κ : ℕ). WithinLimits (limits_of c κ r.a) r) k F))
 
   is_node : has_left r ≡ true → (r.kind ≡ 9) × (1 ≤ r.a) × (r.a ≤ 3)
   is_node b =
@@ -63,9 +63,9 @@ module _ (c : Counts) (to : ℕ → ℕ) (r : Record) (fits : (s n : ℕ) → us
       )
 
   -- by the operator of a node
-  as_node : (w : Record) → r.kind ≡ 9 → (WithinLimits (limits_of c 9 r.a r.d) r → WithinLimits (limits_of c 9 r.a r.d) w) → WithinLimits (limits_of c r.kind r.a r.d) w
+  as_node : (w : Record) → r.kind ≡ 9 → (WithinLimits (limits_of c 9 r.a) r → WithinLimits (limits_of c 9 r.a) w) → WithinLimits (limits_of c r.kind r.a) w
   as_node w k f =
-      subst (λ (κ : ℕ). WithinLimits (limits_of c κ r.a r.d) w) (sym k) (f (subst (λ (κ : ℕ). WithinLimits (limits_of c κ r.a r.d) r) k F))
+      subst (λ (κ : ℕ). WithinLimits (limits_of c κ r.a) w) (sym k) (f (subst (λ (κ : ℕ). WithinLimits (limits_of c κ r.a) r) k F))
 
   fits_left : has_root r ≡ false → has_left r ≡ true → has_right r ≡ false → Fits c (with_children (to (left_of r)) (right_of r) r)
   fits_left a b d =
@@ -73,8 +73,8 @@ module _ (c : Counts) (to : ℕ → ℕ) (r : Record) (fits : (s n : ℕ) → us
       let N = is_node b in
       let n = fits 0 (left_of r) (use_first r false true a b) in
       as_node w N.0
-      (subst (λ (x : ℕ). WithinLimits (limits_of c 9 x r.d) r → WithinLimits (limits_of c 9 x r.d) w) (sym (one N.0 N.1 N.2))
-      (λ G. let h = G.mask.high in with_children_lem (limits_of c 9 1 r.d) (to (left_of r)) (right_of r) r refl (omega arith) G))
+      (subst (λ (x : ℕ). WithinLimits (limits_of c 9 x) r → WithinLimits (limits_of c 9 x) w) (sym (one N.0 N.1 N.2))
+      (λ G. let h = G.mask.high in with_children_lem (limits_of c 9 1) (to (left_of r)) (right_of r) r refl (omega arith) G))
     where
       one : r.kind ≡ 9 → 1 ≤ r.a → r.a ≤ 3 → r.a ≡ 1
       one k l h =
@@ -96,10 +96,10 @@ module _ (c : Counts) (to : ℕ → ℕ) (r : Record) (fits : (s n : ℕ) → us
       let x = fits 0 (left_of r) (use_first r false true a b) in
       let y = fits 1 (right_of r) (use_second r true d) in
       as_node w N.0
-      (two_of (λ (x : ℕ). WithinLimits (limits_of c 9 x r.d) r → WithinLimits (limits_of c 9 x r.d) w) 2 r.a
+      (two_of (λ (x : ℕ). WithinLimits (limits_of c 9 x) r → WithinLimits (limits_of c 9 x) w) 2 r.a
       (leb-true 2 r.a (and_first (leb 2 r.a) (leb r.a 3) m)) N.2
-      (λ G. with_children_lem (limits_of c 9 2 r.d) (to (left_of r)) (to (right_of r)) r refl (omega arith) G)
-      (λ G. with_children_lem (limits_of c 9 3 r.d) (to (left_of r)) (to (right_of r)) r refl (omega arith) G))
+      (λ G. with_children_lem (limits_of c 9 2) (to (left_of r)) (to (right_of r)) r refl (omega arith) G)
+      (λ G. with_children_lem (limits_of c 9 3) (to (left_of r)) (to (right_of r)) r refl (omega arith) G))
 
   pub renumbered_fits : Fits c (renumbered to r)
   renumbered_fits = moved_cases to r (Fits c) (λ a b d. fits_root a) fits_left fits_both (λ a b d. F)
@@ -113,7 +113,7 @@ module _ (c : Counts) (l : List Record) where
   pub from_fields : ((i : ℕ) → 1 ≤ i → i ≤ length l → Fits made.counts (record_in l i)) → FieldsInRange made
   from_fields h =
       record {
-        each = λ i a b. let r = record_in l i in with_next_lem (limits_of made.counts r.kind r.a r.d) (link_in l i) r (h i a b);
+        each = λ i a b. let r = record_in l i in with_next_lem (limits_of made.counts r.kind r.a) (link_in l i) r (h i a b);
       }
 
   -- a record that stems from a policy o that passes questions 5 and 6, whose nodes are nodes of the result

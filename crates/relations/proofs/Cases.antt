@@ -1,6 +1,6 @@
 -- The relations on the weir policy, and on images of a few records, from the definitions alone: for each a yes and a near no.
 use Prim.Native.Nat.{ℕ}
-use mathlib.Core.Bool.{true, false, ◌&&◌}
+use mathlib.Core.Bool.{true, false}
 use mathlib.Core.List.{List, [], ◌∷◌}
 use mathlib.Core.Path.{◌≡◌, refl}
 use Rattle.base.specs.Bits.{bit}
@@ -12,7 +12,6 @@ use Rattle.policy_image.specs.Cases.Weir.{weir, weir_allow31, weir_domain3}
 use Rattle.context.specs.Codes.{event_at as event}
 use Rattle.policy_sources.specs.Sources.{domain}
 use Rattle.relations.specs.Relations.{Γ, write_like, read_like, allowed, α, ρ, μ, role_change}
-use Rattle.relations.specs.Settings.{applies, in_setting}
 
 -- an image with self and both ways of flow: type 1 is a domain, role 1 holds it, and masks of one key add up
 abbrev small : List ℕ
@@ -201,69 +200,3 @@ alpha_31 = refl
 pub alpha_8 : α (policy_of wide) 1 1 (event 1 8) ≡ false
 unfolding domain Γ write_like read_like allowed α ρ μ role_change some bit record_count record_of payload_of decoded
 alpha_8 = refl
-
--- ---- switches: type 1 may do permission 0 to type 2 with switch 1 on, 1 with it off, 2 with switch 8 on and 3 with it off
-abbrev switched : List ℕ
-switched =
-    image 2 1 1 1 (1 ∷ 2 ∷ 0 ∷ 3 ∷ 0 ∷ 0 ∷ 0 ∷ 0 ∷ 0 ∷ [])
-    (domain_record 0 1
-    ∷ permissions 0 1 15
-    ∷ line 4 4 1 2 1 1 1 1 0 0 0
-    ∷ line 5 4 1 2 1 1 0 2 0 0 0
-    ∷ line 6 4 1 2 1 8 1 4 0 0 0
-    ∷ line 0 4 1 2 1 8 0 8 0 0 0
-    ∷ [])
-
--- a rule for on applies with its switch on, and not with it off ..
-pub on_when_on : α (in_setting 1 (policy_of switched)) 1 2 (event 1 0) ≡ true
-unfolding applies domain Γ write_like read_like allowed α ρ μ role_change some bit record_count record_of payload_of decoded
-on_when_on = refl
-
-pub on_when_off : α (in_setting 0 (policy_of switched)) 1 2 (event 1 0) ≡ false
-unfolding applies domain Γ write_like read_like allowed α ρ μ role_change some bit record_count record_of payload_of decoded
-on_when_off = refl
-
--- .. and a rule for off the other way round
-pub off_when_off : α (in_setting 0 (policy_of switched)) 1 2 (event 1 1) ≡ true
-unfolding applies domain Γ write_like read_like allowed α ρ μ role_change some bit record_count record_of payload_of decoded
-off_when_off = refl
-
-pub off_when_on : α (in_setting 1 (policy_of switched)) 1 2 (event 1 1) ≡ false
-unfolding applies domain Γ write_like read_like allowed α ρ μ role_change some bit record_count record_of payload_of decoded
-off_when_on = refl
-
--- switch d is bit d − 1: in setting 2 switch 2 is on, and switch 1 is not
-pub bit_1_is_not_switch_1 : α (in_setting 2 (policy_of switched)) 1 2 (event 1 0) ≡ false
-unfolding applies domain Γ write_like read_like allowed α ρ μ role_change some bit record_count record_of payload_of decoded
-bit_1_is_not_switch_1 = refl
-
-pub switch_1_off_in_2 : α (in_setting 2 (policy_of switched)) 1 2 (event 1 1) ≡ true
-unfolding applies domain Γ write_like read_like allowed α ρ μ role_change some bit record_count record_of payload_of decoded
-switch_1_off_in_2 = refl
-
--- switch 8 is bit 7, the last of the byte
-pub last_on : α (in_setting 128 (policy_of switched)) 1 2 (event 1 2) ≡ true
-unfolding applies domain Γ write_like read_like allowed α ρ μ role_change some bit record_count record_of payload_of decoded
-last_on = refl
-
-pub last_off : α (in_setting 127 (policy_of switched)) 1 2 (event 1 2) ≡ false
-unfolding applies domain Γ write_like read_like allowed α ρ μ role_change some bit record_count record_of payload_of decoded
-last_off = refl
-
-pub off_of_last : α (in_setting 127 (policy_of switched)) 1 2 (event 1 3) ≡ true
-unfolding applies domain Γ write_like read_like allowed α ρ μ role_change some bit record_count record_of payload_of decoded
-off_of_last = refl
-
-pub off_of_last_when_on : α (in_setting 128 (policy_of switched)) 1 2 (event 1 3) ≡ false
-unfolding applies domain Γ write_like read_like allowed α ρ μ role_change some bit record_count record_of payload_of decoded
-off_of_last_when_on = refl
-
--- a rule without a switch applies in every setting
-pub without_switch : (k : ℕ) → α (in_setting k (policy_of small)) 1 1 (event 1 0) ≡ true
-unfolding applies domain Γ write_like read_like allowed α ρ μ role_change some bit record_count record_of payload_of decoded
-without_switch k = refl
-
--- one setting at a time: no setting has the rule for on and the rule for off of one switch, which the policy with all its rules has both
-pub all_rules_have_both : (α (policy_of switched) 1 2 (event 1 0) && α (policy_of switched) 1 2 (event 1 1)) ≡ true
-unfolding applies domain Γ write_like read_like allowed α ρ μ role_change some bit record_count record_of payload_of decoded
-all_rules_have_both = refl

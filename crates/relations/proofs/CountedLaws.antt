@@ -5,14 +5,12 @@ use mathlib.Core.Bool.{Bool, true, ◌&&◌}
 use lib.Dec.{eqb}
 use Rattle.base.specs.Bits.{bit}
 use Rattle.policy_image.specs.Policy.{Policy}
-use Rattle.policy_image.specs.Counting.{counting}
+use Rattle.policy_image.specs.Inner.Counting.{counting}
 use Rattle.policy_image.specs.OfKind.{some, every}
 use Rattle.policy_links.proofs.KindLaws.{counted_all}
 use Rattle.policy_sources.specs.Sources.{domain, AllowsFromDomains}
 use Rattle.context.specs.declared.Event.{Event}
 use Rattle.relations.specs.Relations.{Γ, write_like, read_like, target_of, allowed, ρ, μ, role_change}
-use Rattle.relations.specs.Settings.{applies, in_setting}
-use Rattle.base.specs.Upto.{any_upto}
 
 module _ (f : ℕ → Bool) (p : Policy) where
   pub domain_counted : (t : ℕ) → domain (counting f p) t ≡ domain p t
@@ -55,16 +53,3 @@ pub allowed_all : (p : Policy) → AllCount p → (t1 t2 : ℕ) (e : Event)
     → allowed p t1 t2 e ≡ some p 4 (λ r. (eqb r.a t1 && (eqb (target_of r) t2 && eqb r.c e.class)) && bit r.mask e.perm)
 unfolding allowed
 allowed_all p all t1 t2 e = counted_all p 4 (λ r. (eqb r.a t1 && (eqb (target_of r) t2 && eqb r.c e.class)) && bit r.mask e.perm) all
-
--- in a setting it asks besides that the record applies
-pub allowed_in : (setting : ℕ) (p : Policy) → AllCount p → (t1 t2 : ℕ) (e : Event)
-    → allowed (in_setting setting p) t1 t2 e
-    ≡ some p 4 (λ r. applies setting r && ((eqb r.a t1 && (eqb (target_of r) t2 && eqb r.c e.class)) && bit r.mask e.perm))
-unfolding allowed some
-allowed_in setting p all t1 t2 e = λ j.
-    any_upto
-    (λ i.
-    let r = p.rec i in
-    eqb r.kind 4
-    && ((all i j && applies setting r) && ((eqb r.a t1 && (eqb (target_of r) t2 && eqb r.c e.class)) && bit r.mask e.perm)))
-    p.size

@@ -1,3 +1,2 @@
 pub mod Relations
-pub mod Settings
 pub mod Inner

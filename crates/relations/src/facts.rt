@@ -4,21 +4,18 @@ ghost use Rattle.policy_image.specs.Policy.{policy_of};
 ghost use Rattle.policy_image.specs.OfKind.{some};
 ghost use Rattle.policy_check.specs.Inner.Sound.{Sound};
 ghost use Rattle.relations.specs.Relations.{target_of};
-ghost use Rattle.relations.specs.Inner.Facts.{stated_as, states, Switched, United};
+ghost use Rattle.relations.specs.Inner.Facts.{stated_as, states, United};
 
-use crate::settings::applies;
 use policy_image::kinds::{ALLOW, BOTH, DOMAIN, FLOW, PERMISSIONS, ROLE_CHANGE, ROLE_TYPE};
 use policy_image::records::{Record, head_at, record_at};
 
-// What a record of the given kind may state: its fields a, b and c, as far as the kind names them, and the setting, which only an allow
-// record asks.
+// What a record of the given kind may state: its fields a, b and c, as far as the kind names them.
 #[derive(Drop)]
 pub struct Fact {
     pub kind: u32,
     pub a: u32,
     pub b: u32,
     pub c: u32,
-    pub setting: u32,
 }
 
 // The target type of an allow record, which is its source type where b is 0.
@@ -35,15 +32,11 @@ fn has_way(r: Record, f: Fact) -> bool
     (r.a == f.a) & ((r.b == f.b) | (r.b == BOTH))
 }
 
-// Whether an allow record is of the fact's source, target and class, and applies in its setting.
+// Whether an allow record is of the fact's source, target and class.
 fn allows(r: Record, f: Fact) -> bool
-    requires { r.d ≤ 8 }
     ensures { result ≡ stated_as f 4 r }
 {
-    if (r.a == f.a) & ((target(r) == f.b) & (r.c == f.c)) {
-        return applies(r, f.setting);
-    }
-    false
+    (r.a == f.a) & ((target(r) == f.b) & (r.c == f.c))
 }
 
 // Whether a record holds the fact's pair.
@@ -55,7 +48,6 @@ fn has_pair(r: Record, f: Fact) -> bool
 
 // Whether a record states the fact, its mask aside.
 fn is_stated(r: Record, f: Fact) -> bool
-    requires { Switched f r }
     ensures { result ≡ states f r }
 {
     let kind = f.kind;

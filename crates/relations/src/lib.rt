@@ -1,13 +1,11 @@
 // The relations of paper 01 over a checked policy image: Γ, α, ρ, μ, the role rule's relation and the ways of flow.
 pub mod facts;
-pub mod settings;
 
 ghost use Rattle.std.specs.Prelude.{◌≡◌, ◌<◌};
 ghost use Rattle.policy_image.specs.Policy.{policy_of};
 ghost use Rattle.policy_check.specs.Inner.Sound.{Sound};
 ghost use Rattle.policy_sources.specs.Sources.{domain};
 ghost use Rattle.relations.specs.Relations.{Γ, flows_as, α, ρ, μ, role_change};
-ghost use Rattle.relations.specs.Settings.{in_setting};
 ghost use Rattle.relations.specs.Inner.Facts.{AllowMask};
 
 use crate::facts::{Fact, is_given, united};
@@ -27,7 +25,6 @@ fn is_domain(policy: &[u8], t: u32) -> bool
             a: t,
             b: 0,
             c: 0,
-            setting: 0,
         },
     )
 }
@@ -44,7 +41,6 @@ pub fn gamma(policy: &[u8], e: Event) -> bool
             a: e.class,
             b: 0,
             c: 0,
-            setting: 0,
         },
     );
     has_bit(mask, e.perm)
@@ -62,16 +58,15 @@ pub fn flows_as(policy: &[u8], way: u32, e: Event) -> bool
             a: e.class,
             b: way,
             c: 0,
-            setting: 0,
         },
     );
     has_bit(mask, e.perm)
 }
 
-// The permissions of a class that the allow records give a source type on a target type in the setting.
-fn allow_mask(policy: &[u8], setting: u32, source: u32, target: u32, class: u32) -> u32
+// The permissions of a class that the allow records give a source type on a target type.
+fn allow_mask(policy: &[u8], source: u32, target: u32, class: u32) -> u32
     requires { Sound policy.now }
-    ensures { AllowMask (in_setting setting (policy_of policy.now)) source target class result }
+    ensures { AllowMask (policy_of policy.now) source target class result }
 {
     united(
         policy,
@@ -80,14 +75,13 @@ fn allow_mask(policy: &[u8], setting: u32, source: u32, target: u32, class: u32)
             a: source,
             b: target,
             c: class,
-            setting,
         },
     )
 }
 
-pub fn alpha(policy: &[u8], setting: u32, source: u32, target: u32, e: Event) -> bool
+pub fn alpha(policy: &[u8], source: u32, target: u32, e: Event) -> bool
     requires { Sound policy.now × (e.perm < 32) }
-    ensures { result ≡ α (in_setting setting (policy_of policy.now)) source target e }
+    ensures { result ≡ α (policy_of policy.now) source target e }
 {
     if !is_domain(policy, source) {
         return false;
@@ -95,7 +89,7 @@ pub fn alpha(policy: &[u8], setting: u32, source: u32, target: u32, e: Event) ->
     if !gamma(policy, e) {
         return false;
     }
-    has_bit(allow_mask(policy, setting, source, target, e.class), e.perm)
+    has_bit(allow_mask(policy, source, target, e.class), e.perm)
 }
 
 pub fn rho(policy: &[u8], role: u32, t: u32) -> bool
@@ -107,7 +101,6 @@ pub fn rho(policy: &[u8], role: u32, t: u32) -> bool
         a: role,
         b: t,
         c: 0,
-        setting: 0,
     };
     if is_given(policy, f) {
         return true;
@@ -127,7 +120,6 @@ pub fn mu(policy: &[u8], user: u32, role: u32) -> bool
         a: user,
         b: role,
         c: 0,
-        setting: 0,
     };
     if is_given(policy, f) {
         return true;
@@ -147,7 +139,6 @@ pub fn role_change(policy: &[u8], r1: u32, r2: u32) -> bool
             a: r1,
             b: r2,
             c: 0,
-            setting: 0,
         },
     )
 }

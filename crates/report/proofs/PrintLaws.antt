@@ -10,7 +10,7 @@ use Rattle.report.specs.Inner.Printing.{Printable}
 -- what is printable fits the slice
 pub printable : (s g : List ℕ) (work1 work2 : ℕ) (before after : List ℕ) (r : Outcome) → GoalPromise s g work1 work2 before after r → Printable r after
 printable s g work1 work2 before after outcome.Holds p = tt
-printable s g work1 work2 before after (outcome.Order b) p = omega (arith, p.1.room, p.1.whole)
-printable s g work1 work2 before after (outcome.Events b) p = omega (arith, p.1.room, p.1.whole)
+printable s g work1 work2 before after (outcome.Order m) p = omega (arith, p.1.room, p.1.whole)
+printable s g work1 work2 before after (outcome.Events m) p = omega (arith, p.1.room, p.1.whole)
 printable s g work1 work2 before after (outcome.Refused k) p = tt
 printable s g work1 work2 before after (outcome.NoRoom m) p = tt

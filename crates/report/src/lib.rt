@@ -77,7 +77,7 @@ fn print_path(path: &[u32], m: u32)
     print_context(Context::decode(path[2 * j]));
 }
 
-// The answer, and the path where one is shown: "The goal program prints no setting" (paper 02, g).
+// The answer, and the path where one is shown.
 fn print_outcome(outcome: Outcome, path: &[u32])
     requires { Printable outcome path.now }
 {
@@ -85,13 +85,13 @@ fn print_outcome(outcome: Outcome, path: &[u32])
         Outcome::Holds => {
             io::write_all(STDOUT_FILENO, b"holds\n");
         }
-        Outcome::Order(b) => {
-            print_line(b"order", b.steps);
-            print_path(path, b.steps);
+        Outcome::Order(m) => {
+            print_line(b"order", m);
+            print_path(path, m);
         }
-        Outcome::Events(b) => {
-            print_line(b"events", b.steps);
-            print_path(path, b.steps);
+        Outcome::Events(m) => {
+            print_line(b"events", m);
+            print_path(path, m);
         }
         Outcome::Refused(k) => {
             print_line(b"refused", k);

@@ -12,7 +12,7 @@ use Rattle.base.specs.Ranges.{Within}
 use Rattle.base.proofs.BoolLaws.{or_cases, or_left, or_true, and_true, and_first, and_second, true_or_false, clash}
 use Rattle.policy_image.specs.Layout.{root_of}
 use Rattle.policy_image.specs.Policy.{Policy, policy_of}
-use Rattle.policy_image.specs.Counting.{counting}
+use Rattle.policy_image.specs.Inner.Counting.{counting}
 use Rattle.relations.proofs.CountedLaws.{gamma_counted}
 use Rattle.policy_image.specs.OfKind.{some}
 use Rattle.policy_fields.specs.Fields.{WithinLimits, limits_of, FieldsInRange}
@@ -41,7 +41,7 @@ module _ (p : Policy) (e : Event) where
       let r = some_record p 2 (λ r. eqb r.a e.class && bit r.mask e.perm) t in
       let i : ℕ = r.0 in
       let a : (p.rec i).a ≡ e.class = eqb-true (p.rec i).a e.class (and_first (eqb (p.rec i).a e.class) (bit (p.rec i).mask e.perm) r.2) in
-      let m = subst (λ (k : ℕ). WithinLimits (limits_of p.counts k (p.rec i).a (p.rec i).d) (p.rec i)) r.1.kind (F.each i r.1.low r.1.high) in
+      let m = subst (λ (k : ℕ). WithinLimits (limits_of p.counts k (p.rec i).a) (p.rec i)) r.1.kind (F.each i r.1.low r.1.high) in
       subst (Within 1 p.counts.classes) a m.a
 
   module _ (x y : Context) where

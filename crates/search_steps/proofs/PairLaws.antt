@@ -20,7 +20,7 @@ use Rattle.base.proofs.LowestLaws.{lowest_has, lowest_first}
 use Rattle.base.proofs.Numbers.{split_eq, split_le, zeros}
 use Rattle.policy_image.specs.declared.counts.Counts.{Counts}
 use Rattle.policy_image.specs.Policy.{Policy, policy_of}
-use Rattle.policy_image.specs.Counting.{counting}
+use Rattle.policy_image.specs.Inner.Counting.{counting}
 use Rattle.constraints.proofs.CountedLaws.{constraints_counted}
 use Rattle.policy_check.specs.Inner.Sound.{Sound}
 use Rattle.context.specs.declared.Context.{Context}

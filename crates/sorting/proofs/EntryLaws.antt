@@ -13,12 +13,12 @@ use lib.Seq.{get_or-set_same, get_or-set_other}
 use Rattle.base.specs.Bits.{bit}
 use Rattle.base.proofs.Numbers.{split_eq, below_or}
 use Rattle.sorting.specs.Inner.Order.{Ordered}
-use Rattle.sorting.specs.Inner.Entries.{code_in, HasCode, Gives, Bears, RisingKeys, CodesRise, Placed, PutAt, EntryKeys, Unites}
+use Rattle.sorting.specs.Inner.Entries.{code_in, HasCode, Gives, Bears, RisingKeys, CodesRise, Placed, EntryKeys, Unites}
 use Rattle.sorting.proofs.MaskLaws.{bit_or_cases, bit_or_left, bit_or_right, bit_where, bit_there}
 
 -- ---- where the entry of a code belongs
-module _ {key : ℕ → ℕ} {m code : ℕ} (R : CodesRise key m code) (some : m ≡ 0 → ⊥) where
-  pub placed_last : key (m - 1) ≡ code → Placed key m code (m - 1)
+module _ {keys : List ℕ} {m code : ℕ} (R : CodesRise keys m code) (some : m ≡ 0 → ⊥) where
+  pub placed_last : get_or keys (m - 1) 0 ≡ code → Placed keys m code (m - 1)
   placed_last e =
       record {
         low = omega (arith, some);
@@ -27,7 +27,7 @@ module _ {key : ℕ → ℕ} {m code : ℕ} (R : CodesRise key m code) (some : m
         below = λ j l. omega (arith, R.sorted.rising j (m - 1) (omega arith) l (omega (arith, some)));
       }
 
-  pub placed_next : (key (m - 1) ≡ code → ⊥) → Placed key m code m
+  pub placed_next : (get_or keys (m - 1) 0 ≡ code → ⊥) → Placed keys m code m
   placed_next n =
       record {
         low = omega arith;
@@ -35,73 +35,87 @@ module _ {key : ℕ → ℕ} {m code : ℕ} (R : CodesRise key m code) (some : m
         same = λ l. absurd (omega arith);
         below = λ j l.
             let most = R.most (m - 1) (omega (arith, some)) in
-            ⊎_elim (λ (e : j ≡ m - 1). omega (arith, n, ap key e))
+            ⊎_elim (λ (e : j ≡ m - 1). omega (arith, n, ap (λ (x : ℕ). get_or keys x 0) e))
             (λ (d : j ≡ m - 1 → ⊥). omega (arith, n, R.sorted.rising j (m - 1) (omega arith) (omega (arith, d)) (omega (arith, some)))) (split_eq j (m - 1));
       }
 
 -- what an entry's mask becomes
-abbrev pub joined : (ℕ → ℕ) → ℕ → ℕ → ℕ → ℕ
-joined mask m r w = bit_or (cond (ltb r m) (mask r) 0) w
-
--- a list that is written to
-pub put_at : (l : List ℕ) (r v : ℕ) → r < length l → PutAt (code_in l) r v (code_in (set l r v))
-put_at l r v room = record { here = get_or-set_same l r v 0 room; stay = λ j h. get_or-set_other l r j v 0 (λ e. omega arith) }
+abbrev pub joined : List ℕ → ℕ → ℕ → ℕ → ℕ
+joined masks m r w = bit_or (cond (ltb r m) (get_or masks r 0) 0) w
 
 gives_more : {code give : ℕ → ℕ} {i k q : ℕ} → Gives code give i k q → Gives code give (i + 1) k q
 gives_more g = record { at = g.at; below = omega (arith, g.below); same = g.same; bears = g.bears }
 
 -- item i goes to the entry at r
-module _ (code : ℕ → ℕ) (i : ℕ) {key key' : ℕ → ℕ} {m r : ℕ} (P : Placed key m (code i) r) (K : PutAt key r (code i) key') where
-  sorted_more : RisingKeys key 0 m → RisingKeys key' 0 (r + 1)
+module _ (code : ℕ → ℕ) (i : ℕ) {keys : List ℕ} {m r : ℕ} (P : Placed keys m (code i) r) (room : r < length keys) where
+  abbrev keys' : List ℕ
+  keys' = set keys r (code i)
+
+  key_at_lem : get_or keys' r 0 ≡ code i
+  key_at_lem = get_or-set_same keys r (code i) 0 room
+
+  key_off : (j : ℕ) → j < r → get_or keys' j 0 ≡ get_or keys j 0
+  key_off j l = get_or-set_other keys r j (code i) 0 (λ e. omega arith)
+
+  sorted_more : RisingKeys keys 0 m → RisingKeys keys' 0 (r + 1)
   sorted_more S =
       record {
         rising = λ a b low l h.
-            ⊎_elim (λ (e : b ≡ r). rw (e, K.here, K.stay a (omega arith)) (P.below a (omega arith)))
-            (λ (l' : b < r). rw (K.stay a (omega arith), K.stay b l') (S.rising a b low l (omega (arith, P.high)))) (below_or h);
+            ⊎_elim (λ (e : b ≡ r). rw (e, key_at_lem, key_off a (omega arith)) (P.below a (omega arith)))
+            (λ (l' : b < r). rw (key_off a (omega arith), key_off b l') (S.rising a b low l (omega (arith, P.high)))) (below_or h);
       }
 
-  coded_more : ((j : ℕ) → j < m → HasCode code i (key j)) → (j : ℕ) → j < r + 1 → HasCode code (i + 1) (key' j)
+  coded_more : ((j : ℕ) → j < m → HasCode code i (get_or keys j 0)) → (j : ℕ) → j < r + 1 → HasCode code (i + 1) (get_or keys' j 0)
   coded_more C j l =
-      ⊎_elim (λ (e : j ≡ r). record { at = i; below = omega arith; same = sym (ap key' e ∙ K.here) })
+      ⊎_elim (λ (e : j ≡ r). record { at = i; below = omega arith; same = sym (ap (λ (x : ℕ). get_or keys' x 0) e ∙ key_at_lem) })
       (λ (l' : j < r).
       let c = C j (omega (arith, P.high)) in
-      record { at = c.at; below = omega (arith, c.below); same = c.same ∙ sym (K.stay j l') }) (below_or l)
+      record { at = c.at; below = omega (arith, c.below); same = c.same ∙ sym (key_off j l') }) (below_or l)
 
-  every_more : ((x : ℕ) → x < i → HasCode key m (code x)) → (x : ℕ) → x < i + 1 → HasCode key' (r + 1) (code x)
+  every_more : ((x : ℕ) → x < i → HasCode (code_in keys) m (code x)) → (x : ℕ) → x < i + 1 → HasCode (code_in keys') (r + 1) (code x)
   every_more E x l =
-      ⊎_elim (λ (e : x ≡ i). record { at = r; below = omega arith; same = K.here ∙ ap code (sym e) })
+      ⊎_elim (λ (e : x ≡ i). record { at = r; below = omega arith; same = key_at_lem ∙ ap code (sym e) })
       (λ (l' : x < i).
       let c = E x l' in
       ⊎_elim
       (λ (e : c.at ≡ r).
       let f = P.same (omega (arith, e, c.below)) in
-      record { at = r; below = omega arith; same = K.here ∙ sym f ∙ ap key (sym e) ∙ c.same })
+      record { at = r; below = omega arith; same = key_at_lem ∙ sym f ∙ ap (code_in keys) (sym e) ∙ c.same })
       (λ (d : c.at ≡ r → ⊥).
-      record { at = c.at; below = omega (arith, d, c.below, P.low); same = K.stay c.at (omega (arith, d, c.below, P.low)) ∙ c.same })
+      record { at = c.at; below = omega (arith, d, c.below, P.low); same = key_off c.at (omega (arith, d, c.below, P.low)) ∙ c.same })
       (split_eq c.at r)) (below_or l)
 
-  pub keys_more : EntryKeys code i key m → EntryKeys code (i + 1) key' (r + 1)
-  keys_more E =
+  pub keys_more : EntryKeys code i keys m → EntryKeys code (i + 1) keys' (r + 1)
+  keys_more K =
       record {
-        few = omega (arith, P.high, E.few);
-        sorted = sorted_more E.sorted;
-        coded = coded_more E.coded;
-        every = every_more E.every;
+        few = omega (arith, P.high, K.few);
+        sorted = sorted_more K.sorted;
+        coded = coded_more K.coded;
+        every = every_more K.every;
       }
 
-  module _ (give : ℕ → ℕ) {mask mask' : ℕ → ℕ} (M : PutAt mask r (joined mask m r (give i)) mask') (U : Unites code give i key mask m) where
+  module _ (give : ℕ → ℕ) (masks : List ℕ) (room' : r < length masks) (U : Unites code give i keys masks m) where
+    abbrev masks' : List ℕ
+    masks' = set masks r (joined masks m r (give i))
+
+    mask_at : get_or masks' r 0 ≡ joined masks m r (give i)
+    mask_at = get_or-set_same masks r (joined masks m r (give i)) 0 room'
+
+    mask_off : (j : ℕ) → (j ≡ r → ⊥) → get_or masks' j 0 ≡ get_or masks j 0
+    mask_off j n = get_or-set_other masks r j (joined masks m r (give i)) 0 n
+
     -- what stands at r is of item i, or stood there
-    here : (k q : ℕ) → k ≡ code i → bit (joined mask m r (give i)) q ≡ true → Gives code give (i + 1) k q
+    here : (k q : ℕ) → k ≡ code i → bit (joined masks m r (give i)) q ≡ true → Gives code give (i + 1) k q
     here k q e h =
         ⊎_elim
         (λ o.
-        let w = bit_where (ltb r m) (mask r) q o in
+        let w = bit_where (ltb r m) (get_or masks r 0) q o in
         let l = ltb-true r m w.0 in
         gives_more (U.sound k q (record { place = r; low = omega arith; high = l; key = P.same l ∙ sym e; bears = w.1 })))
-        (λ b. record { at = i; below = omega arith; same = sym e; bears = b }) (bit_or_cases (cond (ltb r m) (mask r) 0) (give i) q h)
+        (λ b. record { at = i; below = omega arith; same = sym e; bears = b }) (bit_or_cases (cond (ltb r m) (get_or masks r 0) 0) (give i) q h)
 
     -- an entry stays
-    stays : (k q : ℕ) → Bears key mask 0 m k q → Bears key' mask' 0 (r + 1) k q
+    stays : (k q : ℕ) → Bears keys masks 0 m k q → Bears keys' masks' 0 (r + 1) k q
     stays k q b =
         let j : ℕ = b.place in
         let l = b.high in
@@ -112,33 +126,33 @@ module _ (code : ℕ → ℕ) (i : ℕ) {key key' : ℕ → ℕ} {m r : ℕ} (P 
           place = r;
           low = omega arith;
           high = omega arith;
-          key = K.here ∙ sym (P.same l') ∙ ap key (sym e) ∙ b.key;
-          bears = rw M.here (bit_or_left (cond (ltb r m) (mask r) 0) (give i) q
-              (bit_there (mask r) q (lt-ltb r m l') (subst (λ (x : ℕ). bit (mask x) q ≡ true) e b.bears)));
+          key = key_at_lem ∙ sym (P.same l') ∙ ap (λ (x : ℕ). get_or keys x 0) (sym e) ∙ b.key;
+          bears = rw mask_at (bit_or_left (cond (ltb r m) (get_or masks r 0) 0) (give i) q
+              (bit_there (get_or masks r 0) q (lt-ltb r m l') (subst (λ (x : ℕ). bit (get_or masks x 0) q ≡ true) e b.bears)));
         })
         (λ n. record {
           place = j;
           low = omega arith;
           high = omega (arith, P.low);
-          key = K.stay j (omega (arith, P.low, n)) ∙ b.key;
-          bears = rw (M.stay j (omega (arith, P.low, n))) b.bears;
+          key = key_off j (omega (arith, P.low, n)) ∙ b.key;
+          bears = rw (mask_off j n) b.bears;
         }) (split_eq j r)
 
-    pub unites_more : Unites code give (i + 1) key' mask' (r + 1)
+    pub unites_more : Unites code give (i + 1) keys' masks' (r + 1)
     unites_more =
         record {
           sound = λ k q b.
               ⊎_elim
               (λ (e : b.place ≡ r).
-              here k q (sym b.key ∙ ap key' e ∙ K.here)
-              (subst (λ (x : ℕ). bit x q ≡ true) (ap mask' e ∙ M.here) b.bears))
+              here k q (sym b.key ∙ ap (λ (x : ℕ). get_or keys' x 0) e ∙ key_at_lem)
+              (subst (λ (x : ℕ). bit x q ≡ true) (ap (λ (x : ℕ). get_or masks' x 0) e ∙ mask_at) b.bears))
               (λ (l : b.place < r).
               gives_more (U.sound k q (record {
                 place = b.place;
                 low = omega arith;
                 high = omega (arith, P.high);
-                key = sym (K.stay b.place l) ∙ b.key;
-                bears = subst (λ (x : ℕ). bit x q ≡ true) (M.stay b.place l) b.bears;
+                key = sym (key_off b.place l) ∙ b.key;
+                bears = subst (λ (x : ℕ). bit x q ≡ true) (mask_off b.place (λ e. omega arith)) b.bears;
               }))) (below_or b.high);
           whole = λ k q g.
               ⊎_elim
@@ -146,14 +160,14 @@ module _ (code : ℕ → ℕ) (i : ℕ) {key key' : ℕ → ℕ} {m r : ℕ} (P 
                 place = r;
                 low = omega arith;
                 high = omega arith;
-                key = K.here ∙ ap code (sym e) ∙ g.same;
-                bears = rw M.here (bit_or_right (cond (ltb r m) (mask r) 0) (give i) q (subst (λ (x : ℕ). bit (give x) q ≡ true) e g.bears));
+                key = key_at_lem ∙ ap code (sym e) ∙ g.same;
+                bears = rw mask_at (bit_or_right (cond (ltb r m) (get_or masks r 0) 0) (give i) q (subst (λ (x : ℕ). bit (give x) q ≡ true) e g.bears));
               })
               (λ (l : g.at < i). stays k q (U.whole k q (record { at = g.at; below = l; same = g.same; bears = g.bears }))) (below_or g.below);
         }
 
-pub keys_none : (code : ℕ → ℕ) (key : ℕ → ℕ) → EntryKeys code 0 key 0
-keys_none code key =
+pub keys_none : (code : ℕ → ℕ) (keys : List ℕ) → EntryKeys code 0 keys 0
+keys_none code keys =
     record {
       few = omega arith;
       sorted = record { rising = λ a b low l h. absurd (omega arith) };
@@ -161,16 +175,16 @@ keys_none code key =
       every = λ x l. absurd (omega arith);
     }
 
-pub unites_none : (code give key mask : ℕ → ℕ) → Unites code give 0 key mask 0
-unites_none code give key mask = record { sound = λ k q b. absurd (omega (arith, b.high)); whole = λ k q g. absurd (omega (arith, g.below)) }
+pub unites_none : (code give : ℕ → ℕ) (keys masks : List ℕ) → Unites code give 0 keys masks 0
+unites_none code give keys masks = record { sound = λ k q b. absurd (omega (arith, b.high)); whole = λ k q g. absurd (omega (arith, g.below)) }
 
 -- ---- the items in the order of their codes
-module _ {code : ℕ → ℕ} {n : ℕ} {order : List ℕ} (O : Ordered code n order) where
+module _ {codes : List ℕ} {n : ℕ} {order : List ℕ} (O : Ordered codes n order) where
   abbrev in_order : ℕ → ℕ
-  in_order x = code (get_or order x 0)
+  in_order x = code_in codes (get_or order x 0)
 
   -- the codes of the entries are none above that of the next item
-  pub rising_at : {i : ℕ} {key : ℕ → ℕ} {m : ℕ} → EntryKeys in_order i key m → i < n → CodesRise key m (code (get_or order i 0))
+  pub rising_at : {i : ℕ} {keys : List ℕ} {m : ℕ} → EntryKeys in_order i keys m → i < n → CodesRise keys m (code_in codes (get_or order i 0))
   rising_at {i = i} K l =
       record {
         sorted = K.sorted;
@@ -179,28 +193,28 @@ module _ {code : ℕ → ℕ} {n : ℕ} {order : List ℕ} (O : Ordered code n o
             ⊎_elim (λ b. omega (arith, b, c.same)) (λ b. omega (arith, b.0, c.same)) (O.rising c.at i c.below l);
       }
 
-  pub keys_all : {key : ℕ → ℕ} {m : ℕ} → EntryKeys in_order n key m → EntryKeys code n key m
-  keys_all {key} {m} K =
+  pub keys_all : {keys : List ℕ} {m : ℕ} → EntryKeys in_order n keys m → EntryKeys (code_in codes) n keys m
+  keys_all {keys} {m} K =
       record {
         few = K.few;
         sorted = K.sorted;
         coded = λ j l. let c = K.coded j l in record { at = get_or order c.at 0; below = O.below c.at c.below; same = c.same };
-        every = λ x l. let s = O.every x l in subst (λ (y : ℕ). HasCode key m (code y)) s.same (K.every s.at s.low);
+        every = λ x l. let s = O.every x l in subst (λ (y : ℕ). HasCode (code_in keys) m (code_in codes y)) s.same (K.every s.at s.low);
       }
 
   module _ {give : ℕ → ℕ} {k q : ℕ} where
-    gives_all : Gives in_order (λ x. give (get_or order x 0)) n k q → Gives code give n k q
+    gives_all : Gives in_order (λ x. give (get_or order x 0)) n k q → Gives (code_in codes) give n k q
     gives_all g = record { at = get_or order g.at 0; below = O.below g.at g.below; same = g.same; bears = g.bears }
 
-    gives_along : Gives code give n k q → Gives in_order (λ x. give (get_or order x 0)) n k q
+    gives_along : Gives (code_in codes) give n k q → Gives in_order (λ x. give (get_or order x 0)) n k q
     gives_along g =
         let s = O.every g.at g.below in
         record {
           at = s.at;
           below = s.low;
-          same = ap code s.same ∙ g.same;
+          same = ap (code_in codes) s.same ∙ g.same;
           bears = subst (λ (x : ℕ). bit (give x) q ≡ true) (sym s.same) g.bears;
         }
 
-  pub unites_all : {give : ℕ → ℕ} {key mask : ℕ → ℕ} {m : ℕ} → Unites in_order (λ x. give (get_or order x 0)) n key mask m → Unites code give n key mask m
+  pub unites_all : {give : ℕ → ℕ} {keys masks : List ℕ} {m : ℕ} → Unites in_order (λ x. give (get_or order x 0)) n keys masks m → Unites (code_in codes) give n keys masks m
   unites_all U = record { sound = λ k q b. gives_all (U.sound k q b); whole = λ k q g. U.whole k q (gives_along g) }

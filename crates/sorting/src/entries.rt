@@ -1,25 +1,11 @@
 // Items with the same code become one entry: where a code's entry stands, and what mask it has so far.
 ghost use Rattle.std.specs.Prelude.{cond, ◌≡◌, ◌≤◌, ltb, length, get_or};
-ghost use Rattle.sorting.specs.Inner.Entries.{code_in, CodesRise, Placed};
+ghost use Rattle.sorting.specs.Inner.Entries.{CodesRise, Placed};
 
 // The number of a code's entry, where none of the m entries has a greater code: that of the last one, or the next.
 pub fn entry_for(keys: &[u32], m: usize, code: u32) -> usize
-    requires { (m ≤ length keys.now) × CodesRise (code_in keys.now) m code }
-    ensures { Placed (code_in keys.now) m code result }
-{
-    if m == 0 {
-        return 0;
-    }
-    if keys[m - 1] == code {
-        return m - 1;
-    }
-    m
-}
-
-// The same where codes have more than 32 bits.
-pub fn wide_entry_for(keys: &[u64], m: usize, code: u64) -> usize
-    requires { (m ≤ length keys.now) × CodesRise (code_in keys.now) m code }
-    ensures { Placed (code_in keys.now) m code result }
+    requires { (m ≤ length keys.now) × CodesRise keys.now m code }
+    ensures { Placed keys.now m code result }
 {
     if m == 0 {
         return 0;

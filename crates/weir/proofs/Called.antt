@@ -8,7 +8,7 @@ use native.Mathlib.Omega.{arith}
 use lib.ListN.{length}
 use Rattle.base.specs.Numbers.{Numbered}
 use Rattle.base.specs.Questions.{Question, ask, AllYes, RefusedWith}
-use Rattle.base.proofs.QuestionLaws.{refused_first, refused_then}
+use Rattle.base.proofs.QuestionLaws.{passed_not_refused, one_number, refused_first, refused_then}
 use Rattle.policy_image.specs.Layout.{counts_of, record_count}
 use Rattle.policy_image.specs.Policy.{policy_of}
 use Rattle.policy_image.specs.Cases.Weir.{weir, weir_allow31}
@@ -20,12 +20,11 @@ use Rattle.policy_writing.proofs.WritingLaws.{one_writing}
 use Rattle.join.specs.Join.{joined_image, join_questions, JoinPromise}
 use Rattle.context.specs.declared.Context.{Context}
 use Rattle.context.specs.declared.Event.{Event}
-use Rattle.relations.specs.Settings.{in_setting}
 use Rattle.access.specs.Authorization.{authorized, flow}
 use Rattle.goal_image.specs.Cases.WeirGoal.{goal_g}
 use Rattle.goal_image.specs.Questions.{goal_questions}
 use Rattle.goal_image.proofs.Cases as goals
-use Rattle.paths.specs.Settings.{settings, HoldsInAll, OrderIn, EventsIn}
+use Rattle.paths.specs.Paths.{Holds, OrderAt, EventsAt}
 use Rattle.goal_model.specs.Images.{model}
 use Rattle.bare_questions.specs.declared.Answer.TheVariants as answer
 use Rattle.bare_questions.specs.Bare.{BareAnswer, number_of}
@@ -33,16 +32,57 @@ use Rattle.bare_questions.proofs.BareLaws.{last, one_answer}
 use Rattle.goal_question.specs.declared.goal.Outcome.{Outcome}
 use Rattle.goal_question.specs.declared.goal.Outcome.TheVariants as outcome
 use Rattle.goal_question.specs.GoalQuestion.{WorkFits, all_questions, GoalPromise, outcome_number}
+use Rattle.goal_question.proofs.GoalLaws.{order_one, events_one, not_both, not_holds_order, not_holds_events, not_holds, least_one, either}
 use Rattle.goal_model.specs.Cases.OwnGoals.{write_only}
 use Rattle.weir.specs.Cases.Goals.{weir_allow41, empty, except_type, end_type_one, one_leg, no_start}
 use Rattle.weir.specs.Cases.Weir.{W5Slice}
-use Rattle.weir.specs.Cases.Called.{Gives, SaysHolds, Refuses, SaysBrokenIn, Prints, WeirCalled}
-use Rattle.weir.specs.Cases.Clauses.{Broke}
+use Rattle.weir.specs.Cases.Called.{Gives, SaysHolds, Refuses, SaysBroken, Prints, WeirCalled}
 use Rattle.weir.proofs.Answers.{w1, w2, w3, w4, w5, w6, w7, w8}
 use Rattle.weir.proofs.Accepted.{w1_enough, w2_enough, w3_enough, w4_enough, w5_enough, w6_enough, w7_enough, w8_enough}
 use Rattle.weir.proofs.Steps.{steps_cases, refuses as refuses_steps}
-use Rattle.weir.proofs.Outcomes.{refused_only, holds_only, order_only, events_only, short_only}
 use Rattle.weir.proofs.Theorem.{w12_first, w12_second, w5_slice}
+
+-- ---- one outcome for each answer of the definitions
+module _ (s g : List ℕ) (work1 work2 : ℕ) where
+  pub refused_only : {k : ℕ} (before after : List ℕ) (r : Outcome) → RefusedWith (all_questions s g work1 work2) k → GoalPromise s g work1 work2 before after r
+      → (r ≡ outcome.Refused k) × (after ≡ before)
+  refused_only b a outcome.Holds h p = absurd (passed_not_refused (all_questions s g work1 work2) _ p.0.0 h)
+  refused_only b a (outcome.Order m) h p = absurd (passed_not_refused (all_questions s g work1 work2) _ p.0.0 h)
+  refused_only b a (outcome.Events m) h p = absurd (passed_not_refused (all_questions s g work1 work2) _ p.0.0 h)
+  refused_only b a (outcome.Refused i) h p = (ap outcome.Refused (one_number (all_questions s g work1 work2) i _ p.0 h), p.1)
+  refused_only b a (outcome.NoRoom m) h p = absurd (passed_not_refused (all_questions s g work1 work2) _ (either p.0).0 h)
+
+  module _ (all : AllYes (all_questions s g work1 work2)) where
+    pub holds_only : (before after : List ℕ) (r : Outcome) → Holds (model s g) → GoalPromise s g work1 work2 before after r → (r ≡ outcome.Holds) × (after ≡ before)
+    holds_only b a outcome.Holds h p = (refl, p.1)
+    holds_only b a (outcome.Order m) h p = absurd (not_holds_order (model s g) m h p.0.1)
+    holds_only b a (outcome.Events m) h p = absurd (not_holds_events (model s g) m h p.0.1)
+    holds_only b a (outcome.Refused k) h p = absurd (passed_not_refused (all_questions s g work1 work2) k all p.0)
+    holds_only b a (outcome.NoRoom m) h p = absurd (not_holds (model s g) m h (either p.0).1)
+
+    pub order_only : {m : ℕ} (before after : List ℕ) (r : Outcome) → OrderAt (model s g) m → 2 * m + 1 ≤ length before → GoalPromise s g work1 work2 before after r
+        → r ≡ outcome.Order m
+    order_only b a outcome.Holds h room p = absurd (not_holds_order (model s g) _ p.0.1 h)
+    order_only b a (outcome.Order i) h room p = ap outcome.Order (order_one (model s g) i _ p.0.1 h)
+    order_only b a (outcome.Events i) h room p = absurd (not_both (model s g) _ i h p.0.1)
+    order_only b a (outcome.Refused k) h room p = absurd (passed_not_refused (all_questions s g work1 work2) k all p.0)
+    order_only {m} b a (outcome.NoRoom i) h room p = let e : i ≡ m = least_one (model s g) i m (either p.0).1 (inl h) in absurd (omega (arith, p.1))
+
+    pub events_only : {m : ℕ} (before after : List ℕ) (r : Outcome) → EventsAt (model s g) m → 2 * m + 1 ≤ length before → GoalPromise s g work1 work2 before after r
+        → r ≡ outcome.Events m
+    events_only b a outcome.Holds h room p = absurd (not_holds_events (model s g) _ p.0.1 h)
+    events_only b a (outcome.Order i) h room p = absurd (not_both (model s g) i _ p.0.1 h)
+    events_only b a (outcome.Events i) h room p = ap outcome.Events (events_one (model s g) i _ p.0.1 h)
+    events_only b a (outcome.Refused k) h room p = absurd (passed_not_refused (all_questions s g work1 work2) k all p.0)
+    events_only {m} b a (outcome.NoRoom i) h room p = let e : i ≡ m = least_one (model s g) i m (either p.0).1 (inr h) in absurd (omega (arith, p.1))
+
+    pub short_only : {m : ℕ} (before after : List ℕ) (r : Outcome) → OrderAt (model s g) m ⊎ EventsAt (model s g) m → length before < 2 * m + 1
+        → GoalPromise s g work1 work2 before after r → (r ≡ outcome.NoRoom m) × (after ≡ before)
+    short_only {m} b a outcome.Holds h short p = absurd (not_holds (model s g) m p.0.1 h)
+    short_only {m} b a (outcome.Order i) h short p = let e : i ≡ m = least_one (model s g) i m (inl p.0.1) h in absurd (omega (arith, p.1.room))
+    short_only {m} b a (outcome.Events i) h short p = let e : i ≡ m = least_one (model s g) i m (inr p.0.1) h in absurd (omega (arith, p.1.room))
+    short_only b a (outcome.Refused k) h short p = absurd (passed_not_refused (all_questions s g work1 work2) k all p.0)
+    short_only {m} b a (outcome.NoRoom i) h short p = (ap outcome.NoRoom (least_one (model s g) i m (either p.0).1 h), p.2)
 
 -- ---- the numbers that C gets
 pub refuses : {k : ℕ} (s g : List ℕ) (work1 work2 : ℕ) → RefusedWith (all_questions s g work1 work2) k → Refuses s g work1 work2 k
@@ -51,29 +91,30 @@ refuses s g work1 work2 h b a n G =
     (G.number ∙ ap outcome_number r.0, r.1)
 
 module _ (s g : List ℕ) (all : AllYes (all_questions s g 32 32)) where
-  pub says_holds : HoldsInAll (model s g) settings → SaysHolds s g
+  pub says_holds : Holds (model s g) → SaysHolds s g
   says_holds h b a n G =
       let r = holds_only s g 32 32 all b a G.answer h G.promised in
       (G.number ∙ ap outcome_number r.0, r.1)
 
-  says_short : {m : ℕ} → Broke (model s g) m → (b a : List ℕ) (n : ℕ) → length b < 2 * m + 1 → Gives s g 32 32 b a n → (n ≡ 256 * m + 51) × (a ≡ b)
+  says_short : {m : ℕ} → OrderAt (model s g) m ⊎ EventsAt (model s g) m → (b a : List ℕ) (n : ℕ) → length b < 2 * m + 1 → Gives s g 32 32 b a n
+      → (n ≡ 256 * m + 51) × (a ≡ b)
   says_short h b a n short G =
       let r = short_only s g 32 32 all b a G.answer h short G.promised in
       let q = G.number ∙ ap outcome_number r.0 in
       (omega arith, r.1)
 
-  pub says_order : {m k : ℕ} → OrderIn (model s g) settings m k → SaysBrokenIn s g m 1 k
-  says_order {m} {k} h =
+  pub says_order : {m : ℕ} → OrderAt (model s g) m → SaysBroken s g m 1
+  says_order h =
       record {
         room = λ b a n room G. G.number ∙ ap outcome_number (order_only s g 32 32 all b a G.answer h room G.promised);
-        no_room = says_short (k, inl h);
+        no_room = says_short (inl h);
       }
 
-  pub says_events : {m k : ℕ} → EventsIn (model s g) settings m k → SaysBrokenIn s g m 2 k
-  says_events {m} {k} h =
+  pub says_events : {m : ℕ} → EventsAt (model s g) m → SaysBroken s g m 2
+  says_events h =
       record {
         room = λ b a n room G. G.number ∙ ap outcome_number (events_only s g 32 32 all b a G.answer h room G.promised);
-        no_room = says_short (k, inr h);
+        no_room = says_short (inr h);
       }
 
 -- ---- W5's path, W9 and W10
@@ -154,9 +195,9 @@ weir_called =
       w6 = says_order weir end_type_one w6_enough w6;
       w7 = says_events weir one_leg w7_enough w7;
       w8 = says_holds weir no_start w8_enough w8;
-      w9_authorized = λ setting x y e. bare_refuses weir_allow31 w9_refused.it x y e (authorized (in_setting setting (policy_of weir_allow31)) e x y);
-      w9_flows = λ setting x y e. bare_refuses weir_allow31 w9_refused.it x y e (flow (in_setting setting (policy_of weir_allow31)) e x y);
-      w9_steps = λ setting x y work1 work2. refuses_steps setting weir_allow31 x y work1 work2 ((steps_cases setting).fourteen_before_13 x y work1 work2);
+      w9_authorized = λ x y e. bare_refuses weir_allow31 w9_refused.it x y e (authorized (policy_of weir_allow31) e x y);
+      w9_flows = λ x y e. bare_refuses weir_allow31 w9_refused.it x y e (flow (policy_of weir_allow31) e x y);
+      w9_steps = λ x y work1 work2. refuses_steps weir_allow31 x y work1 work2 (steps_cases.fourteen_before_13 x y work1 work2);
       w9_check = policy_refuses weir_allow31 w9_refused.it;
       w9_join_maker = λ t before after n N. maker_refuses weir_allow31 t before after n 14 N w9_refused.it;
       w9_join_board = λ s before after n a N. board_refuses s weir_allow31 before after n 14 N a w9_refused.it;

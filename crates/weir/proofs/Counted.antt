@@ -6,7 +6,7 @@ use Rattle.base.specs.Bits.{bit}
 use Rattle.policy_image.specs.Layout.{record_count, record_of, payload_of, decoded}
 use Rattle.policy_image.specs.Policy.{policy_of}
 use Rattle.policy_image.specs.OfKind.{some}
-use Rattle.policy_image.specs.Counting.{counting}
+use Rattle.policy_image.specs.Inner.Counting.{counting}
 use Rattle.policy_image.specs.Cases.Weir.{weir}
 use Rattle.context.specs.Codes.{event_at as event}
 use Rattle.policy_sources.specs.Sources.{domain}

@@ -21,7 +21,7 @@ use Rattle.policy_writing.specs.Writing.{writing_number}
 use Rattle.policy_writing.proofs.WritingLaws.{one_writing}
 use Rattle.join.specs.Join.{joined_image, join_questions, JoinPromise}
 use Rattle.goal_image.specs.Cases.WeirGoal.{goal_g}
-use Rattle.paths.specs.Settings.{settings, OrderIn}
+use Rattle.paths.specs.Paths.{OrderAt}
 use Rattle.goal_question.specs.declared.goal.Outcome.{Outcome}
 use Rattle.goal_question.specs.GoalQuestion.{GoalPromise}
 use Rattle.weir.specs.Cases.Weir.{W5Slice, Answered}
@@ -99,7 +99,7 @@ join_cases =
       parts = images.parts;
       read = images.read;
       read_before = record { accepted = w1_enough; answer = w1 };
-      read_after = of_joined images.read (λ s. Answered s goal_g (λ M. OrderIn M settings 1 0)) (record { accepted = answers.read_enough; answer = answers.read_order });
+      read_after = of_joined images.read (λ s. Answered s goal_g (λ M. OrderAt M 1)) (record { accepted = answers.read_enough; answer = answers.read_order });
       read_slice = of_joined images.read
           (λ s. (before after : List ℕ) (r : Outcome) → 3 ≤ length before → GoalPromise s goal_g 32 32 before after r → W5Slice before after r) read_slice;
       taken = images.taken;

@@ -15,17 +15,19 @@ use Rattle.policy_image.specs.Cases.Weir.{weir}
 use Rattle.context.specs.Codes.{context_at as at, event_at as event}
 use Rattle.access.specs.Authorization.{authorized}
 use Rattle.goal_image.specs.Layout.{legs_of, flags_of, goal_count, goal_head, next_of, context_record_of, event_record_of}
+use Rattle.goal_image.specs.Goal.{goal_of}
+use Rattle.goal_image.specs.Sets.{context_in, event_in}
 use Rattle.goal_image.specs.Cases.WeirGoal.{goal_g}
 use Rattle.goal_image.proofs.Tests.{Accepted as GoalAccepted, accepted as goal_accepted}
-use Rattle.paths.specs.Settings.{settings, OrderIn}
+use Rattle.paths.specs.Paths.{OrderAt}
+use Rattle.paths.proofs.Decide.{order_by}
 use Rattle.goal_model.specs.Images.{model}
-use Rattle.goal_model.proofs.Cover.{uncovered}
-use Rattle.goal_model.proofs.InSettings.{order_in_all_by}
+use Rattle.goal_model.proofs.Cover.{uncovered, finite}
 use Rattle.goal_question.specs.GoalQuestion.{all_questions}
 use Rattle.weir.specs.Cases.JoinPolicies.{weir_read, weir_guarded, weir_taken, guarded_twice, guarded_read, weir_domains}
 use Rattle.weir.proofs.Accepted.{enough}
 use Rattle.weir.proofs.Answers.{steps41}
-use Rattle.weir.proofs.Computed.{computed, computed_goal}
+use Rattle.weir.proofs.StepsPaths.{computed}
 use Rattle.weir.proofs.JoinImages.{weir_read_lem}
 
 -- ---- "4 on 1 read" of a board: W5's steps, and W5's answer
@@ -33,9 +35,9 @@ pub read_covers : T (not (uncovered (policy_of weir_read) steps41))
 unfolding computed
 read_covers = tt
 
-pub read_order : OrderIn (model weir_read goal_g) settings 1 0
-unfolding computed computed_goal
-read_order = order_in_all_by weir_read goal_g steps41 read_covers 0 tt (omega arith) 1 0 tt
+pub read_order : OrderAt (model weir_read goal_g) 1
+unfolding computed legs_of flags_of goal_count goal_head next_of context_record_of event_record_of context_in event_in
+read_order = order_by (model weir_read goal_g) (finite (policy_of weir_read) steps41 read_covers (goal_of goal_g)) 1 tt
 
 g_accepted : GoalAccepted (counts_of weir_read) goal_g
 unfolding counts_of record_count legs_of flags_of goal_count goal_head next_of context_record_of event_record_of bit

@@ -1,8 +1,5 @@
-pub mod Computed
-pub mod Ways
 pub mod Accepted
 pub mod Answers
-pub mod Outcomes
 pub mod Theorem
 pub mod StandIns
 pub mod Called
@@ -10,8 +7,6 @@ pub mod Own
 pub mod Counted
 pub mod Bytes
 pub mod Shown
-pub mod SwitchAnswers
-pub mod SwitchPaths
 pub mod Clauses
 pub mod Walks
 pub mod StepsPaths
@@ -25,6 +20,3 @@ pub mod JoinMany
 pub mod Join
 pub mod JoinClauses
 pub mod JoinStandIns
-pub mod SwitchBare
-pub mod Switches
-pub mod SwitchStandIns

@@ -4,12 +4,24 @@ use mathlib.Core.List.{List, [], ◌∷◌, ◌++◌}
 use mathlib.Core.Path.{◌≡◌, refl, sym, ◌∙◌}
 use Prim.Native.Nat.{ℕ, zero, suc, ◌+◌, ◌*◌, ◌≤◌, ◌<◌}
 use native.Mathlib.Omega.{arith}
-use lib.Dec.{T, T_not}
+use lib.Dec.{T, T_not, not_T}
 use lib.ListN.{length, get_or, get_or-eq_default}
 use Rattle.paths.specs.Model.{Model}
 use Rattle.paths.specs.Paths.{IsPath}
 use Rattle.paths.specs.Slice.{contexts_in, events_in, Shows}
-use Rattle.paths.proofs.Any.{every_below, every_at, and_T}
+use Rattle.paths.specs.Inner.Below.{any_below}
+use Rattle.paths.proofs.Any.{any_of, and_T, T-dec}
+
+-- whether f holds of every number below n
+abbrev pub every_below : ℕ → (ℕ → Bool) → Bool
+every_below n f = not (any_below n (λ i. not (f i)))
+
+pub every_at : (n : ℕ) (f : ℕ → Bool) → T (every_below n f) → (i : ℕ) → i < n → T (f i)
+every_at n f t i h = go (T-dec (f i))
+  where
+    go : Dec (T (f i)) → T (f i)
+    go (yes u) = u
+    go (no u) = absurd (T_not (any_below n (λ i. not (f i))) t (any_of n (λ i. not (f i)) i h (not_T (f i) u)))
 
 module _ (M : Model) (m : ℕ) (x e : ℕ → ℕ) where
   open M use {flow_by, context, held, legs, σ, σe, γe}

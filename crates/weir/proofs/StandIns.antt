@@ -1,9 +1,8 @@
 -- Checkers that the promise of the goal question keeps out, each on a named input ("Four tests of a promise", 3, and ours).
-use Prim.Native.Nat.{ℕ, zero, suc, ◌+◌, ◌*◌, ◌^◌, ◌≤◌, ◌<◌}
+use Prim.Native.Nat.{ℕ, zero, suc, ◌+◌, ◌*◌, ◌≤◌, ◌<◌}
 use mathlib.Core.List.{List, [], ◌∷◌, ◌++◌}
 use mathlib.Core.Logic.{inl, inr}
 use mathlib.Core.Path.{◌≡◌, refl, sym, ap, subst}
-use native.Mathlib.Decide.{dec_lt}
 use native.Mathlib.Omega.{arith}
 use lib.ListN.{length, get_or}
 use Rattle.base.specs.Questions.{ask}
@@ -15,20 +14,16 @@ use Rattle.policy_check.proofs.Cases.{weir_accepted}
 use Rattle.goal_image.specs.Cases.WeirGoal.{goal_g}
 use Rattle.goal_image.specs.Questions.{goal_questions}
 use Rattle.paths.specs.Slice.{contexts_in, events_in}
-use Rattle.paths.proofs.SettingLaws.{one_order, not_both, not_holds_order, not_holds_events}
 use Rattle.goal_model.specs.Images.{model}
-use Rattle.goal_settings.specs.declared.best.Broken.{Broken}
 use Rattle.goal_question.specs.declared.goal.Outcome.{Outcome}
 use Rattle.goal_question.specs.declared.goal.Outcome.TheVariants as outcome
 use Rattle.goal_question.specs.GoalQuestion.{WorkFits, all_questions, GoalPromise, outcome_number}
-use Rattle.goal_question.proofs.GoalLaws.{same_broken, not_holds, least_one}
+use Rattle.goal_question.proofs.GoalLaws.{order_one, not_both, not_holds_order, not_holds_events, not_holds, least_one, either}
 use Rattle.goal_model.specs.Cases.OwnGoals.{write_only}
 use Rattle.weir.specs.Cases.Goals.{weir_allow41}
-use Rattle.weir.specs.Cases.Weir.{broken}
 use Rattle.weir.proofs.Answers.{w1, w2, w5, w2_path}
 use Rattle.weir.proofs.Accepted.{w1_enough, w2_enough, refused_11, g_accepted, work_length_lem}
-use Rattle.weir.proofs.Outcomes.{events_only}
-use Rattle.weir.proofs.Called.{refused_among}
+use Rattle.weir.proofs.Called.{refused_among, events_only}
 use Rattle.weir.proofs.Theorem.{w12_second, w5_slice}
 
 -- what may be said of W5's input
@@ -37,17 +32,17 @@ W5 before after r = GoalPromise weir_allow41 goal_g 32 32 before after r
 
 -- "a checker saying 'holds' always"
 pub not_always_holds : (before after : List ℕ) → W5 before after outcome.Holds → ⊥
-not_always_holds before after p = not_holds_order (model weir_allow41 goal_g) p.0.1 w5
+not_always_holds before after p = not_holds_order (model weir_allow41 goal_g) 1 p.0.1 w5
 
 -- "one always naming the same path", or giving any one answer: W5 and W2 have none in common
 pub not_always_same : (b a b' a' : List ℕ) (r : Outcome) → W5 b a r → GoalPromise weir write_only 32 32 b' a' r → ⊥
-not_always_same b a b' a' outcome.Holds p q = not_holds_order (model weir_allow41 goal_g) p.0.1 w5
-not_always_same b a b' a' (outcome.Order m) p q = not_both (model weir write_only) q.0.1 w2
-not_always_same b a b' a' (outcome.Events m) p q = not_both (model weir_allow41 goal_g) w5 p.0.1
+not_always_same b a b' a' outcome.Holds p q = not_holds_order (model weir_allow41 goal_g) 1 p.0.1 w5
+not_always_same b a b' a' (outcome.Order m) p q = not_both (model weir write_only) m 3 q.0.1 w2
+not_always_same b a b' a' (outcome.Events m) p q = not_both (model weir_allow41 goal_g) 1 m w5 p.0.1
 not_always_same b a b' a' (outcome.Refused k) p q = passed_not_refused (all_questions weir write_only 32 32) k w2_enough q.0
 not_always_same b a b' a' (outcome.NoRoom m) p q =
-    let x = least_one (model weir_allow41 goal_g) p.1 (0, inl w5) in
-    let y = least_one (model weir write_only) q.1 (0, inr w2) in
+    let x = least_one (model weir_allow41 goal_g) m 1 (either p.0).1 (inl w5) in
+    let y = least_one (model weir write_only) m 3 (either q.0).1 (inr w2) in
     omega arith
 
 -- "or one leaving the path slice untouched"
@@ -60,29 +55,29 @@ not_refusing before after k p = passed_not_refused (all_questions weir goal_g 32
 
 -- "one following only the first leg": it would let W2 pass, whose leg 0 is done and whose leg 1 is not
 pub not_first_leg : (before after : List ℕ) → GoalPromise weir write_only 32 32 before after outcome.Holds → ⊥
-not_first_leg before after p = not_holds_events (model weir write_only) p.0.1 w2
+not_first_leg before after p = not_holds_events (model weir write_only) 3 p.0.1 w2
 
 -- "one inventing m": any other count, of either sort, or a path that is longer than need be
-pub not_invented : (before after : List ℕ) (b : Broken) → W5 before after (outcome.Order b) → b ≡ broken 1 0
-not_invented before after b p = same_broken (one_order (model weir_allow41 goal_g) p.0.1 w5)
+pub not_invented : (before after : List ℕ) (m : ℕ) → W5 before after (outcome.Order m) → m ≡ 1
+not_invented before after m p = order_one (model weir_allow41 goal_g) m 1 p.0.1 w5
 
 -- "one giving 12 unsearched": not where the goal holds, not with another count, and not where there is room
 pub not_unsearched : (before after : List ℕ) (m : ℕ) → GoalPromise weir goal_g 32 32 before after (outcome.NoRoom m) → ⊥
-not_unsearched before after m p = not_holds (model weir goal_g) w1 p.1
+not_unsearched before after m p = not_holds (model weir goal_g) m w1 (either p.0).1
 
 pub not_other_room : (before after : List ℕ) (m : ℕ) → W5 before after (outcome.NoRoom m) → (m ≡ 1) × (length before < 3)
 not_other_room before after m p =
-    let e = least_one (model weir_allow41 goal_g) p.1 (0, inl w5) in
-    let l = p.2 in
+    let e = least_one (model weir_allow41 goal_g) m 1 (either p.0).1 (inl w5) in
+    let l = p.1 in
     (e, omega arith)
 
 -- events on a tie: W5's path breaks both
-pub not_events_on_tie : (before after : List ℕ) (b : Broken) → W5 before after (outcome.Events b) → ⊥
-not_events_on_tie before after b p = not_both (model weir_allow41 goal_g) w5 p.0.1
+pub not_events_on_tie : (before after : List ℕ) (m : ℕ) → W5 before after (outcome.Events m) → ⊥
+not_events_on_tie before after m p = not_both (model weir_allow41 goal_g) 1 m w5 p.0.1
 
 -- the path slice written on 12
 pub not_written_on_12 : (m : ℕ) → W5 [] (273 ∷ []) (outcome.NoRoom m) → ⊥
-not_written_on_12 m p = let z : ◌≡◌ {A = ℕ} 1 0 = ap length p.3 in omega arith
+not_written_on_12 m p = let z : ◌≡◌ {A = ℕ} 1 0 = ap length p.2 in omega arith
 
 -- an entry past the path changed
 pub not_past_the_path : (r : Outcome) → W5 (0 ∷ 0 ∷ 0 ∷ 7 ∷ []) (273 ∷ 64 ∷ 1057 ∷ 8 ∷ []) r → ⊥
@@ -102,27 +97,27 @@ not_half_the_work before after p =
     passed_not_refused (all_questions weir goal_g 16 16) 11 p.0.0 (refused_11 weir goal_g 16 16 weir_accepted g_accepted (λ h. let a = h.first in omega arith))
 
 -- a path one step too long, or too short: the count is the path's
-pub not_longer : (before after : List ℕ) → W5 before after (outcome.Order (broken 2 0)) → ⊥
-not_longer before after p = let e = ap (λ (b : Broken). b.steps) (not_invented before after (broken 2 0) p) in omega arith
+pub not_longer : (before after : List ℕ) → W5 before after (outcome.Order 2) → ⊥
+not_longer before after p = let e = not_invented before after 2 p in omega arith
 
-pub not_shorter : (before after : List ℕ) → W5 before after (outcome.Order (broken 0 0)) → ⊥
-not_shorter before after p = let e = ap (λ (b : Broken). b.steps) (not_invented before after (broken 0 0) p) in omega arith
+pub not_shorter : (before after : List ℕ) → W5 before after (outcome.Order 0) → ⊥
+not_shorter before after p = let e = not_invented before after 0 p in omega arith
 
 -- W2 has one path, and it is not W5's: 1 1 1, 2 0, 2 2 1, 2 1, 3 1 1, 2 0, 4 2 1 by their codes
-pub w2_slice : (before after : List ℕ) → GoalPromise weir write_only 32 32 before after (outcome.Events (broken 3 0))
+pub w2_slice : (before after : List ℕ) → GoalPromise weir write_only 32 32 before after (outcome.Events 3)
     → (get_or after 0 0 ≡ 273) × (get_or after 1 0 ≡ 64) × (get_or after 2 0 ≡ 545) × (get_or after 3 0 ≡ 65) × (get_or after 4 0 ≡ 785) × (get_or after 5 0 ≡ 64) × (get_or after 6 0 ≡ 1057)
-w2_slice before after p = w2_path 0 (contexts_in after) (events_in after) p.1.path
+w2_slice before after p = w2_path (contexts_in after) (events_in after) p.1.path
 
 -- "one always naming the same path": no slice shows both W5's path and W2's, whatever the outcomes beside it are
 pub not_same_path : (b b' a : List ℕ) (r r' : Outcome) → 3 ≤ length b → 7 ≤ length b' → W5 b a r → GoalPromise weir write_only 32 32 b' a r' → ⊥
 not_same_path b b' a r r' room room' p q =
     let x = (w5_slice b a r room p).x1 in
-    let e = events_only weir write_only 32 32 w2_enough {m = 3} {k = 0} b' a r' w2 room' q in
+    let e = events_only weir write_only 32 32 w2_enough {m = 3} b' a r' w2 room' q in
     let y = (w2_slice b' a (subst (λ (o : Outcome). GoalPromise weir write_only 32 32 b' a o) e q)).2 in
     omega arith
 
 -- W5's path shown for W2, with the count that W2 has
-pub not_w5_path : (before : List ℕ) → GoalPromise weir write_only 32 32 before (273 ∷ 64 ∷ 1057 ∷ 64 ∷ 1057 ∷ 64 ∷ 1057 ∷ []) (outcome.Events (broken 3 0)) → ⊥
+pub not_w5_path : (before : List ℕ) → GoalPromise weir write_only 32 32 before (273 ∷ 64 ∷ 1057 ∷ 64 ∷ 1057 ∷ 64 ∷ 1057 ∷ []) (outcome.Events 3) → ⊥
 not_w5_path before p =
     let q = w2_slice before (273 ∷ 64 ∷ 1057 ∷ 64 ∷ 1057 ∷ 64 ∷ 1057 ∷ []) p in
     let z : ◌≡◌ {A = ℕ} 1057 545 = q.2 in
@@ -152,10 +147,10 @@ not_no_goal work before after p =
 pub number_holds : outcome_number outcome.Holds ≡ 0
 number_holds = refl
 
-pub number_order : outcome_number (outcome.Order (broken 1 0)) ≡ 257
+pub number_order : outcome_number (outcome.Order 1) ≡ 257
 number_order = refl
 
-pub number_events : outcome_number (outcome.Events (broken 3 0)) ≡ 770
+pub number_events : outcome_number (outcome.Events 3) ≡ 770
 number_events = refl
 
 pub number_refused : outcome_number (outcome.Refused 11) ≡ 47
@@ -170,15 +165,15 @@ But12 k = (k ≤ 14) × (k ≡ 12 → ⊥)
 
 abbrev RefusedBut12 : Outcome → Type 0
 RefusedBut12 outcome.Holds = Unit
-RefusedBut12 (outcome.Order i) = Unit
-RefusedBut12 (outcome.Events i) = Unit
+RefusedBut12 (outcome.Order m) = Unit
+RefusedBut12 (outcome.Events m) = Unit
 RefusedBut12 (outcome.Refused i) = But12 i
 RefusedBut12 (outcome.NoRoom m) = Unit
 
 pub promised_but_12 : (s g : List ℕ) (w1 w2 : ℕ) (b a : List ℕ) (r : Outcome) → GoalPromise s g w1 w2 b a r → RefusedBut12 r
 promised_but_12 s g w1 w2 b a outcome.Holds p = tt
-promised_but_12 s g w1 w2 b a (outcome.Order i) p = tt
-promised_but_12 s g w1 w2 b a (outcome.Events i) p = tt
+promised_but_12 s g w1 w2 b a (outcome.Order m) p = tt
+promised_but_12 s g w1 w2 b a (outcome.Events m) p = tt
 promised_but_12 s g w1 w2 b a (outcome.Refused k) p = refused_among But12 k (all_questions s g w1 w2) (omega arith) p.0
 promised_but_12 s g w1 w2 b a (outcome.NoRoom m) p = tt
 
@@ -187,57 +182,36 @@ pub not_12 : (i m : ℕ) → But12 i → 4 * i + 3 ≡ 256 * m + 4 * 12 + 3 → 
 not_12 i zero h e = h.1 (omega arith)
 not_12 i (suc m) h e = omega (arith, h.0)
 
--- an outcome of the call has its steps in 32 bits, so that they do not reach up to the setting
-abbrev pub StepsIn32 : Outcome → Type 0
-StepsIn32 outcome.Holds = Unit
-StepsIn32 (outcome.Order b) = b.steps < 2 ^ 32
-StepsIn32 (outcome.Events b) = b.steps < 2 ^ 32
-StepsIn32 (outcome.Refused i) = Unit
-StepsIn32 (outcome.NoRoom m) = Unit
-
-module _ (b b' : Broken) (answer : ℕ) (h : b.steps < 2 ^ 32) (h' : b'.steps < 2 ^ 32)
-    (e : 2 ^ 40 * b.setting + 256 * b.steps + answer ≡ 2 ^ 40 * b'.setting + 256 * b'.steps + answer) where
-  same_setting : b.setting ≡ b'.setting
-  same_setting = go (dec_lt b.setting b'.setting) (dec_lt b'.setting b.setting)
-    where
-      go : Dec (b.setting < b'.setting) → Dec (b'.setting < b.setting) → b.setting ≡ b'.setting
-      go (yes l) _ = absurd (omega arith)
-      go (no _) (yes l) = absurd (omega arith)
-      go (no l) (no r) = omega arith
-
-  told : b ≡ b'
-  told = let k = same_setting in same_broken (omega arith, k)
-
 -- two answers never share a number: what C gets tells which it was
-pub number_tells : (q r : Outcome) → RefusedBut12 q × StepsIn32 q → RefusedBut12 r × StepsIn32 r → outcome_number q ≡ outcome_number r → q ≡ r
+pub number_tells : (q r : Outcome) → RefusedBut12 q → RefusedBut12 r → outcome_number q ≡ outcome_number r → q ≡ r
 number_tells outcome.Holds outcome.Holds h k e = refl
-number_tells outcome.Holds (outcome.Order b') h k e = absurd (omega arith)
-number_tells outcome.Holds (outcome.Events b') h k e = absurd (omega arith)
+number_tells outcome.Holds (outcome.Order m') h k e = absurd (omega arith)
+number_tells outcome.Holds (outcome.Events m') h k e = absurd (omega arith)
 number_tells outcome.Holds (outcome.Refused i') h k e = absurd (omega arith)
 number_tells outcome.Holds (outcome.NoRoom m') h k e = absurd (omega arith)
-number_tells (outcome.Order b) outcome.Holds h k e = absurd (omega arith)
-number_tells (outcome.Order b) (outcome.Order b') h k e = ap outcome.Order (told b b' 1 h.1 k.1 e)
-number_tells (outcome.Order b) (outcome.Events b') h k e = absurd (omega arith)
-number_tells (outcome.Order b) (outcome.Refused i') h k e = absurd (omega arith)
-number_tells (outcome.Order b) (outcome.NoRoom m') h k e = absurd (omega arith)
-number_tells (outcome.Events b) outcome.Holds h k e = absurd (omega arith)
-number_tells (outcome.Events b) (outcome.Order b') h k e = absurd (omega arith)
-number_tells (outcome.Events b) (outcome.Events b') h k e = ap outcome.Events (told b b' 2 h.1 k.1 e)
-number_tells (outcome.Events b) (outcome.Refused i') h k e = absurd (omega arith)
-number_tells (outcome.Events b) (outcome.NoRoom m') h k e = absurd (omega arith)
+number_tells (outcome.Order m) outcome.Holds h k e = absurd (omega arith)
+number_tells (outcome.Order m) (outcome.Order m') h k e = ap outcome.Order (omega arith)
+number_tells (outcome.Order m) (outcome.Events m') h k e = absurd (omega arith)
+number_tells (outcome.Order m) (outcome.Refused i') h k e = absurd (omega arith)
+number_tells (outcome.Order m) (outcome.NoRoom m') h k e = absurd (omega arith)
+number_tells (outcome.Events m) outcome.Holds h k e = absurd (omega arith)
+number_tells (outcome.Events m) (outcome.Order m') h k e = absurd (omega arith)
+number_tells (outcome.Events m) (outcome.Events m') h k e = ap outcome.Events (omega arith)
+number_tells (outcome.Events m) (outcome.Refused i') h k e = absurd (omega arith)
+number_tells (outcome.Events m) (outcome.NoRoom m') h k e = absurd (omega arith)
 number_tells (outcome.Refused i) outcome.Holds h k e = absurd (omega arith)
-number_tells (outcome.Refused i) (outcome.Order b') h k e = absurd (omega arith)
-number_tells (outcome.Refused i) (outcome.Events b') h k e = absurd (omega arith)
+number_tells (outcome.Refused i) (outcome.Order m') h k e = absurd (omega arith)
+number_tells (outcome.Refused i) (outcome.Events m') h k e = absurd (omega arith)
 number_tells (outcome.Refused i) (outcome.Refused i') h k e = ap outcome.Refused (omega arith)
-number_tells (outcome.Refused i) (outcome.NoRoom m') h k e = absurd (not_12 i m' h.0 e)
+number_tells (outcome.Refused i) (outcome.NoRoom m') h k e = absurd (not_12 i m' h e)
 number_tells (outcome.NoRoom m) outcome.Holds h k e = absurd (omega arith)
-number_tells (outcome.NoRoom m) (outcome.Order b') h k e = absurd (omega arith)
-number_tells (outcome.NoRoom m) (outcome.Events b') h k e = absurd (omega arith)
-number_tells (outcome.NoRoom m) (outcome.Refused i') h k e = absurd (not_12 i' m k.0 (sym e))
+number_tells (outcome.NoRoom m) (outcome.Order m') h k e = absurd (omega arith)
+number_tells (outcome.NoRoom m) (outcome.Events m') h k e = absurd (omega arith)
+number_tells (outcome.NoRoom m) (outcome.Refused i') h k e = absurd (not_12 i' m k (sym e))
 number_tells (outcome.NoRoom m) (outcome.NoRoom m') h k e = ap outcome.NoRoom (omega arith)
 
 -- .. of any two inputs
 pub number_one : (s g s' g' : List ℕ) (w1 w2 w1' w2' : ℕ) (b a b' a' : List ℕ) (q r : Outcome) → GoalPromise s g w1 w2 b a q → GoalPromise s' g' w1' w2' b' a' r
-    → StepsIn32 q → StepsIn32 r → outcome_number q ≡ outcome_number r → q ≡ r
-number_one s g s' g' w1 w2 w1' w2' b a b' a' q r p p' t t' e =
-    number_tells q r (promised_but_12 s g w1 w2 b a q p, t) (promised_but_12 s' g' w1' w2' b' a' r p', t') e
+    → outcome_number q ≡ outcome_number r → q ≡ r
+number_one s g s' g' w1 w2 w1' w2' b a b' a' q r p p' e =
+    number_tells q r (promised_but_12 s g w1 w2 b a q p) (promised_but_12 s' g' w1' w2' b' a' r p') e

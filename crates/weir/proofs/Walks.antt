@@ -15,11 +15,11 @@ use Rattle.context.specs.Inner.Coding.{context_code}
 use Rattle.context.proofs.CodeLaws.{context_code_of}
 use Rattle.paths.specs.Slice.{contexts_in, events_in, Shows}
 use Rattle.paths.specs.Inner.Below.{any_below}
-use Rattle.paths.proofs.Any.{any_of, every_below, every_at, and_T, or_cases}
+use Rattle.paths.proofs.Any.{any_of, and_T, or_cases}
 use Rattle.goal_model.specs.Images.{meetsρμ}
 use Rattle.goal_model.proofs.Cover.{Step, context, step, uncovered, every_step, steps_from, steps_back, all_in}
 use Rattle.least_steps.specs.LeastSteps.{FlowPath, NoFlowPath, NoneShorter}
-use Rattle.weir.proofs.Shown.{shows_same}
+use Rattle.weir.proofs.Shown.{every_below, every_at, shows_same}
 
 module _ (p : Policy) (x y : Context) where
   -- a context that fails ρ or μ has no path

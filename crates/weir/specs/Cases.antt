@@ -1,7 +1,6 @@
 -- Named inputs, written out, and what the theorems about them say. No outward promise rests on them.
 pub mod Goals
 pub mod Wrong
-pub mod SwitchPolicies
 pub mod Clauses
 pub mod Weir
 pub mod Called
@@ -14,5 +13,4 @@ pub mod RolePolicies
 pub mod Roles
 pub mod JoinPolicies
 pub mod Join
-pub mod Switches
 pub mod JoinClauses

@@ -21,12 +21,11 @@ use Rattle.policy_writing.specs.declared.answer.Writing.TheVariants as writing
 use Rattle.policy_writing.specs.Writing.{writing_number}
 use Rattle.policy_writing.proofs.WritingLaws.{one_writing}
 use Rattle.context.specs.Codes.{context_at as at, event_at as event}
-use Rattle.relations.specs.Settings.{applies, in_setting}
 use Rattle.access.specs.Authorization.{authorized}
 use Rattle.canonical.specs.Canonical.{canonical_image, canonical_questions, CanonicalPromise}
 use Rattle.weir.specs.Cases.JoinPolicies.{no_type, leaning, blank, blank_then}
-use Rattle.weir.proofs.Computed.{computed}
-use Rattle.weir_canonical.specs.Cases.CanonicalPolicies.{switched, second_engineer, crowded, one_flow, one_flow_again}
+use Rattle.weir.proofs.StepsPaths.{computed}
+use Rattle.weir_canonical.specs.Cases.CanonicalPolicies.{second_engineer, crowded, one_flow, one_flow_again}
 use Rattle.weir_canonical.specs.Cases.Canonical.{CanonicalIs, CanonicalRefused, Crowded, CanonicalCases, GivesCanonical, RefusesCanonical, SaysCanonical, SaysTwice, CanonicalCalled}
 use Rattle.weir_canonical.proofs.CanonicalImages as images
 use Rattle.weir_canonical.proofs.CanonicalQuestions.{policys, refused_15, refused_16, passed, short, enough}
@@ -86,23 +85,6 @@ written_answers : Answers (canonical_image second_engineer)
 unfolding computed
 written_answers = of_canonical images.second Answers (record { reads = refl; denied = refl; self = refl; no_self = refl })
 
--- .. in a setting
-abbrev two_writes_one : List ℕ → ℕ → Bool
-two_writes_one s k = authorized (in_setting k (policy_of s)) (event 1 1) (at 2 1 1) (at 1 1 1)
-
-record SwitchedAnswers (s : List ℕ) : Type 0 where
-  on : two_writes_one s 1 ≡ true
-  off : two_writes_one s 0 ≡ false
-  other : two_writes_one s 2 ≡ false
-
-switched_answers : SwitchedAnswers switched
-unfolding computed applies
-switched_answers = record { on = refl; off = refl; other = refl }
-
-switched_written_lem : SwitchedAnswers (canonical_image switched)
-unfolding computed applies
-switched_written_lem = of_canonical images.switches_sorted SwitchedAnswers (record { on = refl; off = refl; other = refl })
-
 -- THE ELEVENTH THEOREM: the canonical image from the definitions
 pub canonical_cases : CanonicalCases
 canonical_cases =
@@ -117,15 +99,6 @@ canonical_cases =
       by_type_lem = images.by_type_lem;
       self_and_type_lem = images.self_and_type_lem;
       self_not_type = pairs.self_not_type;
-      switches_sorted = images.switches_sorted;
-      on_and_off_lem = images.on_and_off_lem;
-      two_switches = images.two_switches;
-      always_and_on = images.always_and_on;
-      on_alone = images.on_alone;
-      off_alone = images.off_alone;
-      always_alone = images.always_alone;
-      on_not_off = pairs.on_not_off;
-      both_not_always = pairs.both_not_always;
       kept = images.kept;
       wide_root = images.wide_root;
       wide_left = images.wide_left;
@@ -152,9 +125,6 @@ canonical_cases =
       self_written = written_answers.self;
       no_self = second_answers.no_self;
       no_self_written = written_answers.no_self;
-      on_writes = (switched_answers.on, switched_written_lem.on);
-      off_does_not = (switched_answers.off, switched_written_lem.off);
-      other_does_not = (switched_answers.other, switched_written_lem.other);
       policy_first = λ s k r output. policys s output k r;
       no_type_2 = λ output. policys no_type output 2 (images.no_type_lem).it;
       leaning_14 = λ output. policys leaning output 14 (images.leaning_14).it;
@@ -227,10 +197,6 @@ canonical_called =
       by_self_lem = says_twice images.by_self_lem;
       by_type_lem = says_twice images.by_type_lem;
       self_and_type_lem = says_twice images.self_and_type_lem;
-      switches_sorted = says_twice images.switches_sorted;
-      on_and_off_lem = says_twice images.on_and_off_lem;
-      two_switches = says_twice images.two_switches;
-      always_and_on = says_twice images.always_and_on;
       kept = says_twice images.kept;
       first = says_twice images.first;
       second = says_twice images.second;

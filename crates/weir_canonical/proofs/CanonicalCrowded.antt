@@ -35,8 +35,8 @@ use Rattle.policy_lists.proofs.ListLaws.{of_kind, some_append, some_from}
 use Rattle.policy_lists.proofs.NodeLaws.{kind_append}
 use Rattle.policy_lists.proofs.TurnLaws.{from_rises, from_chains}
 use Rattle.policy_lists.proofs.JoinTurnLaws.{Each, each_append, each_at}
-use Rattle.policy_facts.specs.Facts.{Key, has_key, is_stated, permits, mask_of, united_mask, carries_mask}
-use Rattle.policy_facts.specs.Canonical.{key_of, key_numbers, fact_at, fact_kind, canonical_of}
+use Rattle.policy_facts.specs.Facts.{has_key, is_stated, permits, mask_of, united_mask, carries_mask}
+use Rattle.policy_facts.specs.Canonical.{key_a, key_b, key_c, key_numbers, fact_at, fact_kind, canonical_of}
 use Rattle.policy_facts.proofs.KindsLaws.{kind_all, kind_none, kinds_same}
 use Rattle.policy_facts.proofs.FactListLaws.{facts_same}
 use Rattle.policy_facts.proofs.MaskLaws.{mask_same}
@@ -125,13 +125,13 @@ module _ (types : ℕ) (flows : List Record) (crowd : Each Crowding flows) (own 
   each zero a b = let z : ⊥ = omega arith in absurd z
   each (suc i) a b = each_at Crowding l (each_append Crowding flows (nodes n) crowd (nodes_each Crowding node_crowding n)) i (omega arith)
 
-  in_turn_lem : (a : ℕ) (m : List Record) → a ≤ 3 → Each (λ r. r.kind ≡ 3) m → InTurnFrom a (m ++ nodes n)
-  in_turn_lem a [] h o = go a (omega arith) n
+  in_turn : (a : ℕ) (m : List Record) → a ≤ 3 → Each (λ r. r.kind ≡ 3) m → InTurnFrom a (m ++ nodes n)
+  in_turn a [] h o = go a (omega arith) n
     where
       go : (a : ℕ) → a ≤ 9 → (n : ℕ) → InTurnFrom a (nodes n)
       go a h zero = tt
       go a h (suc n) = (h, omega arith, go 9 (omega arith) n)
-  in_turn_lem a (r ∷ m) h o = let e = o.0 in (omega arith, omega arith, in_turn_lem r.kind m (omega arith) o.1)
+  in_turn a (r ∷ m) h o = let e = o.0 in (omega arith, omega arith, in_turn r.kind m (omega arith) o.1)
 
   -- ---- the questions
   fields : FieldsInRange p
@@ -161,7 +161,7 @@ module _ (types : ℕ) (flows : List Record) (crowd : Each Crowding flows) (own 
         }
 
     passes : CountsInRange p.counts → AllYes (policy_questions (image_of p))
-    passes C = written_passes p writable C (from_rises p.counts l) (from_chains p.counts l (in_turn_lem 1 flows (omega arith) own)) fields in_order_lem sources
+    passes C = written_passes p writable C (from_rises p.counts l) (from_chains p.counts l (in_turn 1 flows (omega arith) own)) fields in_order_lem sources
 
     counted : record_count (image_of p) ≡ length flows + n
     counted = count_written p writable ∙ list_length
@@ -185,20 +185,23 @@ module _ (types : ℕ) (flows : List Record) (crowd : Each Crowding flows) (own 
           ∙ or_none (some_in flows (of_kind k f)) (some_in (nodes n) (of_kind k f)) (nodes_some k f (λ e. omega arith) n)
           ∙ sym (some_from p.counts flows k f I)
 
-      stated_alone : (x : Key) → is_stated q k x ≡ is_stated alone k x
+      stated_alone : (a b c : ℕ) → is_stated q k a b c ≡ is_stated alone k a b c
       unfolding is_stated
-      stated_alone x = some_alone (has_key x) (λ next r. refl)
+      stated_alone a b c = some_alone (has_key a b c) (λ next r. refl)
 
-      united_alone : (x : Key) → united_mask q k x ≡ united_mask alone k x
+      united_alone : (a b c : ℕ) → united_mask q k a b c ≡ united_mask alone k a b c
       unfolding permits
-      united_alone x = mask_same (permits q k x) (permits alone k x) 32 (λ i m. some_alone (λ r. has_key x r && bit r.mask i) (λ next r. refl))
+      united_alone a b c =
+          mask_same (permits q k a b c) (permits alone k a b c) 32 (λ i m. some_alone (λ r. has_key a b c r && bit r.mask i) (λ next r. refl))
 
       fact_alone : (x : ℕ) → fact_at q k x ≡ fact_at alone k x
       fact_alone x =
-          let y : Key = key_of x in
+          let a : ℕ = key_a x in
+          let b : ℕ = key_b x in
+          let c : ℕ = key_c x in
           λ j.
-          cond (cond (carries_mask k) (not (eqb (united_alone y j) 0)) (stated_alone y j))
-          (record { next = 0; kind = k; a = y.a; b = y.b; c = y.c; d = y.d; e = y.e; mask = united_alone y j } ∷ []) []
+          cond (cond (carries_mask k) (not (eqb (united_alone a b c j) 0)) (stated_alone a b c j))
+          (record { next = 0; kind = k; a = a; b = b; c = c; d = 0; e = 0; mask = united_alone a b c j } ∷ []) []
 
     facts_alone : kinds_upto (fact_kind q) 7 ≡ kinds_upto (fact_kind alone) 7
     facts_alone = kinds_same (fact_kind q) (fact_kind alone) 7 (λ k a b. facts_same q alone k key_numbers (λ x h. fact_alone k b x))

@@ -18,13 +18,13 @@ use Rattle.policy_expressions.specs.Nodes.{use_of}
 use Rattle.policy_check.specs.Questions.{policy_questions}
 use Rattle.policy_check.proofs.Tests.{exact_b, range_b, links_b, chains_b, fields_b, nodes_b, sources_b, Accepted, Refused, accepted, refused_2, refused_14}
 use Rattle.policy_lists.specs.Lists.{record_in, policy_from}
-use Rattle.policy_facts.specs.Facts.{Key, is_stated, permits, mask_of}
+use Rattle.policy_facts.specs.Facts.{is_stated, permits, mask_of}
 use Rattle.policy_facts.specs.Canonical.{canonical_list, canonical_of}
 use Rattle.policy_facts.proofs.ComputedLaws.{facts_b, computed_facts, computed_list, list_computed}
 use Rattle.canonical.specs.Canonical.{canonical_image}
 use Rattle.weir.specs.Cases.Goals.{weir_allow41, empty}
 use Rattle.weir.specs.Cases.JoinPolicies.{weir_read, no_type, leaning}
-use Rattle.weir_canonical.specs.Cases.CanonicalPolicies.{weir_written, weir_read_written, allows, allows_written, overlapping, overlapping_written, emptied, emptied_written, repeated, repeated_written, both_ways, both_ways_written, by_self, by_type, self_and_type, self_and_type_written, switched, switched_written, ruled, ruled_both, always, off_one, on_one, off_two, constrained, constrained_written, first_engineer, second_engineer, engineers_written, one_permission_more, other_class, nodes_swapped, children_swapped, roomy, wide_policy}
+use Rattle.weir_canonical.specs.Cases.CanonicalPolicies.{weir_written, weir_read_written, allows, allows_written, overlapping, overlapping_written, emptied, emptied_written, repeated, repeated_written, both_ways, both_ways_written, by_self, by_type, self_and_type, self_and_type_written, constrained, constrained_written, first_engineer, second_engineer, engineers_written, one_permission_more, other_class, nodes_swapped, children_swapped, roomy, wide_policy}
 use Rattle.weir_canonical.specs.Cases.Canonical.{CanonicalIs}
 
 -- all that a canonical image is computed with, but for the keys of all numbers, and all that the questions of a policy are: what unfolds this
@@ -32,13 +32,6 @@ use Rattle.weir_canonical.specs.Cases.Canonical.{CanonicalIs}
 unfoldable pub written : Unit {0}
 unfolding image_of header_bytes count_bytes record_bytes counts_of record_count record_of policy_head payload_of decoded use_of some is_stated permits mask_of bit
 written = tt
-
--- a key by its fields, and one without a switch
-abbrev pub key_by : ℕ → ℕ → ℕ → ℕ → ℕ → Key
-key_by a b c d e = record { a = a; b = b; c = c; d = d; e = e }
-
-abbrev pub plain_key : ℕ → ℕ → ℕ → Key
-plain_key a b c = key_by a b c 0 0
 
 -- ---- that a policy passes the checks, by one test
 module _ (s : List ℕ) where
@@ -155,38 +148,6 @@ by_type_lem = canonical_is refl refl (omega arith) refl refl refl refl
 pub self_and_type_lem : CanonicalIs self_and_type self_and_type_written
 unfolding written
 self_and_type_lem = canonical_is refl refl (omega arith) refl refl refl refl
-
-pub switches_sorted : CanonicalIs switched switched_written
-unfolding written
-switches_sorted = canonical_is refl refl (omega arith) refl refl refl refl
-
-pub on_and_off_lem : CanonicalIs (ruled_both off_one (on_one 1)) (ruled_both off_one (on_one 1))
-unfolding written
-on_and_off_lem = canonical_is refl refl (omega arith) refl refl refl refl
-
-pub in_parts : CanonicalIs (ruled_both off_one (on_one 2)) (ruled_both off_one (on_one 2))
-unfolding written
-in_parts = canonical_is refl refl (omega arith) refl refl refl refl
-
-pub two_switches : CanonicalIs (ruled_both off_one off_two) (ruled_both off_one off_two)
-unfolding written
-two_switches = canonical_is refl refl (omega arith) refl refl refl refl
-
-pub always_and_on : CanonicalIs (ruled_both always (on_one 1)) (ruled_both always (on_one 1))
-unfolding written
-always_and_on = canonical_is refl refl (omega arith) refl refl refl refl
-
-pub on_alone : CanonicalIs (ruled (on_one 1)) (ruled (on_one 1))
-unfolding written
-on_alone = canonical_is refl refl (omega arith) refl refl refl refl
-
-pub off_alone : CanonicalIs (ruled off_one) (ruled off_one)
-unfolding written
-off_alone = canonical_is refl refl (omega arith) refl refl refl refl
-
-pub always_alone : CanonicalIs (ruled always) (ruled always)
-unfolding written
-always_alone = canonical_is refl refl (omega arith) refl refl refl refl
 
 pub kept : CanonicalIs constrained constrained_written
 unfolding written

@@ -18,10 +18,10 @@ use Rattle.canonical_laws.specs.Cases.Theorems.{ImageWritten}
 use Rattle.canonical_laws.proofs.Theorems.{equal_bytes}
 use Rattle.weir.specs.Cases.Goals.{weir_allow41}
 use Rattle.weir.specs.Cases.JoinPolicies.{weir_read}
-use Rattle.weir_canonical.specs.Cases.CanonicalPolicies.{by_self, by_type, ruled, ruled_both, always, off_one, on_one, first_engineer, second_engineer, one_permission_more, other_class, nodes_swapped, children_swapped}
+use Rattle.weir_canonical.specs.Cases.CanonicalPolicies.{by_self, by_type, first_engineer, second_engineer, one_permission_more, other_class, nodes_swapped, children_swapped}
 use Rattle.weir_canonical.specs.Cases.Canonical.{CanonicalIs, SayTheSame, SayOtherThings}
 use Rattle.weir_canonical.proofs.CanonicalImages as images
-use Rattle.weir_canonical.proofs.CanonicalImages.{written, key_by, plain_key}
+use Rattle.weir_canonical.proofs.CanonicalImages.{written}
 use Rattle.weir_canonical.proofs.CanonicalQuestions.{enough}
 
 -- ---- bytes that differ at a place that both have: whatever stands behind them, these are not the same
@@ -72,20 +72,11 @@ joined_agrees = say_the_same images.allow_41 images.joined_read refl refl
 -- ---- near ones: a fact, a permission, a constraint or a node tells them apart
 pub self_not_type : SayOtherThings by_self by_type
 unfolding written
-self_not_type = record { differ = λ S. clash refl (S.permissions 4 (plain_key 2 0 1) 0 refl); bytes = images_apart images.by_self_lem images.by_type_lem refl }
-
-pub on_not_off : SayOtherThings (ruled (on_one 1)) (ruled off_one)
-unfolding written
-on_not_off = record { differ = λ S. clash refl (S.permissions 4 (key_by 2 1 1 1 1) 0 refl); bytes = images_apart images.on_alone images.off_alone refl }
-
-pub both_not_always : SayOtherThings (ruled_both off_one (on_one 1)) (ruled always)
-unfolding written
-both_not_always =
-    record { differ = λ S. clash refl (S.permissions 4 (key_by 2 1 1 1 1) 0 refl); bytes = images_apart images.on_and_off_lem images.always_alone refl }
+self_not_type = record { differ = λ S. clash refl (S.permissions 4 2 0 1 0 refl); bytes = images_apart images.by_self_lem images.by_type_lem refl }
 
 pub one_more : SayOtherThings first_engineer one_permission_more
 unfolding written
-one_more = record { differ = λ S. clash (S.permissions 4 (plain_key 2 0 2) 0 refl) refl; bytes = images_apart images.first images.one_more refl }
+one_more = record { differ = λ S. clash (S.permissions 4 2 0 2 0 refl) refl; bytes = images_apart images.first images.one_more refl }
 
 pub other_class_lem : SayOtherThings first_engineer other_class
 unfolding written
@@ -113,4 +104,4 @@ children_swapped_lem =
 
 pub one_fact_more : SayOtherThings weir weir_allow41
 unfolding written
-one_fact_more = record { differ = λ S. clash (S.permissions 4 (plain_key 4 1 2) 0 refl) refl; bytes = images_apart images.weir_sorted images.allow_41 refl }
+one_fact_more = record { differ = λ S. clash (S.permissions 4 4 1 2 0 refl) refl; bytes = images_apart images.weir_sorted images.allow_41 refl }

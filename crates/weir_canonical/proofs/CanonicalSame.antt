@@ -17,12 +17,11 @@ use Rattle.policy_image.specs.Policy.{Policy, policy_of}
 use Rattle.policy_image.specs.Cases.Written.{domain, permissions as class, flow, allow, role_type, user_role, role_change, node, image, no_chain, chain_of}
 use Rattle.policy_check.specs.Questions.{policy_questions}
 use Rattle.policy_lists.specs.Lists.{no_record}
-use Rattle.policy_facts.specs.Facts.{Key, is_stated, permits, carries_mask}
+use Rattle.policy_facts.specs.Facts.{is_stated, permits, carries_mask}
 use Rattle.policy_facts.specs.Cases.Same.{Same}
 use Rattle.canonical.specs.Canonical.{canonical_image}
-use Rattle.weir_canonical.specs.Cases.CanonicalPolicies.{allow_if}
 use Rattle.weir_canonical.specs.Cases.CanonicalSame.{SameKeys, SamePermissions, SameConstraints, SameNodes, SameCounts, SameFacts, SameLists, ByOneField, two, one, allowing, constraining, negating, CanonicalSame}
-use Rattle.weir_canonical.proofs.CanonicalImages.{written, key_by, plain_key, accepted_b, passing, facts_by, image_by, writes}
+use Rattle.weir_canonical.proofs.CanonicalImages.{written, accepted_b, passing, facts_by, image_by, writes}
 use Rattle.weir_canonical.proofs.CanonicalPairs.{apart_b, bytes_apart}
 
 -- ---- what holds of kinds 1, 5, 6 and 7 holds of those that carry no mask, what holds of kinds 2, 3 and 4 of those that carry one
@@ -41,16 +40,16 @@ mask_kinds P a b c k m = three_of P 2 k (leb-true 2 k (and_first (leb 2 k) (leb 
 
 module _ (p q : Policy) where
   abbrev KeysOf : ℕ → Type 0
-  KeysOf k = (x : Key) → is_stated p k x ≡ is_stated q k x
+  KeysOf k = (a b c : ℕ) → is_stated p k a b c ≡ is_stated q k a b c
 
   abbrev PermissionsOf : ℕ → Type 0
-  PermissionsOf k = (x : Key) (i : ℕ) → permits p k x i ≡ permits q k x i
+  PermissionsOf k = (a b c i : ℕ) → permits p k a b c i ≡ permits q k a b c i
 
   keys : KeysOf 1 → KeysOf 5 → KeysOf 6 → KeysOf 7 → SameKeys p q
-  keys one five six seven k x w m = bare_kinds KeysOf one five six seven k w m x
+  keys one five six seven k a b c w m = bare_kinds KeysOf one five six seven k w m a b c
 
   permissions : PermissionsOf 2 → PermissionsOf 3 → PermissionsOf 4 → SamePermissions p q
-  permissions two three four k x i m = mask_kinds PermissionsOf two three four k m x i
+  permissions two three four k a b c i m = mask_kinds PermissionsOf two three four k m a b c i
 
 -- ---- two policies that pass, and are written in different bytes
 record Pair (s t : List ℕ) : Type 0 where
@@ -140,18 +139,6 @@ self_pair : Pair (allowing (allow 0 2 0 1 1)) (allowing (allow 0 2 2 1 1))
 unfolding written
 self_pair = as_they_stand refl refl refl refl refl refl refl
 
-switches_pair : Pair (allowing (allow_if 0 2 1 1 1 1 1)) (allowing (allow_if 0 2 1 1 2 1 1))
-unfolding written
-switches_pair = as_they_stand refl refl refl refl refl refl refl
-
-positions_pair : Pair (allowing (allow_if 0 2 1 1 1 0 1)) (allowing (allow_if 0 2 1 1 1 1 1))
-unfolding written
-positions_pair = as_they_stand refl refl refl refl refl refl refl
-
-no_switch_pair : Pair (allowing (allow 0 2 1 1 1)) (allowing (allow_if 0 2 1 1 1 0 1))
-unfolding written
-no_switch_pair = as_they_stand refl refl refl refl refl refl refl
-
 constraint_class_pair : Pair (constraining 1 1 2 5) (constraining 2 1 2 5)
 unfolding written
 constraint_class_pair = as_they_stand refl refl refl refl refl refl refl
@@ -189,75 +176,66 @@ unfolding written
 canonical_same =
     record {
       types =
-          by_field types_pair (refl, refl, refl, ((λ k x w m. refl), (λ k x i m. refl)), (refl, refl))
+          by_field types_pair (refl, refl, refl, ((λ k a b c w m. refl), (λ k a b c i m. refl)), (refl, refl))
           (λ S. let z : ◌≡◌ {A = ℕ} 2 1 = S.types in omega arith);
       roles =
-          by_field roles_pair (refl, refl, refl, ((λ k x w m. refl), (λ k x i m. refl)), (refl, refl))
+          by_field roles_pair (refl, refl, refl, ((λ k a b c w m. refl), (λ k a b c i m. refl)), (refl, refl))
           (λ S. let z : ◌≡◌ {A = ℕ} 2 1 = S.roles in omega arith);
       users =
-          by_field users_pair (refl, refl, refl, ((λ k x w m. refl), (λ k x i m. refl)), (refl, refl))
+          by_field users_pair (refl, refl, refl, ((λ k a b c w m. refl), (λ k a b c i m. refl)), (refl, refl))
           (λ S. let z : ◌≡◌ {A = ℕ} 2 1 = S.users in omega arith);
       classes =
-          by_field classes_pair (refl, refl, refl, ((λ k x w m. refl), (λ k x i m. refl)), (refl, refl))
+          by_field classes_pair (refl, refl, refl, ((λ k a b c w m. refl), (λ k a b c i m. refl)), (refl, refl))
           (λ S. let z : ◌≡◌ {A = ℕ} 2 1 = S.classes in omega arith);
       domains =
-          keys_apart domains_pair (refl, refl, refl, refl) (λ x i. refl) (λ x i. refl) (λ x i. refl) (refl, refl)
-          (λ S. clash refl (S.keys 1 (plain_key 1 0 0) (omega arith) refl));
+          keys_apart domains_pair (refl, refl, refl, refl) (λ a b c i. refl) (λ a b c i. refl) (λ a b c i. refl) (refl, refl)
+          (λ S. clash refl (S.keys 1 1 0 0 (omega arith) refl));
       role_types =
-          keys_apart role_types_pair (refl, refl, refl, refl) (λ x i. refl) (λ x i. refl) (λ x i. refl) (refl, refl)
-          (λ S. clash refl (S.keys 5 (plain_key 1 2 0) (omega arith) refl));
+          keys_apart role_types_pair (refl, refl, refl, refl) (λ a b c i. refl) (λ a b c i. refl) (λ a b c i. refl) (refl, refl)
+          (λ S. clash refl (S.keys 5 1 2 0 (omega arith) refl));
       user_roles =
-          keys_apart user_roles_pair (refl, refl, refl, refl) (λ x i. refl) (λ x i. refl) (λ x i. refl) (refl, refl)
-          (λ S. clash refl (S.keys 6 (plain_key 1 2 0) (omega arith) refl));
+          keys_apart user_roles_pair (refl, refl, refl, refl) (λ a b c i. refl) (λ a b c i. refl) (λ a b c i. refl) (refl, refl)
+          (λ S. clash refl (S.keys 6 1 2 0 (omega arith) refl));
       role_changes =
-          keys_apart role_changes_pair (refl, refl, refl, refl) (λ x i. refl) (λ x i. refl) (λ x i. refl) (refl, refl)
-          (λ S. clash refl (S.keys 7 (plain_key 1 2 0) (omega arith) refl));
+          keys_apart role_changes_pair (refl, refl, refl, refl) (λ a b c i. refl) (λ a b c i. refl) (λ a b c i. refl) (refl, refl)
+          (λ S. clash refl (S.keys 7 1 2 0 (omega arith) refl));
       permissions =
-          permissions_apart classes_permit_pair (refl, refl, refl, refl) (λ x. refl) (λ x. refl) (λ x. refl) (λ x. refl) (refl, refl)
-          (λ S. clash (S.permissions 2 (plain_key 1 0 0) 1 refl) refl);
+          permissions_apart classes_permit_pair (refl, refl, refl, refl) (λ a b c. refl) (λ a b c. refl) (λ a b c. refl) (λ a b c. refl) (refl, refl)
+          (λ S. clash (S.permissions 2 1 0 0 1 refl) refl);
       flows =
-          permissions_apart flows_pair (refl, refl, refl, refl) (λ x. refl) (λ x. refl) (λ x. refl) (λ x. refl) (refl, refl)
-          (λ S. clash refl (S.permissions 3 (plain_key 1 1 0) 0 refl));
+          permissions_apart flows_pair (refl, refl, refl, refl) (λ a b c. refl) (λ a b c. refl) (λ a b c. refl) (λ a b c. refl) (refl, refl)
+          (λ S. clash refl (S.permissions 3 1 1 0 0 refl));
       both_ways_lem =
-          permissions_apart both_ways_pair (refl, refl, refl, refl) (λ x. refl) (λ x. refl) (λ x. refl) (λ x. refl) (refl, refl)
-          (λ S. clash (S.permissions 3 (plain_key 1 2 0) 0 refl) refl);
+          permissions_apart both_ways_pair (refl, refl, refl, refl) (λ a b c. refl) (λ a b c. refl) (λ a b c. refl) (λ a b c. refl) (refl, refl)
+          (λ S. clash (S.permissions 3 1 2 0 0 refl) refl);
       allows =
-          permissions_apart allows_pair (refl, refl, refl, refl) (λ x. refl) (λ x. refl) (λ x. refl) (λ x. refl) (refl, refl)
-          (λ S. clash refl (S.permissions 4 (plain_key 2 1 1) 0 refl));
+          permissions_apart allows_pair (refl, refl, refl, refl) (λ a b c. refl) (λ a b c. refl) (λ a b c. refl) (λ a b c. refl) (refl, refl)
+          (λ S. clash refl (S.permissions 4 2 1 1 0 refl));
       self =
-          permissions_apart self_pair (refl, refl, refl, refl) (λ x. refl) (λ x. refl) (λ x. refl) (λ x. refl) (refl, refl)
-          (λ S. clash refl (S.permissions 4 (plain_key 2 0 1) 0 refl));
-      switches =
-          permissions_apart switches_pair (refl, refl, refl, refl) (λ x. refl) (λ x. refl) (λ x. refl) (λ x. refl) (refl, refl)
-          (λ S. clash refl (S.permissions 4 (key_by 2 1 1 1 1) 0 refl));
-      positions =
-          permissions_apart positions_pair (refl, refl, refl, refl) (λ x. refl) (λ x. refl) (λ x. refl) (λ x. refl) (refl, refl)
-          (λ S. clash refl (S.permissions 4 (key_by 2 1 1 1 0) 0 refl));
-      no_switch =
-          permissions_apart no_switch_pair (refl, refl, refl, refl) (λ x. refl) (λ x. refl) (λ x. refl) (λ x. refl) (refl, refl)
-          (λ S. clash refl (S.permissions 4 (plain_key 2 1 1) 0 refl));
+          permissions_apart self_pair (refl, refl, refl, refl) (λ a b c. refl) (λ a b c. refl) (λ a b c. refl) (λ a b c. refl) (refl, refl)
+          (λ S. clash refl (S.permissions 4 2 0 1 0 refl));
       constraint_class =
-          list_apart constraint_class_pair SameNodes (refl, refl, refl, refl) (λ x. refl) (λ x. refl) (λ x. refl) (λ x. refl)
-          (λ x i. refl) (λ x i. refl) (λ x i. refl) refl
+          list_apart constraint_class_pair SameNodes (refl, refl, refl, refl) (λ a b c. refl) (λ a b c. refl) (λ a b c. refl) (λ a b c. refl)
+          (λ a b c i. refl) (λ a b c i. refl) (λ a b c i. refl) refl
           (λ S. let z : ◌≡◌ {A = ℕ} 1 2 = ap (λ (l : List Record). (get_or l 0 no_record).a) S.constraints in omega arith);
       constraint_mask =
-          list_apart constraint_mask_pair SameNodes (refl, refl, refl, refl) (λ x. refl) (λ x. refl) (λ x. refl) (λ x. refl)
-          (λ x i. refl) (λ x i. refl) (λ x i. refl) refl
+          list_apart constraint_mask_pair SameNodes (refl, refl, refl, refl) (λ a b c. refl) (λ a b c. refl) (λ a b c. refl) (λ a b c. refl)
+          (λ a b c i. refl) (λ a b c i. refl) (λ a b c i. refl) refl
           (λ S. let z : ◌≡◌ {A = ℕ} 1 0 = ap (λ (l : List Record). (get_or l 0 no_record).mask) S.constraints in omega arith);
       constraint_root =
-          list_apart constraint_root_pair SameNodes (refl, refl, refl, refl) (λ x. refl) (λ x. refl) (λ x. refl) (λ x. refl)
-          (λ x i. refl) (λ x i. refl) (λ x i. refl) refl
+          list_apart constraint_root_pair SameNodes (refl, refl, refl, refl) (λ a b c. refl) (λ a b c. refl) (λ a b c. refl) (λ a b c. refl)
+          (λ a b c i. refl) (λ a b c i. refl) (λ a b c i. refl) refl
           (λ S. let z : ◌≡◌ {A = ℕ} 1 2 = ap (λ (l : List Record). (get_or l 0 no_record).d) S.constraints in omega arith);
       node_operator =
-          list_apart node_operator_pair SameConstraints (refl, refl, refl, refl) (λ x. refl) (λ x. refl) (λ x. refl) (λ x. refl)
-          (λ x i. refl) (λ x i. refl) (λ x i. refl) refl
+          list_apart node_operator_pair SameConstraints (refl, refl, refl, refl) (λ a b c. refl) (λ a b c. refl) (λ a b c. refl) (λ a b c. refl)
+          (λ a b c i. refl) (λ a b c i. refl) (λ a b c i. refl) refl
           (λ S. let z : ◌≡◌ {A = ℕ} 5 6 = ap (λ (l : List Record). (get_or l 1 no_record).a) S.nodes in omega arith);
       node_compared =
-          list_apart node_compared_pair SameConstraints (refl, refl, refl, refl) (λ x. refl) (λ x. refl) (λ x. refl) (λ x. refl)
-          (λ x i. refl) (λ x i. refl) (λ x i. refl) refl
+          list_apart node_compared_pair SameConstraints (refl, refl, refl, refl) (λ a b c. refl) (λ a b c. refl) (λ a b c. refl) (λ a b c. refl)
+          (λ a b c i. refl) (λ a b c i. refl) (λ a b c i. refl) refl
           (λ S. let z : ◌≡◌ {A = ℕ} 1 2 = ap (λ (l : List Record). (get_or l 0 no_record).b) S.nodes in omega arith);
       node_child =
-          list_apart node_child_pair SameConstraints (refl, refl, refl, refl) (λ x. refl) (λ x. refl) (λ x. refl) (λ x. refl)
-          (λ x i. refl) (λ x i. refl) (λ x i. refl) refl
+          list_apart node_child_pair SameConstraints (refl, refl, refl, refl) (λ a b c. refl) (λ a b c. refl) (λ a b c. refl) (λ a b c. refl)
+          (λ a b c i. refl) (λ a b c i. refl) (λ a b c i. refl) refl
           (λ S. let z : ◌≡◌ {A = ℕ} 1 2 = ap (λ (l : List Record). (get_or l 2 no_record).mask) S.nodes in omega arith);
     }

@@ -8,10 +8,9 @@ use crate::tree::Tree;
 use std::collections::BTreeMap;
 
 /// Each by its crate, its file of `proofs/` and its name, in the order of the page.
-const THEOREMS: [[&str; 3]; 5] = [
+const THEOREMS: [[&str; 3]; 4] = [
     ["weir", "Theorem", "weir-cases"],
     ["answer_laws", "Theorems", "one-result"],
-    ["answer_laws", "Theorems", "without-switches"],
     ["join_laws", "Theorems", "join-claims"],
     ["canonical_laws", "Theorems", "canonical-claims"],
 ];

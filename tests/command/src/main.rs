@@ -9,7 +9,6 @@ mod places;
 mod questions;
 mod readers;
 mod records;
-mod settings;
 mod texts;
 mod tool;
 mod walks;

@@ -2,15 +2,17 @@
 use crate::cases::{cases, event, numbers, Case};
 use crate::json::Value;
 use crate::records::Explained;
-use crate::settings;
-use crate::tool::{words, Results, Tool, ELSEWHERE, NO, STOPPED_ROLE, YES};
+use crate::tool::{words, Results, Tool, NO, STOPPED_ROLE, YES};
 use flowgoal_calls::Bare;
 use second_search::layers::flow_edges;
-use second_search::policy::{Context, Event, Policy, Record, TRANSITION};
+use second_search::policy::{Context, Event, Policy, TRANSITION};
 
 /// The clauses of authorization as the second search finds them; a name that is not here is none of them.
 fn clause(policy: &Policy, name: &str, x: Context, y: Context, e: Event) -> Option<bool> {
-    let allows = |e: Event| giving(policy, x, y, e).iter().any(|&k| policy.records[k - 1].applies(policy.setting));
+    let on = |b: u16| if b == 0 { x.t == y.t } else { b as u32 == y.t };
+    let allows = |e: Event| {
+        policy.records.iter().any(|r| r.kind == 4 && r.a as u32 == x.t && on(r.b) && r.c as u32 == e.c && r.mask >> e.p & 1 == 1)
+    };
     match name {
         "domain" => Some(policy.domain(x.t)),
         "class" => Some(policy.gamma(e)),
@@ -24,48 +26,30 @@ fn clause(policy: &Policy, name: &str, x: Context, y: Context, e: Event) -> Opti
     }
 }
 
-/// The allow records that give an event from x on y, in whatever setting they apply.
-fn giving(policy: &Policy, x: Context, y: Context, e: Event) -> Vec<usize> {
-    let on = |b: u16| if b == 0 { x.t == y.t } else { b as u32 == y.t };
-    let gives = |r: &Record| r.kind == 4 && r.a as u32 == x.t && on(r.b) && r.c as u32 == e.c && r.mask >> e.p & 1 == 1;
-    (1..=policy.records.len()).filter(|&k| gives(&policy.records[k - 1])).collect()
-}
-
-/// Of each case in setting 0 and in another one.
 pub fn test(tool: &Tool, results: &mut Results) {
     for mut case in cases(400) {
         tool.write("policy.img", &case.policy.encode());
-        for setting in [0, settings::pick(&mut case.rng, &case.policy)] {
-            case.policy.setting = setting;
-            for (x, y, e) in questions(&mut case) {
-                for question in [Bare::Authorized, Bare::Flows] {
-                    let yes = ask(tool, &case, question, x, y, e, results);
-                    results.meet(if yes { YES } else { NO });
-                }
+        for (x, y, e) in questions(&mut case) {
+            for question in [Bare::Authorized, Bare::Flows] {
+                let yes = ask(tool, &case, question, x, y, e, results);
+                results.meet(if yes { YES } else { NO });
             }
         }
     }
 }
 
-/// A step that flows where there is one, the other way round, one that flows where every switch stands in the other position, and any.
+/// A step that flows where there is one, the other way round, and any.
 fn questions(case: &mut Case) -> Vec<(Context, Context, Event)> {
     let (contexts, events) = (case.policy.contexts(), case.policy.events());
     let mut all = vec![(case.rng.pick(&contexts), case.rng.pick(&contexts), case.rng.pick(&events))];
-    let [flowing, elsewhere] = [case.policy.setting, !case.policy.setting].map(|setting| flowing(&case.policy.at(setting)));
+    let flowing: Vec<(Context, Context, Event)> =
+        flow_edges(&case.policy).into_iter().flat_map(|(x, steps)| steps.into_iter().map(move |(e, y)| (x, y, e))).collect();
     if !flowing.is_empty() {
         let (x, y, e) = case.rng.pick(&flowing);
         all.extend([(x, y, e), (y, x, e)]);
     }
-    if !elsewhere.is_empty() {
-        all.push(case.rng.pick(&elsewhere));
-    }
     all.extend(transitions(case));
     all
-}
-
-/// All flow in the policy's setting.
-fn flowing(policy: &Policy) -> Vec<(Context, Context, Event)> {
-    flow_edges(policy).into_iter().flat_map(|(x, steps)| steps.into_iter().map(move |(e, y)| (x, y, e))).collect()
 }
 
 /// Transitions that are authorized but for the role rule: between equal roles, between different ones that it lets through, and others.
@@ -82,16 +66,6 @@ fn transitions(case: &mut Case) -> Vec<(Context, Context, Event)> {
     sorts.iter().filter(|sort| !sort.is_empty()).map(|sort| rng.pick(sort)).collect()
 }
 
-/// Where no allow record applies, those that would in other settings are told, each with its switch.
-fn elsewhere(policy: &Policy, name: &str, words: &str, giving: &[usize], results: &mut Results) {
-    let told = |&k: &usize| words.contains(&format!("{k} ({})", settings::switch(&policy.records[k - 1])));
-    let right = words.contains("in this setting") != giving.is_empty() && giving.iter().all(told);
-    results.claim(right, || format!("{name}: of the records {giving:?}, which apply in other settings, it says {words:?}"));
-    if !giving.is_empty() {
-        results.meet(ELSEWHERE);
-    }
-}
-
 /// Is this the one clause that fails?
 fn only_fails(clauses: &[Value], name: &str) -> bool {
     let mut failing =
@@ -104,12 +78,9 @@ fn ask(tool: &Tool, case: &Case, question: Bare, x: Context, y: Context, e: Even
         Bare::Authorized => ("authorized", case.policy.authorized(x, y, e)),
         Bare::Flows => ("flows", case.policy.flow(x, y, e)),
     };
-    let setting = case.policy.setting;
-    let name = format!("case {}, {word} {x:?} {y:?} {e:?} in setting {setting}", case.number);
+    let name = format!("case {}, {word} {x:?} {y:?} {e:?}", case.number);
     let (x_words, y_words, e_words) = (words(numbers(x)), words(numbers(y)), words(event(e)));
-    let told = settings::words(case.number, setting);
-    let question_words = [word, "policy.img", &x_words, &y_words, &e_words, "--json"];
-    let (ran, said) = match tool.json(&settings::asked(&question_words, &told)) {
+    let (ran, said) = match tool.json(&[word, "policy.img", &x_words, &y_words, &e_words, "--json"]) {
         Ok(said) => said,
         Err(why) => {
             results.claim(false, || format!("{name}: {why}"));
@@ -119,7 +90,6 @@ fn ask(tool: &Tool, case: &Case, question: Bare, x: Context, y: Context, e: Even
     let answer = said.field("answer").text();
     results.claim(answer == if wanted { "yes" } else { "no" }, || format!("{name}: {answer}"));
     results.claim(ran.status == !wanted as i32, || format!("{name}: status {}", ran.status));
-    settings::told(&case.policy, &name, &said, !told.is_empty(), results);
     let mut ways: Vec<(&[Value], [Context; 2])> = Vec::new();
     match question {
         Bare::Authorized => ways.push((said.field("clauses").list(), [x, y])),
@@ -130,9 +100,6 @@ fn ask(tool: &Tool, case: &Case, question: Bare, x: Context, y: Context, e: Even
             let holds = *one.field("holds") == Value::Bool(true);
             let second = clause(&case.policy, one.field("clause").text(), *acting, *on, e);
             results.claim(second.is_none_or(|second| second == holds), || format!("{name}: {one:?}"));
-            if one.field("clause").text() == "allow" && !holds {
-                elsewhere(&case.policy, &name, one.field("words").text(), &giving(&case.policy, *acting, *on, e), results);
-            }
         }
     }
     if question == Bare::Authorized && e == TRANSITION && x.r != y.r && only_fails(ways[0].0, "transition") {

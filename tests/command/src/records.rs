@@ -11,7 +11,6 @@ use std::collections::BTreeSet;
 /// What is explained: that an event is authorized or makes flow.
 pub struct Explained<'a> {
     pub name: String,
-    /// In its setting.
     pub policy: &'a Policy,
     pub question: Bare,
     pub x: Context,
@@ -38,7 +37,7 @@ impl Explained<'_> {
     }
 
     fn asked(&self, image: &[u8]) -> Answer {
-        bare(self.question, image, self.policy.setting, numbers(self.x), numbers(self.y), event(self.e)).expect("an answer")
+        bare(self.question, image, numbers(self.x), numbers(self.y), event(self.e)).expect("an answer")
     }
 
     /// Does a rule give the clause of some way, whatever records say: the object role holds what is no domain, and every user holds it?

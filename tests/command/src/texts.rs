@@ -18,7 +18,6 @@ pub fn names() -> String {
         lines.push(format!("class {class} class.{class}"));
         lines.extend((0..32).map(|p| format!("permission {class} {p} can_{p}")));
     }
-    lines.extend((1..=8).map(|n| format!("switch {n} switch-{n}")));
     lines.join("\n")
 }
 
@@ -49,11 +48,8 @@ fn back(tool: &Tool, name: &str, image: &str, results: &mut Results) {
         });
     }
     let text = String::from_utf8(tool.read("again.txt")).unwrap_or_default();
-    let is_numbered = |line: &&str| {
-        let begins = ["domain 1", "role 1 ", "user 1 ", "trans 1 "].iter().any(|word| line.starts_with(word));
-        begins || line.split_once(" switch ").is_some_and(|(_, rest)| !rest.starts_with("switch-"))
-    };
-    let numbered = text.lines().find(is_numbered);
+    let numbered =
+        text.lines().find(|line| ["domain 1", "role 1 ", "user 1 ", "trans 1 "].iter().any(|word| line.starts_with(word)));
     results.claim(numbered.is_none(), || format!("{name}: a number is left in the text with names: {numbered:?}"));
 }
 
@@ -63,8 +59,7 @@ fn said(lines: &str, sign: char) -> Policy {
     let plain = facts.filter(|line| !["policy", "constrain", "n"].iter().any(|word| line.starts_with(word)));
     let text = ["policy 255 15 15 31"].into_iter().chain(plain).collect::<Vec<_>>().join("\n");
     let image = assemble(&text).expect("lines of the text format");
-    // switches are known, and that an allow comes from a domain is not asked
-    check_policy_landed(Landed::parse("g").expect("a request"), &image).expect("facts")
+    check_policy_landed(Landed::BASE, &image).expect("facts")
 }
 
 /// The facts of A without those that A alone has, and with those that B alone has, are the facts of B.

@@ -37,11 +37,7 @@ pub const NO: &str = "no";
 pub const EQUAL_ROLES: &str = "a transition between equal roles, of which kind 7 says nothing";
 pub const CHANGED_ROLE: &str = "a transition between different roles, by a record of kind 7";
 pub const STOPPED_ROLE: &str = "a transition between different roles that kind 7 alone stops";
-pub const ELSEWHERE: &str = "an allow record that would apply in another setting";
-pub const SWITCHED_PATH: &str = "a path that goes in another setting than 0";
-pub const SWITCHED_HOLDS: &str = "an all-clear of a policy with switches";
-const WANTED: [&str; 11] =
-    [HOLDS, ORDER, EVENTS, YES, NO, EQUAL_ROLES, CHANGED_ROLE, STOPPED_ROLE, ELSEWHERE, SWITCHED_PATH, SWITCHED_HOLDS];
+const WANTED: [&str; 8] = [HOLDS, ORDER, EVENTS, YES, NO, EQUAL_ROLES, CHANGED_ROLE, STOPPED_ROLE];
 
 impl Results {
     pub fn claim(&mut self, holds: bool, what: impl Fn() -> String) {

@@ -1,5 +1,4 @@
 //! All questions of a case, and all cases of a sort.
-use crate::bare_questions::Arguments;
 use crate::calls::Library;
 use crate::cases::{Case, Numbered, LIMIT};
 use crate::loose::{self, Loose};
@@ -8,7 +7,7 @@ use crate::pairs::Pair;
 use crate::policies::{self, Policies};
 use crate::tally::Tally;
 use crate::{bare_questions, canonical, goal_question, least_steps, survival};
-use flowgoal_calls::{Answer, Bare, Outcome, Steps};
+use flowgoal_calls::{Outcome, Steps};
 use second_search::gen::Rng;
 
 /// Who is asked, and whether what each side says is printed.
@@ -33,7 +32,6 @@ impl Asker {
 #[derive(Clone, Debug)]
 pub struct Said {
     pub goal: Outcome,
-    pub bare: Vec<(Bare, Arguments, Answer)>,
     pub steps: Vec<(Pair, Steps)>,
 }
 
@@ -57,7 +55,7 @@ fn ask_policy(asker: Asker, case: &mut Case, limit: usize, tally: &mut Tally) ->
     let bare = bare_questions::ask(asker, case, tally);
     let steps = least_steps::ask(asker, case, limit, tally);
     match (goal, bare, steps) {
-        (Ok(goal), Ok(bare), Ok(steps)) => Ok(Said { goal, bare, steps }),
+        (Ok(goal), Ok(()), Ok(steps)) => Ok(Said { goal, steps }),
         (goal, bare, steps) => Err(goal.err().into_iter().chain(bare.err()).chain(steps.err()).collect()),
     }
 }

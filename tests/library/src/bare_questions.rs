@@ -1,32 +1,14 @@
-//! One case of the bare questions: contexts and events of the policy, and some that are out of range, in settings of every sort.
+//! One case of the bare questions: contexts and events of the policy, and some that are out of range.
 use crate::asking::Asker;
 use crate::cases::{landed, Case};
-use crate::settings::drawn;
 use crate::tally::Tally;
 use flowgoal_calls::{Answer, Bare};
-use second_search::answer::bare_question_at;
+use second_search::answer::bare_question_landed;
 use second_search::gen::Rng;
 use second_search::policy::{Context, Event};
-use std::fmt;
 
 /// How often each question is asked of one case.
 const ASKED: usize = 6;
-
-/// What a bare question is asked of.
-#[derive(Clone, Copy, Debug)]
-pub struct Arguments {
-    pub x: Context,
-    pub y: Context,
-    pub e: Event,
-    pub setting: u8,
-}
-
-impl fmt::Display for Arguments {
-    fn fmt(&self, f: &mut fmt::Formatter) -> fmt::Result {
-        let Arguments { x, y, e, setting } = self;
-        write!(f, "{x:?}, {y:?}, {e:?} in setting {setting}")
-    }
-}
 
 /// A number from 1 to the count mostly; at times 0, one more than the count, or one that is right in its low byte only.
 pub fn near(rng: &mut Rng, count: u32) -> u32 {
@@ -56,8 +38,8 @@ fn allowed(rng: &mut Rng, policy: &[u8]) -> Option<[u32; 4]> {
     Some([r[3] as u32, target as u32, r[5] as u32, mask.trailing_zeros()])
 }
 
-/// Both contexts, the event and the setting that a bare question is asked of.
-pub fn arguments(rng: &mut Rng, policy: &[u8]) -> Arguments {
+/// Both contexts and the event that a bare question is asked of.
+pub fn arguments(rng: &mut Rng, policy: &[u8]) -> (Context, Context, Event) {
     let [types, roles, users, classes] = counts(policy);
     let context = |rng: &mut Rng| Context { t: near(rng, types), r: near(rng, roles), u: near(rng, users) };
     let (mut x, mut y) = (context(rng), context(rng));
@@ -71,23 +53,20 @@ pub fn arguments(rng: &mut Rng, policy: &[u8]) -> Arguments {
             std::mem::swap(&mut x, &mut y);
         }
     }
-    Arguments { x, y, e, setting: drawn(rng) }
+    (x, y, e)
 }
 
-/// The library's answer to each of the questions that are asked of the case.
-pub fn ask(asker: Asker, case: &mut Case, tally: &mut Tally) -> Result<Vec<(Bare, Arguments, Answer)>, String> {
-    let mut answers = Vec::new();
+pub fn ask(asker: Asker, case: &mut Case, tally: &mut Tally) -> Result<(), String> {
     for question in [Bare::Authorized, Bare::Flows] {
         for _ in 0..ASKED {
-            let of = arguments(&mut case.rng, &case.policy);
-            let Arguments { x, y, e, setting } = of;
-            let wanted = match bare_question_at(landed(), &case.policy, setting, question == Bare::Flows, x, y, e) {
+            let (x, y, e) = arguments(&mut case.rng, &case.policy);
+            let wanted = match bare_question_landed(landed(), &case.policy, question == Bare::Flows, x, y, e) {
                 Ok(true) => Answer::Yes,
                 Ok(false) => Answer::No,
                 Err(number) => Answer::Refused(number),
             };
-            let asked = || format!("{question:?} of {of}");
-            let answer = asker.library.bare(question, &case.policy, of);
+            let asked = || format!("{question:?} of {x:?}, {y:?}, {e:?}");
+            let answer = asker.library.bare(question, &case.policy, x, y, e);
             asker.say(|| match answer {
                 Ok(answer) => format!("{}: the second search says {wanted}, the library {answer}", asked()),
                 Err(stray) => format!("{}: the second search says {wanted}, and from the library {stray}", asked()),
@@ -97,8 +76,7 @@ pub fn ask(asker: Asker, case: &mut Case, tally: &mut Tally) -> Result<Vec<(Bare
             if answer != wanted {
                 return Err(format!("{}: {answer}, expected {wanted}", asked()));
             }
-            answers.push((question, of, answer));
         }
     }
-    Ok(answers)
+    Ok(())
 }

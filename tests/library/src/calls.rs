@@ -1,8 +1,6 @@
 //! The outward calls of a library, and the slices that are lent to them.
-use crate::bare_questions::Arguments;
-use crate::pairs::Pair;
 use flowgoal_calls::{Answer, Bare, Outcome, Steps, Stray, Writing};
-use second_search::policy::Context;
+use second_search::policy::{Context, Event};
 
 /// Entries on either side of a lent slice that no call may touch.
 const GUARD: usize = 4;
@@ -55,11 +53,11 @@ impl<E: Entry> Lent<E> {
 
 /// The goal question: policy, goal, both work slices and the path slice.
 pub type GoalQuestion = fn(&[u8], &[u8], &mut [u32], &mut [u32], &mut [u32]) -> Result<Outcome, Stray>;
-/// A bare question: which, the policy, the setting, either context and the event.
-pub type BareQuestion = fn(Bare, &[u8], u8, [u32; 3], [u32; 3], [u32; 2]) -> Result<Answer, Stray>;
+/// A bare question: which, the policy, either context and the event.
+pub type BareQuestion = fn(Bare, &[u8], [u32; 3], [u32; 3], [u32; 2]) -> Result<Answer, Stray>;
 
-/// Least steps: the policy, the setting, either context, both work slices and the path slice.
-pub type LeastSteps = fn(&[u8], u8, [u32; 3], [u32; 3], &mut [u32], &mut [u32], &mut [u32]) -> Result<Steps, Stray>;
+/// Least steps: the policy, either context, both work slices and the path slice.
+pub type LeastSteps = fn(&[u8], [u32; 3], [u32; 3], &mut [u32], &mut [u32], &mut [u32]) -> Result<Steps, Stray>;
 
 /// A join: the maker's policy, the board's and the output.
 pub type Join = fn(&[u8], &[u8], &mut [u8]) -> Result<Writing, Stray>;
@@ -85,8 +83,7 @@ pub const LINKED: Library = Library {
     canonical: flowgoal_calls::canonical,
 };
 
-/// Type, role and user.
-pub fn numbers(x: Context) -> [u32; 3] {
+fn numbers(x: Context) -> [u32; 3] {
     [x.t, x.r, x.u]
 }
 
@@ -97,15 +94,15 @@ impl Library {
         (self.goal_question)(policy, goal, work1.lend(), work2.lend(), path.lend())
     }
 
-    pub fn bare(&self, question: Bare, policy: &[u8], of: Arguments) -> Result<Answer, Stray> {
-        (self.bare_question)(question, policy, of.setting, numbers(of.x), numbers(of.y), [of.e.c, of.e.p])
+    pub fn bare(&self, question: Bare, policy: &[u8], x: Context, y: Context, e: Event) -> Result<Answer, Stray> {
+        (self.bare_question)(question, policy, numbers(x), numbers(y), [e.c, e.p])
     }
 
     /// Least steps; the slices keep what the call left in them.
-    pub fn steps(&self, policy: &[u8], pair: Pair, work: &mut [Lent; 2], path: &mut Lent) -> Result<Steps, Stray> {
+    pub fn steps(&self, policy: &[u8], pair: [Context; 2], work: &mut [Lent; 2], path: &mut Lent) -> Result<Steps, Stray> {
         let [work1, work2] = work;
-        let [x, y] = pair.contexts.map(numbers);
-        (self.least_steps)(policy, pair.setting, x, y, work1.lend(), work2.lend(), path.lend())
+        let [x, y] = pair.map(numbers);
+        (self.least_steps)(policy, x, y, work1.lend(), work2.lend(), path.lend())
     }
 
     /// The maker's policy and the board's as one; the output keeps what the call left in it.

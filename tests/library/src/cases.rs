@@ -1,10 +1,9 @@
 //! The cases: seeded by their numbers, so that a case that fails can be asked again.
-use crate::settings::{switch, SWITCHES};
 use second_search::gen::{damage, Rng};
 use second_search::goal::{Goal, Item, SIGMA_E};
 use second_search::landed::Landed;
 use second_search::policy::{Policy, Record};
-use second_search::vary::{damage_policy, landed_case};
+use second_search::vary::landed_case;
 
 /// The requests that have landed in the library, by their letters.
 const LANDED: &str = include_str!("../../landed.txt");
@@ -85,15 +84,11 @@ fn crowd(policy: &mut Policy, goal: &mut Goal, rng: &mut Rng) {
     if sources.is_empty() {
         sources = (1..=policy.types).filter(|&t| policy.domain(t)).collect();
     }
-    // those of the rules that are there
-    let mut switches: Vec<(u8, u8)> = policy.records.iter().filter(|r| r.kind == 4).map(|r| (r.d, r.e)).collect();
-    switches.push((0, 0));
     for _ in 0..rng.range(5, 20 + 4 * some.len() as u32) {
         let (source, target, class) = (rng.pick(&sources), rng.pick(&some), rng.range(1, policy.classes));
         let (one, few) = (1 << rng.range(0, 3), rng.range(1, 15));
         let mask = rng.pick(&[one, one, few, u32::MAX]);
-        let (d, e) = rng.pick(&switches);
-        policy.records.push(Record { d, e, ..Record::new(4, source, target, class, mask) });
+        policy.records.push(Record::new(4, source, target, class, mask));
     }
     for _ in 0..rng.range(0, 3) {
         let (t, r, u) = (rng.range(0, policy.types), rng.range(0, policy.roles), rng.range(1, policy.users));
@@ -109,62 +104,27 @@ fn from_no_domain(policy: &mut Policy, rng: &mut Rng) {
         return;
     }
     let (source, other, class) = (rng.pick(&files), rng.range(1, policy.types), rng.range(1, policy.classes));
-    let (target, mask, (d, e)) = (rng.pick(&[0, source, other]), rng.pick(&[0, 1, u32::MAX]), switch(rng));
-    policy.records.push(Record { d, e, ..Record::new(4, source, target, class, mask) });
+    let (target, mask) = (rng.pick(&[0, source, other]), rng.pick(&[0, 1, u32::MAX]));
+    policy.records.push(Record::new(4, source, target, class, mask));
 }
 
-/// Every allow gets one of the eight switches in either position, and each of them has one: paths that need a switch both on and
-/// off are met, and so are goals that only few settings break.
-fn all_switches(policy: &mut Policy, rng: &mut Rng) {
-    let allows = policy.records.iter().filter(|r| r.kind == 4).count();
-    let domains: Vec<u32> = (1..=policy.types).filter(|&t| policy.domain(t)).collect();
-    for _ in allows..SWITCHES as usize {
-        let (source, target, class) = (rng.pick(&domains), rng.range(1, policy.types), rng.range(1, policy.classes));
-        policy.records.push(Record::new(4, source, target, class, 1 << rng.range(0, 3)));
-    }
-    let switches = (1..=SWITCHES).cycle().skip(rng.range(0, SWITCHES as u32 - 1) as usize);
-    for (rule, switch) in policy.records.iter_mut().filter(|r| r.kind == 4).zip(switches) {
-        (rule.d, rule.e) = (switch, rng.range(0, 1) as u8);
-    }
-}
-
-/// The same with at most so many switches: the rules of the others get one of these.
-fn few_switches(policy: &mut Policy, most: usize) {
-    let mut kept: Vec<u8> = Vec::new();
-    for r in policy.records.iter_mut().filter(|r| r.kind == 4 && r.d > 0) {
-        if kept.len() < most && !kept.contains(&r.d) {
-            kept.push(r.d);
-        }
-        if !kept.contains(&r.d) {
-            r.d = kept[r.d as usize % most];
-        }
-    }
-}
-
-/// A case of more nodes than this has at most so many switches: each doubles the settings in which both sides search.
-const MANY_NODES: usize = 512;
-const FEW_SWITCHES: usize = 3;
-
-/// Every sixth case is crowded. Every 40th has an allow from what is no domain. Every 200th has all eight switches. Every 500th is one
-/// of the largest that the program has room for, where its counts can be raised to that.
+/// Every sixth case is crowded. Every 40th has an allow from what is no domain. Every 500th is one of the largest that the program has room for, where its counts can be raised
+/// to that.
 fn generate(number: u64, rng: &mut Rng) -> (Policy, Goal) {
     let (mut policy, mut goal) = landed_case(rng, size(number), landed());
-    if number % 200 == 41 {
-        all_switches(&mut policy, rng);
-    }
     if number % 40 == 3 {
         from_no_domain(&mut policy, rng);
     }
     if number % 6 == 5 {
         crowd(&mut policy, &mut goal, rng);
     }
-    if number % 500 == 7 {
-        policy = raised_to_limit(policy.clone(), &goal).unwrap_or(policy);
+    if number % 500 != 7 {
+        return (policy, goal);
     }
-    if nodes(&policy, &goal) > MANY_NODES {
-        few_switches(&mut policy, FEW_SWITCHES);
+    match raised_to_limit(policy.clone(), &goal) {
+        Some(raised) => (raised, goal),
+        None => (policy, goal),
     }
-    (policy, goal)
 }
 
 fn generated(number: u64) -> Case {
@@ -180,16 +140,15 @@ fn damaged(number: u64) -> Case {
     if number % 4 == 3 {
         from_no_domain(&mut policy, &mut rng);
     }
-    few_switches(&mut policy, FEW_SWITCHES);
-    let (mut image, mut goal) = (policy.encode(), goal.encode());
+    let (mut policy, mut goal) = (policy.encode(), goal.encode());
     let hurt = rng.range(0, 9);
     if hurt <= 5 {
-        damage_policy(&mut rng, &policy, &mut image);
+        damage(&mut rng, &mut policy, false);
     }
     if hurt >= 5 {
         damage(&mut rng, &mut goal, true);
     }
-    Case { name: format!("damaged case {number}"), policy: image, goal, rng }
+    Case { name: format!("damaged case {number}"), policy, goal, rng }
 }
 
 /// The images of a folder, however large.

@@ -3,10 +3,9 @@ use crate::asking::Asker;
 use crate::calls::{Lent, Library};
 use crate::cases::{landed, nodes, Case, LIMIT};
 use crate::lending::{on_one_line, Asking, Lengths, Question, Shortest};
-use crate::settings::Settings;
 use crate::tally::Tally;
 use flowgoal_calls::{Outcome, Stray};
-use second_search::answer::{check_both_landed, goal_question_with_setting, loader_number, Answer};
+use second_search::answer::{check_both_landed, goal_question_landed, Answer};
 use second_search::paths::{validate, Path, Sort};
 
 /// The library's answer to the case, each work slice being lent as many entries as are needed, or the limit where more are.
@@ -17,22 +16,16 @@ pub fn ask(asker: Asker, case: &mut Case, limit: usize, tally: &mut Tally) -> Re
     let searched = both.is_ok() && need <= limit;
     tally.nodes(if searched { need } else { 0 });
     let lent = need.min(limit);
-    let (ours, setting) = goal_question_with_setting(landed(), policy, goal, [lent; 2], &mut vec![0; 2 * lent + 1]);
-    asker.say(|| format!("the second search says: {}", printed(&ours, setting)));
+    let ours = goal_question_landed(landed(), policy, goal, [lent; 2], &mut vec![0; 2 * lent + 1]);
+    asker.say(|| format!("the second search says: {}", on_one_line(&ours.print())));
     // the second search has a formula of its own for the number, so that both are held to it
-    let number = loader_number(&ours, setting);
-    let wanted = Outcome::from_raw(number).map_err(|stray| format!("the second search: {stray}"))?;
-    if let (true, Ok((p, g))) = (searched, &both) {
-        tally.settings(&Settings::new(p, g), wanted);
-    }
+    let wanted = Outcome::from_raw(ours.number()).map_err(|stray| format!("the second search: {stray}"))?;
     let mut asking = Asking { asker, question: OfGoal { policy, goal }, tally };
     match (&ours, &both) {
         (Answer::Broken(sort, path), Ok((p, g))) => {
-            let (steps, nodes) = (path.steps(), lent * p.settings().len());
-            // "A path stays within one setting"
-            let policy = p.at(setting);
-            let valid = |shown: &[u32]| validate(&policy, g, shown, *sort, steps);
-            asking.every_length(lent, &Shortest { steps, nodes, answer: wanted, validate: &valid })?;
+            let steps = path.steps();
+            let valid = |shown: &[u32]| validate(p, g, shown, *sort, steps);
+            asking.every_length(lent, &Shortest { steps, answer: wanted, validate: &valid })?;
         }
         _ => {
             let path = rng.range(0, 9) as usize;
@@ -46,22 +39,6 @@ pub fn ask(asker: Asker, case: &mut Case, limit: usize, tally: &mut Tally) -> Re
         asking.untouched(Lengths { work: [0, 0], path: 0 }, wanted)?;
     }
     Ok(wanted)
-}
-
-/// What the goal program would print, on one line, and the setting of a path, which it does not print.
-pub fn printed(answer: &Answer, setting: u8) -> String {
-    match answer {
-        Answer::Broken(..) => format!("{}; in setting {setting}", on_one_line(&answer.print())),
-        _ => on_one_line(&answer.print()),
-    }
-}
-
-/// The outcome with the setting of its path.
-pub fn in_words(outcome: Outcome) -> String {
-    match outcome {
-        Outcome::Order(broken) | Outcome::Events(broken) => format!("{outcome} in setting {}", broken.setting),
-        _ => outcome.to_string(),
-    }
 }
 
 struct OfGoal<'a> {
@@ -84,16 +61,14 @@ impl Question for OfGoal<'_> {
     fn count(outcome: Outcome, tally: &mut Tally) {
         tally.goal(outcome);
     }
+    /// As the goal program would print it.
     fn record(outcome: Outcome, slice: &[u32]) -> String {
         let path = slice.get(..2 * outcome.steps() as usize + 1).map(Path::from_entries);
         match (outcome, path) {
-            (Outcome::Order(broken), Some(path)) => printed(&Answer::Broken(Sort::Order, path), broken.setting),
-            (Outcome::Events(broken), Some(path)) => printed(&Answer::Broken(Sort::Events, path), broken.setting),
+            (Outcome::Order(_), Some(path)) => on_one_line(&Answer::Broken(Sort::Order, path).print()),
+            (Outcome::Events(_), Some(path)) => on_one_line(&Answer::Broken(Sort::Events, path).print()),
             _ => outcome.to_string(),
         }
-    }
-    fn words(outcome: Outcome) -> String {
-        in_words(outcome)
     }
     fn asked(&self) -> String {
         String::new()

@@ -10,7 +10,7 @@ use flowgoal_calls::{Steps, Stray};
 use second_search::gen::Rng;
 use second_search::paths::Path;
 use second_search::policy::{check_policy_landed, Context};
-use second_search::steps::{least_steps_at, validate_path, Least};
+use second_search::steps::{least_steps, validate_path, Least};
 
 /// The library's answer to each of the pairs of the case.
 pub fn ask(asker: Asker, case: &mut Case, limit: usize, tally: &mut Tally) -> Result<Vec<(Pair, Steps)>, String> {
@@ -39,20 +39,19 @@ fn steps(least: &Least) -> Steps {
 
 /// One pair, each work slice being lent as many entries as are needed, or the limit where more are.
 fn ask_pair(asking: &mut Asking<OfPair>, limit: usize, rng: &mut Rng) -> Result<Steps, String> {
-    let OfPair { policy, pair: Pair { contexts: [x, y], setting } } = asking.question;
+    let OfPair { policy, pair: [x, y] } = asking.question;
     let checked = check_policy_landed(landed(), policy);
     let need = checked.as_ref().map_or(LIMIT, contexts);
     let lent = need.min(limit);
-    let ours = least_steps_at(landed(), policy, setting, x, y, [lent; 2], &mut vec![0; 2 * lent + 1]);
+    let ours = least_steps(landed(), policy, x, y, [lent; 2], &mut vec![0; 2 * lent + 1]);
     asking.asker.say(|| format!("{}the second search says: {}", asking.question.asked(), on_one_line(&ours.print())));
     let wanted = steps(&ours);
     let some = rng.range(1, 9) as usize;
     match (&ours, &checked) {
         (Least::Steps(path), Ok(policy)) => {
             let steps = path.steps();
-            let policy = policy.at(setting);
-            let valid = |shown: &[u32]| validate_path(&policy, x, y, shown, steps);
-            asking.every_length(lent, &Shortest { steps, nodes: lent, answer: wanted, validate: &valid })?;
+            let valid = |shown: &[u32]| validate_path(policy, x, y, shown, steps);
+            asking.every_length(lent, &Shortest { steps, answer: wanted, validate: &valid })?;
         }
         (Least::None, _) => {
             // no room is asked for
@@ -100,7 +99,6 @@ impl Question for OfPair<'_> {
     }
     fn asked(&self) -> String {
         let words = |x: Context| format!("{} {} {}", x.t, x.r, x.u);
-        let Pair { contexts: [x, y], setting } = self.pair;
-        format!("least steps from {} to {} in setting {setting}: ", words(x), words(y))
+        format!("least steps from {} to {}: ", words(self.pair[0]), words(self.pair[1]))
     }
 }

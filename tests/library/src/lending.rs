@@ -5,8 +5,8 @@ use crate::tally::Tally;
 use flowgoal_calls::Stray;
 use std::fmt;
 
-/// Where a call may go over more nodes, or a path has more steps than this, not every length of the path slice is tried.
-const MOST_NODES: usize = 4096;
+/// With work slices of more entries, or a path of more steps than this, not every length of the path slice is tried.
+const MOST_WORK: usize = 4096;
 const MOST_STEPS: usize = 256;
 
 /// A question with all that it is asked of but for the slices.
@@ -23,10 +23,6 @@ pub trait Question {
     fn count(answer: Self::Answer, tally: &mut Tally);
     /// The answer as it is printed, with the path where the slice shows one.
     fn record(answer: Self::Answer, slice: &[u32]) -> String;
-    /// The answer in words, all of it.
-    fn words(answer: Self::Answer) -> String {
-        answer.to_string()
-    }
     /// What it is asked of, before what is said of it; nothing where the case says it.
     fn asked(&self) -> String;
 }
@@ -53,8 +49,6 @@ impl fmt::Display for Lengths {
 /// and the entries pass.
 pub struct Shortest<'a, A> {
     pub steps: usize,
-    /// that a call may go over, those of every setting
-    pub nodes: usize,
     pub answer: A,
     pub validate: &'a dyn Fn(&[u32]) -> Result<(), String>,
 }
@@ -65,8 +59,8 @@ impl<A> Shortest<'_, A> {
         2 * self.steps + 1
     }
     /// Every length from 0 to 2m + 2, or the ones around the turns where the search takes long.
-    fn path_lengths(&self) -> Vec<usize> {
-        match self.nodes <= MOST_NODES && self.steps <= MOST_STEPS {
+    fn path_lengths(&self, work: usize) -> Vec<usize> {
+        match work <= MOST_WORK && self.steps <= MOST_STEPS {
             true => (0..=self.entries() + 1).collect(),
             false => vec![0, self.entries() - 1, self.entries(), self.entries() + 1],
         }
@@ -108,7 +102,7 @@ impl<Q: Question> Asking<'_, Q> {
         let (answer, path) = self.call(lengths)?;
         match answer == wanted {
             true => Ok(path),
-            false => Err(format!("{}, expected {} ({lengths})", Q::words(answer), Q::words(wanted))),
+            false => Err(format!("{answer}, expected {wanted} ({lengths})")),
         }
     }
 
@@ -135,7 +129,7 @@ impl<Q: Question> Asking<'_, Q> {
 
     /// Path slices of every length, with work slices of this one; and longer work slices.
     pub fn every_length(&mut self, work: usize, shortest: &Shortest<Q::Answer>) -> Result<(), String> {
-        for path in shortest.path_lengths() {
+        for path in shortest.path_lengths(work) {
             self.shown(Lengths { work: [work; 2], path }, shortest)?;
         }
         self.shown(Lengths { work: [work + 1, work + 5], path: shortest.entries() }, shortest)

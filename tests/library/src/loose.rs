@@ -2,9 +2,9 @@
 use crate::cases::{landed, Case};
 use crate::policies::with_nodes;
 use flowgoal_calls::MOST_RECORDS;
-use second_search::gen::Rng;
+use second_search::gen::{damage, Rng};
 use second_search::policy::{Policy, Record};
-use second_search::vary::{damage_policy, filled};
+use second_search::vary::filled;
 
 /// Of so many of the policies in a hundred that are not the case's own all other questions are asked.
 const ASKED_OF: u32 = 10;
@@ -45,12 +45,8 @@ fn fact(rng: &mut Rng, keys: u32) -> Record {
         5 => Record::new(5, x, y, 0, 0),
         6 => Record::new(6, x, y, 0, 0),
         7 => Record::new(7, x, y, 0, 0),
-        // self, the type itself, and others; few switches, so that a key is met with one and without, for on and for off
-        _ => {
-            let switches = [(0, 0), (0, 0), (0, 0), (1, 0), (1, 1), (2, 1), (rng.range(1, 8) as u8, rng.range(0, 1) as u8)];
-            let ((d, e), target) = (rng.pick(&switches), rng.pick(&[0, 0, x, y]));
-            Record { d, e, ..Record::new(4, x, target, z, mask(rng)) }
-        }
+        // self, the type itself, and others
+        _ => Record::new(4, x, rng.pick(&[0, 0, x, y]), z, mask(rng)),
     }
 }
 
@@ -76,7 +72,7 @@ fn expression(rng: &mut Rng, keys: u32, unused: &mut Vec<usize>) -> Record {
 pub fn crowded(rng: &mut Rng, records: usize) -> Policy {
     let keys = rng.range(1, 4);
     let [types, roles, users, classes] = [255, 15, 15, 31].map(|most| if rng.chance(50) { keys } else { rng.range(keys, most) });
-    let mut policy = Policy { landed: landed(), ..Policy::new(types, roles, users, classes) };
+    let mut policy = Policy::new(types, roles, users, classes);
     let (nodes, mut unused) = (rng.pick(&[0, 10, 40]), Vec::new());
     while policy.records.len() < records {
         let record = match rng.chance(nodes) {
@@ -108,8 +104,9 @@ fn large(rng: &mut Rng) -> Vec<Loose> {
         2 => drawn("a policy of many nodes", with_nodes(rng, MOST_RECORDS)),
         3 => drawn("a policy that has more records than there may be", filled(rng, landed(), MOST_RECORDS - both + few, both)),
         _ => {
-            let policy = filled(rng, landed(), MOST_RECORDS - both + few, both);
-            Loose::new("a damaged policy with too many records", damaged(rng, &policy))
+            let mut image = filled(rng, landed(), MOST_RECORDS - both + few, both).encode();
+            damage(rng, &mut image, false);
+            Loose::new("a damaged policy with too many records", image)
         }
     };
     vec![
@@ -120,21 +117,15 @@ fn large(rng: &mut Rng) -> Vec<Loose> {
     ]
 }
 
-/// The image of a policy, damaged.
-fn damaged(rng: &mut Rng, policy: &Policy) -> Vec<u8> {
-    let mut image = policy.encode();
-    damage_policy(rng, policy, &mut image);
-    image
-}
-
 /// One of nodes, a damaged one, or one without records, of any counts.
 fn another(rng: &mut Rng) -> Loose {
     let records = rng.range(1, 40) as usize;
     match rng.range(1, 3) {
         1 => Loose::new("a policy with nodes", with_nodes(rng, records).encode()),
         2 => {
-            let policy = crowded(rng, records);
-            Loose::new("a damaged policy", damaged(rng, &policy))
+            let mut image = crowded(rng, records).encode();
+            damage(rng, &mut image, false);
+            Loose::new("a damaged policy", image)
         }
         _ => {
             let [types, roles, users, classes] = [255, 15, 15, 31].map(|most| rng.range(1, most));

@@ -18,14 +18,12 @@ mod outputs;
 mod pairs;
 mod policies;
 mod retold;
-mod settings;
 mod survival;
 mod tally;
 mod trials;
 mod wrong_canonicals;
 mod wrong_joins;
 mod wrong_libraries;
-mod wrong_settings;
 
 use asking::{ask, ask_all, Asked, Asker};
 use calls::LINKED;
@@ -61,7 +59,6 @@ fn ask_numbered(kept: &Path) -> Vec<(u64, u64)> {
     tally.add(&whole.tally);
     tally.add(&hurt.tally);
     results.push(tally.print());
-    println!("{} calls of the library were held to the second search", tally.calls());
     println!("the largest search went over {} nodes; the program has room for {LIMIT}", tally.most_nodes());
     results.push(result(tally.most_nodes() == LIMIT));
     println!("the longest least path had {} steps", tally.longest());

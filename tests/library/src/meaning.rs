@@ -1,4 +1,4 @@
-//! What a policy says, by requests e and g: two policies have the same canonical image exactly when these agree.
+//! What a policy says, by request e: two policies have the same canonical image exactly when these agree.
 use second_search::policy::{Policy, Record};
 use std::collections::BTreeSet;
 
@@ -11,8 +11,8 @@ pub struct Meaning {
     nodes: Vec<Node>,
 }
 
-/// Kind, a, b, c, d and e, and in kinds 2, 3 and 4 a permission.
-type Fact = (u8, [u16; 2], [u8; 3], Option<u32>);
+/// Kind, a, b and c, and in kinds 2, 3 and 4 a permission.
+type Fact = (u8, u16, u16, u8, Option<u32>);
 /// Class, mask, and the place of the root.
 type Constraint = (u16, u32, usize);
 /// Operator, value, and the places of left and right, or 0.
@@ -25,7 +25,7 @@ fn facts(r: &Record) -> Vec<Fact> {
         2..=4 => (0..32).filter(|p| r.mask & 1 << p != 0).map(Some).collect(),
         _ => vec![None],
     };
-    ways.iter().flat_map(|&b| permissions.iter().map(move |&p| (r.kind, [r.a, b], [r.c, r.d, r.e], p))).collect()
+    ways.iter().flat_map(|&b| permissions.iter().map(move |&p| (r.kind, r.a, b, r.c, p))).collect()
 }
 
 /// "a node being named by its place in the list": its place from 1, and 0 for none.

@@ -1,15 +1,12 @@
 //! Do the cases tell each misreading apart from the library? Cases are gone through in order until enough do.
 use crate::asking::{Asked, Said};
-use crate::bare_questions::Arguments;
-use crate::calls::{numbers, Lent, LINKED};
+use crate::calls::{Lent, LINKED};
 use crate::cases::{contexts, landed, nodes, Case, LIMIT};
 use crate::loose::{policies, Loose};
 use crate::outputs::Question;
 use crate::policies::{pairs, Policies};
-use flowgoal_calls::{Bare, Outcome};
-use misreadings::{bare_number, canonical_number, join_number, no_room_number, number, steps_number, Misreading};
-use misreadings::{OF_BARE_SETTINGS, OF_CANONICAL, OF_FLOW, OF_GOALS, OF_IMAGES, OF_JOINS};
-use misreadings::{OF_NO_ROOM, OF_SETTINGS, OF_STEPS, OF_SWITCHES, OF_WRITING};
+use misreadings::{canonical_number, join_number, number, steps_number, Misreading};
+use misreadings::{OF_CANONICAL, OF_FLOW, OF_GOALS, OF_IMAGES, OF_JOINS, OF_STEPS, OF_WRITING};
 use second_search::answer::check_both_landed;
 use second_search::policy::check_policy_landed;
 
@@ -17,7 +14,7 @@ use second_search::policy::check_policy_landed;
 const WANTED: usize = 20;
 /// Cases with more nodes are left out: they take long, and small ones tell as much.
 const NODES: usize = 2048;
-/// So many cases are gone through at the most for the questions that are asked of a case several times.
+/// So many cases are gone through at the most for least steps, joins and canonical images, each of which asks several times.
 const FOR_SEVERAL: usize = 5000;
 
 /// How the specification is read: with a misreading or with none, and that in words.
@@ -33,27 +30,11 @@ fn by_goal(misreading: Option<Misreading>, case: &Case, said: &Said) -> bool {
     number(misreading, &case.policy, &case.goal, LIMIT) != said.goal.raw()
 }
 
-/// With no path slice, a goal that is broken gives 12 with its steps.
-fn by_no_room(misreading: Option<Misreading>, case: &Case, said: &Said) -> bool {
-    let outcome = match said.goal {
-        Outcome::Order(broken) | Outcome::Events(broken) => Outcome::NoRoom(broken.steps),
-        other => other,
-    };
-    no_room_number(misreading, &case.policy, &case.goal, LIMIT) != outcome.raw()
-}
-
-fn by_bare(misreading: Option<Misreading>, case: &Case, said: &Said) -> bool {
-    said.bare.iter().any(|&(question, Arguments { x, y, e, setting }, answer)| {
-        let arguments = ([x, y].map(numbers), [e.c, e.p], setting);
-        bare_number(misreading, &case.policy, question == Bare::Flows, arguments) != answer.raw()
-    })
-}
-
 fn by_steps(misreading: Option<Misreading>, case: &Case, said: &Said) -> bool {
     let work = check_policy_landed(landed(), &case.policy).map_or(LIMIT, |policy| contexts(&policy));
     said.steps.iter().any(|(pair, steps)| {
-        let arguments = (pair.contexts.map(numbers), pair.setting);
-        steps_number(misreading, &case.policy, &case.goal, arguments, work) != steps.raw()
+        let pair = pair.map(|x| [x.t, x.r, x.u]);
+        steps_number(misreading, &case.policy, &case.goal, pair, work) != steps.raw()
     })
 }
 
@@ -151,25 +132,20 @@ impl Gone<'_> {
     }
 }
 
-/// Misreadings of what breaks a goal, of least steps, of the bare questions, of joins and of canonical images are for the generated
-/// cases to tell apart, those of the images for the damaged ones. Those of flow and of switches are for every question that goes by
-/// them, and so are those of what is written.
-pub fn tables(generated: &Asked, damaged: &Asked, threads: usize) -> [(u64, u64); 7] {
+/// Misreadings of what breaks a goal, of least steps, of joins and of canonical images are for the generated cases to tell apart, those of
+/// the images for the damaged ones. Those of flow are for both questions that go by it, and so are those of what is written.
+pub fn tables(generated: &Asked, damaged: &Asked, threads: usize) -> [(u64, u64); 5] {
     println!("misreadings that the cases tell apart (at least {WANTED} of the cases must):");
     let small = generated.small();
     let few: Vec<_> = small.iter().copied().take(FOR_SEVERAL).collect();
-    let goals = Gone { question: "", asked: generated, small: small.clone(), apart: by_goal };
-    let no_room = Gone { question: "refused 12: ", asked: generated, small, apart: by_no_room };
-    let bare = Gone { question: "bare questions: ", asked: generated, small: few.clone(), apart: by_bare };
+    let goals = Gone { question: "", asked: generated, small, apart: by_goal };
     let steps = Gone { question: "least steps: ", asked: generated, small: few.clone(), apart: by_steps };
     let images = Gone { question: "", asked: damaged, small: damaged.small(), apart: by_goal };
     let joins = Gone { question: "join: ", asked: generated, small: few.clone(), apart: by_join };
     let canonical = Gone { question: "canonical image: ", asked: generated, small: few, apart: by_canonical };
     [
-        goals.table(&[OF_GOALS, OF_FLOW, OF_SWITCHES, OF_SETTINGS], threads),
-        no_room.table(&[OF_NO_ROOM], threads),
-        bare.table(&[OF_BARE_SETTINGS, OF_SWITCHES], threads),
-        steps.table(&[OF_STEPS, OF_FLOW, OF_SWITCHES], threads),
+        goals.table(&[OF_GOALS, OF_FLOW], threads),
+        steps.table(&[OF_STEPS, OF_FLOW], threads),
         images.table(&[OF_IMAGES], threads),
         joins.table(&[OF_JOINS, OF_WRITING], threads),
         canonical.table(&[OF_CANONICAL, OF_WRITING], threads),

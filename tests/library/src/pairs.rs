@@ -1,17 +1,12 @@
-//! The pairs of contexts that least steps is asked of: of every sort in each case, in settings of every sort.
+//! The pairs of contexts that least steps is asked of: of every sort in each case.
 use crate::bare_questions::{counts, near};
 use crate::cases::{landed, Case};
-use crate::settings::drawn;
 use second_search::gen::Rng;
 use second_search::goal::{check_goal, Goal, Item};
 use second_search::policy::{check_policy_landed, Context, Policy};
 
-/// From the first context to the second, in a setting.
-#[derive(Clone, Copy, Debug)]
-pub struct Pair {
-    pub contexts: [Context; 2],
-    pub setting: u8,
-}
+/// From the first to the second.
+pub type Pair = [Context; 2];
 
 /// So many contexts are drawn for one that meets ρ and μ.
 const DRAWN: usize = 20;
@@ -62,10 +57,10 @@ impl Drawer<'_> {
         }
     }
 
-    /// The two with one of their six numbers out of range.
-    fn out_of_range(&mut self, mut contexts: [Context; 2]) -> [Context; 2] {
+    /// The pair with one of its six numbers out of range.
+    fn out_of_range(&mut self, mut pair: Pair) -> Pair {
         let Policy { types, roles, users, .. } = *self.policy;
-        let x = &mut contexts[self.rng.range(0, 1) as usize];
+        let x = &mut pair[self.rng.range(0, 1) as usize];
         let (field, count) = match self.rng.range(0, 2) {
             0 => (&mut x.t, types),
             1 => (&mut x.r, roles),
@@ -73,7 +68,7 @@ impl Drawer<'_> {
         };
         // right in its low byte or its low half only, at times
         *field = self.rng.pick(&[0, 0, count + 1, 256 + *field, 65536 + *field, u32::MAX, u32::MAX - 299]);
-        contexts
+        pair
     }
 
     fn pairs(&mut self) -> Vec<Pair> {
@@ -83,13 +78,12 @@ impl Drawer<'_> {
         let any = [self.any(), self.any()];
         let one = if self.rng.chance(50) { self.any() } else { self.valid() };
         let inside = if self.rng.chance(50) { valid } else { any };
-        let all = [of_goal, of_goal, valid, any, [one, one], self.out_of_range(inside)];
-        all.into_iter().map(|contexts| Pair { contexts, setting: drawn(self.rng) }).collect()
+        vec![of_goal, valid, any, [one, one], self.out_of_range(inside)]
     }
 }
 
-/// The pairs of a case: those of the goal's start and end, in two settings, of valid contexts, of any in range, of a context and
-/// itself, and one that is out of range. Of a policy that is refused, one pair by what its header says of the counts.
+/// The pairs of a case: those of the goal's start and end, of valid contexts, of any in range, of a context and itself, and one
+/// that is out of range. Of a policy that is refused, one pair by what its header says of the counts.
 pub fn pairs(case: &mut Case) -> Vec<Pair> {
     let Case { policy, goal, rng, .. } = case;
     match check_policy_landed(landed(), policy) {
@@ -100,8 +94,7 @@ pub fn pairs(case: &mut Case) -> Vec<Pair> {
         Err(_) => {
             let [types, roles, users, _] = counts(policy);
             let mut context = || Context { t: near(rng, types), r: near(rng, roles), u: near(rng, users) };
-            let contexts = [context(), context()];
-            vec![Pair { contexts, setting: drawn(rng) }]
+            vec![[context(), context()]]
         }
     }
 }

@@ -3,7 +3,7 @@ use crate::cases::{landed, Case};
 use flowgoal_calls::MOST_RECORDS;
 use second_search::gen::{damage, Rng};
 use second_search::policy::{check_policy_landed, Policy, Record};
-use second_search::vary::{damage_policy, filled, landed_case, pair};
+use second_search::vary::{filled, landed_case, pair};
 
 /// One case in so many has pairs with about as many records as a policy may have.
 const LARGE: u32 = 100;
@@ -69,9 +69,8 @@ impl Drawer<'_> {
 
     fn damaged(&mut self) -> Vec<u8> {
         let size = self.rng.range(1, 8);
-        let (policy, _) = landed_case(&mut self.rng, size, landed());
-        let mut image = policy.encode();
-        damage_policy(&mut self.rng, &policy, &mut image);
+        let mut image = landed_case(&mut self.rng, size, landed()).0.encode();
+        damage(&mut self.rng, &mut image, false);
         image
     }
 

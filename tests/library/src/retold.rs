@@ -1,5 +1,4 @@
 //! Policies that say the same in other records, and policies that nearly do.
-use crate::settings::{switch, SWITCHES};
 use second_search::gen::Rng;
 use second_search::policy::{Policy, Record};
 
@@ -32,7 +31,7 @@ pub const SAME: [Way; 7] = [
 ];
 
 /// Each mostly says something else.
-pub const NEAR: [Way; 21] = [
+pub const NEAR: [Way; 17] = [
     way("with a larger count", with_larger_count),
     way("with a fact more", with_fact),
     way("with a fact less", without_fact),
@@ -49,10 +48,6 @@ pub const NEAR: [Way; 21] = [
         let classes = policy.classes as u8;
         changed(rng, policy, |r| r.kind == 4, move |_, r| r.c = r.c % classes + 1)
     }),
-    way("with another switch", |rng, policy| changed(rng, policy, SWITCHED, |_, r| r.d = r.d % SWITCHES + 1)),
-    way("with the other position", |rng, policy| changed(rng, policy, SWITCHED, |_, r| r.e = 1 - r.e)),
-    way("with a switch less", |rng, policy| changed(rng, policy, SWITCHED, |_, r| (r.d, r.e) = (0, 0))),
-    way("with a rule for on and one for off in place of one without a switch", on_and_off),
     way("with two constraints in each other's place", |rng, policy| {
         let (i, j) = two(rng, policy, |r| r.kind == 8)?;
         Some(exchanged(policy, i, j))
@@ -86,7 +81,6 @@ pub const NEAR: [Way; 21] = [
 ];
 
 const MASKED: fn(&Record) -> bool = |r| (2..=4).contains(&r.kind);
-const SWITCHED: fn(&Record) -> bool = |r| r.kind == 4 && r.d > 0;
 
 /// The place of a record of such ones, drawn at random.
 fn some(rng: &mut Rng, policy: &Policy, of: impl Fn(&Record) -> bool) -> Option<usize> {
@@ -174,14 +168,6 @@ fn cut(rng: &mut Rng, policy: &Policy) -> Option<Policy> {
     Some(with(rng, &told, &[Record { mask: r.mask & (!part | more), ..r }]))
 }
 
-/// A rule without a switch as one for either position of some switch: it gives the same in every setting, and says something else.
-fn on_and_off(rng: &mut Rng, policy: &Policy) -> Option<Policy> {
-    let (place, mut told) = (some(rng, policy, |r| r.kind == 4 && r.d == 0 && r.mask != 0)?, policy.clone());
-    let on = Record { d: rng.range(1, SWITCHES as u32) as u8, e: 1, ..policy.records[place] };
-    told.records[place] = on;
-    Some(with(rng, &told, &[Record { e: 0, ..on }]))
-}
-
 /// Flow both ways as a record for each.
 fn parted(rng: &mut Rng, policy: &Policy) -> Option<Policy> {
     let (place, mut told) = (some(rng, policy, |r| r.kind == 3 && r.b == 3)?, policy.clone());
@@ -211,10 +197,7 @@ fn repeated(rng: &mut Rng, policy: &Policy) -> Option<Policy> {
 fn with_empty(rng: &mut Rng, policy: &Policy) -> Option<Policy> {
     let (class, target) = (rng.range(1, policy.classes), rng.range(0, policy.types));
     let record = match rng.range(2, 4) {
-        4 => {
-            let ((d, e), domain) = (switch(rng), policy.records[some(rng, policy, |r| r.kind == 1)?].a);
-            Record { d, e, ..Record::new(4, domain as u32, target, class, 0) }
-        }
+        4 => Record::new(4, policy.records[some(rng, policy, |r| r.kind == 1)?].a as u32, target, class, 0),
         3 => Record::new(3, class, rng.range(1, 3), 0, 0),
         _ => Record::new(2, class, 0, 0, 0),
     };

@@ -3,29 +3,18 @@ use crate::asking::Asker;
 use crate::bare_questions::arguments;
 use crate::calls::Lent;
 use crate::cases::{contexts, landed, nodes, Case, LIMIT};
-use crate::goal_question::in_words;
 use crate::pairs::pairs;
 use crate::tally::Tally;
 use flowgoal_calls::{Bare, Outcome};
 use second_search::answer::check_both_landed;
 use second_search::paths::{validate, Sort};
 use second_search::policy::check_policy_landed;
-use std::fmt::{self, Display};
+use std::fmt::Display;
 
 /// How often each bare question is asked.
 const ASKED: usize = 6;
 /// Entries of the path slices: a longer path is told of by its steps alone.
 const PATH: usize = 101;
-
-/// An outcome that is told of with its setting.
-#[derive(PartialEq)]
-struct Told(Outcome);
-
-impl Display for Told {
-    fn fmt(&self, f: &mut fmt::Formatter) -> fmt::Result {
-        write!(f, "{}", in_words(self.0))
-    }
-}
 
 /// A policy, its canonical image, and who is asked.
 struct Both<'a> {
@@ -34,7 +23,7 @@ struct Both<'a> {
     image: &'a [u8],
 }
 
-/// The answer where both give it.
+/// The answer where both give it, counted.
 fn same<A: PartialEq + Display>(asked: impl Fn() -> String, answers: [A; 2]) -> Result<A, String> {
     let [of_policy, of_image] = answers;
     match of_policy == of_image {
@@ -53,7 +42,7 @@ impl Both<'_> {
             self.asker.library.check(policy, goal, &mut [work; 2].map(Lent::new), &mut path).map_err(|stray| stray.to_string())
         };
         // the path that is left is that of the image
-        let outcome = same(|| "the goal question".to_string(), [say(self.policy)?, say(self.image)?].map(Told))?.0;
+        let outcome = same(|| "the goal question".to_string(), [say(self.policy)?, say(self.image)?])?;
         tally.survived_goal(outcome);
         let sort = match outcome {
             Outcome::Order(_) => Sort::Order,
@@ -63,15 +52,15 @@ impl Both<'_> {
         let (Ok((p, g)), steps) = (&checked, outcome.steps() as usize) else { return Ok(()) };
         let entries = &path.entries()[..2 * steps + 1];
         let wrong = |why| format!("the goal question: the path shown of the canonical image, in the policy: {why}");
-        validate(&p.at(outcome.setting()), g, entries, sort, steps).map_err(wrong)
+        validate(p, g, entries, sort, steps).map_err(wrong)
     }
 
     fn bare(&self, case: &mut Case, tally: &mut Tally) -> Result<(), String> {
         for question in [Bare::Authorized, Bare::Flows] {
             for _ in 0..ASKED {
-                let of = arguments(&mut case.rng, self.policy);
-                let say = |policy: &[u8]| self.asker.library.bare(question, policy, of).map_err(|stray| stray.to_string());
-                let asked = || format!("{question:?} of {of}");
+                let (x, y, e) = arguments(&mut case.rng, self.policy);
+                let say = |policy: &[u8]| self.asker.library.bare(question, policy, x, y, e).map_err(|stray| stray.to_string());
+                let asked = || format!("{question:?} of {x:?}, {y:?}, {e:?}");
                 tally.survived_bare(question, same(asked, [say(self.policy)?, say(self.image)?])?);
             }
         }
@@ -85,7 +74,7 @@ impl Both<'_> {
                 let (mut work, mut path) = ([work; 2].map(Lent::new), Lent::new(PATH));
                 self.asker.library.steps(policy, pair, &mut work, &mut path).map_err(|stray| stray.to_string())
             };
-            let asked = || format!("least steps of {:?}, {:?} in setting {}", pair.contexts[0], pair.contexts[1], pair.setting);
+            let asked = || format!("least steps of {:?}, {:?}", pair[0], pair[1]);
             tally.survived_steps(same(asked, [say(self.policy)?, say(self.image)?])?);
         }
         Ok(())

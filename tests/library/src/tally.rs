@@ -1,7 +1,6 @@
 //! How often each answer and each refusal was met.
 use crate::retold::{NEAR, SAME};
-use crate::settings::{Settings, SORTS, SWITCHES};
-use flowgoal_calls::{Answer, Bare, Broken, Outcome, Steps, Writing};
+use flowgoal_calls::{Answer, Bare, Outcome, Steps, Writing};
 use std::collections::BTreeMap;
 
 /// Each answer must be met at least so often.
@@ -23,31 +22,6 @@ pub struct Tally {
 
 fn of_goal(outcome: Outcome) -> Met {
     ("goal question", outcome.name())
-}
-
-/// Answers of one name, m and the setting being no part of what is counted.
-const ORDER: Outcome = Outcome::Order(Broken { steps: 0, setting: 0 });
-const EVENTS: Outcome = Outcome::Events(Broken { steps: 0, setting: 0 });
-
-/// A goal that was searched for, by how many switches the rules of its policy name.
-fn of_switches(switches: u32, outcome: Outcome) -> Met {
-    let question = match switches {
-        0 => "goals without switches",
-        1 => "goals with one switch",
-        2..=7 => "goals with two to seven switches",
-        _ => "goals with eight switches",
-    };
-    (question, outcome.name())
-}
-
-/// A goal by what it meets over the settings.
-fn of_sort(words: &str) -> Met {
-    ("goals over settings", words.to_string())
-}
-
-/// A switch that is on in the setting that is told.
-fn of_switch(switch: u8) -> Met {
-    ("the setting told", format!("switch {switch} is on"))
 }
 
 fn of_bare(question: Bare, answer: Answer) -> Met {
@@ -83,14 +57,9 @@ fn of_survived((question, answer): Met) -> Met {
 /// Every answer that there is, in the order of the questions.
 fn answers() -> Vec<Met> {
     let policy = || (1..=6).chain([14]);
-    let mut all: Vec<Met> = [Outcome::Holds, ORDER, EVENTS].map(of_goal).to_vec();
+    let mut all: Vec<Met> = [Outcome::Holds, Outcome::Order(0), Outcome::Events(0)].map(of_goal).to_vec();
     all.extend((1..=11).chain([14]).map(|k| of_goal(Outcome::Refused(k))));
     all.push(of_goal(Outcome::NoRoom(0)));
-    for switches in [0, 1, 2, 8] {
-        all.extend([Outcome::Holds, ORDER, EVENTS].map(|outcome| of_switches(switches, outcome)));
-    }
-    all.extend(SORTS.iter().map(|sort| of_sort(sort.words)));
-    all.extend((1..=SWITCHES).map(of_switch));
     for question in [Bare::Authorized, Bare::Flows] {
         all.extend([Answer::No, Answer::Yes].map(|answer| of_bare(question, answer)));
         all.extend(policy().chain([13]).map(|k| of_bare(question, Answer::Refused(k))));
@@ -104,7 +73,7 @@ fn answers() -> Vec<Met> {
     }
     all.extend(SAME.iter().map(|way| of_told(way.words, true)));
     all.extend(NEAR.iter().map(|way| of_told(way.words, false)));
-    let mut survived = [Outcome::Holds, ORDER, EVENTS].map(of_goal).to_vec();
+    let mut survived = [Outcome::Holds, Outcome::Order(0), Outcome::Events(0)].map(of_goal).to_vec();
     survived.extend([Steps::None, Steps::Shown(0)].map(of_steps));
     for question in [Bare::Authorized, Bare::Flows] {
         survived.extend([Answer::No, Answer::Yes].map(|answer| of_bare(question, answer)));
@@ -119,13 +88,6 @@ impl Tally {
     }
     pub fn goal(&mut self, outcome: Outcome) {
         self.count(of_goal(outcome));
-    }
-    /// A goal with what it meets over the settings.
-    pub fn settings(&mut self, all: &Settings, outcome: Outcome) {
-        self.count(of_switches(all.switches, outcome));
-        SORTS.iter().filter(|sort| (sort.is)(all, outcome)).for_each(|sort| self.count(of_sort(sort.words)));
-        let on = (1..=SWITCHES).filter(|switch| outcome.setting() >> (switch - 1) & 1 == 1);
-        on.for_each(|switch| self.count(of_switch(switch)));
     }
     pub fn bare(&mut self, question: Bare, answer: Answer) {
         self.count(of_bare(question, answer));
@@ -165,11 +127,6 @@ impl Tally {
     }
     pub fn survived_steps(&mut self, answer: Steps) {
         self.count(of_survived(of_steps(answer)));
-    }
-    /// The calls that were counted by their answers.
-    pub fn calls(&self) -> u64 {
-        let questions = ["goal question", "authorized", "flows", "least steps", "join", "canonical image"];
-        self.met.iter().filter(|((question, _), _)| questions.contains(question)).map(|(_, times)| times).sum()
     }
     /// All other questions are asked of a joined policy.
     pub fn joined(&mut self) {

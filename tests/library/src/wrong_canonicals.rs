@@ -216,7 +216,7 @@ pub const CANONICAL_TRIALS: [Trial; 25] = [
         says: ": no of the canonical image, yes of the policy",
         cases: GENERATED,
         library: Library {
-            bare_question: |question, policy, setting, x, y, e| match flowgoal_calls::bare(question, policy, setting, x, y, e)? {
+            bare_question: |question, policy, x, y, e| match flowgoal_calls::bare(question, policy, x, y, e)? {
                 Answer::Yes if is_canonical(policy) => Ok(Answer::No),
                 other => Ok(other),
             },
@@ -228,9 +228,7 @@ pub const CANONICAL_TRIALS: [Trial; 25] = [
         says: ": none of the canonical image, steps ",
         cases: GENERATED,
         library: Library {
-            least_steps: |policy, setting, x, y, work1, work2, path| match flowgoal_calls::least_steps(
-                policy, setting, x, y, work1, work2, path,
-            )? {
+            least_steps: |policy, x, y, work1, work2, path| match flowgoal_calls::least_steps(policy, x, y, work1, work2, path)? {
                 Steps::Shown(_) if is_canonical(policy) => Ok(Steps::None),
                 other => Ok(other),
             },

@@ -1,7 +1,7 @@
 //! Libraries that are wrong in one way each: the linked one, with one of its calls changed.
 use crate::calls::{BareQuestion, GoalQuestion, LeastSteps, Library, LINKED};
 use crate::cases::{Numbered, DAMAGED, GENERATED, LIMIT};
-use flowgoal_calls::{Answer, Bare, Broken, Outcome, Steps};
+use flowgoal_calls::{Answer, Bare, Outcome, Steps};
 
 /// A library that is wrong in one way, and what the test says of it.
 pub struct Trial {
@@ -55,8 +55,8 @@ macro_rules! written {
 /// The linked library's answer to least steps, changed; `$x`, `$y`, `$work1` and `$path` are what it was asked and lent.
 macro_rules! counted {
     (|$x:ident, $y:ident, $work1:ident, $path:ident| $($right:pat $(if $when:expr)? => $wrong:expr),*) => {
-        |policy, setting, $x, $y, $work1, work2, $path| {
-            Ok(match flowgoal_calls::least_steps(policy, setting, $x, $y, $work1, work2, $path)? {
+        |policy, $x, $y, $work1, work2, $path| {
+            Ok(match flowgoal_calls::least_steps(policy, $x, $y, $work1, work2, $path)? {
                 $($right $(if $when)? => $wrong,)*
                 other => other,
             })
@@ -67,8 +67,8 @@ macro_rules! counted {
 /// The linked library's path slice after least steps, changed; `m` are the steps of its answer.
 macro_rules! drawn {
     ($answer:pat, $slice:ident, $m:ident, $entry:expr) => {
-        |policy, setting, x, y, work1, work2, $slice| {
-            let answer = flowgoal_calls::least_steps(policy, setting, x, y, work1, work2, $slice)?;
+        |policy, x, y, work1, work2, $slice| {
+            let answer = flowgoal_calls::least_steps(policy, x, y, work1, work2, $slice)?;
             let $m = answer.count() as usize;
             if let ($answer, Some(entry)) = (answer, $entry) {
                 *entry += 256;
@@ -76,11 +76,6 @@ macro_rules! drawn {
             Ok(answer)
         }
     };
-}
-
-/// The path with a step more.
-fn longer(by: Broken) -> Broken {
-    Broken { steps: by.steps + 1, ..by }
 }
 
 pub const TRIALS: [Trial; 40] = [
@@ -92,9 +87,9 @@ pub const TRIALS: [Trial; 40] = [
         "one step too many is counted",
         ", expected ",
         GENERATED,
-        answered!(Outcome::Order(by) => Outcome::Order(longer(by)), Outcome::Events(by) => Outcome::Events(longer(by))),
+        answered!(Outcome::Order(m) => Outcome::Order(m + 1), Outcome::Events(m) => Outcome::Events(m + 1)),
     ),
-    goal("order is called events", ", expected order", GENERATED, answered!(Outcome::Order(by) => Outcome::Events(by))),
+    goal("order is called events", ", expected order", GENERATED, answered!(Outcome::Order(m) => Outcome::Events(m))),
     goal(
         "12 tells no steps",
         "refused 12 0, expected refused 12 ",
@@ -145,37 +140,29 @@ pub const TRIALS: [Trial; 40] = [
         GENERATED,
         answered!(Outcome::Refused(14) => Outcome::Holds),
     ),
-    bare("nothing is authorized, and nothing flows", ": no, expected ", GENERATED, |_, _, _, _, _, _| Ok(Answer::No)),
-    bare("flow is taken for authorization", "Flows of ", GENERATED, |_, policy, setting, x, y, e| {
-        flowgoal_calls::bare(Bare::Authorized, policy, setting, x, y, e)
+    bare("nothing is authorized, and nothing flows", ": no, expected ", GENERATED, |_, _, _, _, _| Ok(Answer::No)),
+    bare("flow is taken for authorization", "Flows of ", GENERATED, |_, policy, x, y, e| {
+        flowgoal_calls::bare(Bare::Authorized, policy, x, y, e)
     }),
-    bare("13 is not asked", ": no, expected refused 13", GENERATED, |question, policy, setting, x, y, e| {
-        match flowgoal_calls::bare(question, policy, setting, x, y, e)? {
+    bare("13 is not asked", ": no, expected refused 13", GENERATED, |question, policy, x, y, e| {
+        match flowgoal_calls::bare(question, policy, x, y, e)? {
             Answer::Refused(13) => Ok(Answer::No),
             other => Ok(other),
         }
     }),
-    bare(
-        "14 is not asked before a bare question",
-        ": no, expected refused 14",
-        GENERATED,
-        |question, policy, setting, x, y, e| match flowgoal_calls::bare(question, policy, setting, x, y, e)? {
+    bare("14 is not asked before a bare question", ": no, expected refused 14", GENERATED, |question, policy, x, y, e| {
+        match flowgoal_calls::bare(question, policy, x, y, e)? {
             Answer::Refused(14) => Ok(Answer::No),
             other => Ok(other),
-        },
-    ),
-    bare("a bare answer tells of steps", "is no answer to a bare question", GENERATED, |question, policy, setting, x, y, e| {
-        Answer::from_raw(flowgoal_calls::bare(question, policy, setting, x, y, e)?.raw() + 256)
+        }
     }),
-    steps("there is never a path", ": none, expected refused 12 ", GENERATED, |_, _, _, _, _, _, _| Ok(Steps::None)),
-    steps(
-        "least steps has a bit too many",
-        "is no answer to least steps",
-        GENERATED,
-        |policy, setting, x, y, work1, work2, path| {
-            Steps::from_raw(flowgoal_calls::least_steps(policy, setting, x, y, work1, work2, path)?.raw() | 128)
-        },
-    ),
+    bare("a bare answer tells of steps", "is no answer to a bare question", GENERATED, |question, policy, x, y, e| {
+        Answer::from_raw(flowgoal_calls::bare(question, policy, x, y, e)?.raw() + 256)
+    }),
+    steps("there is never a path", ": none, expected refused 12 ", GENERATED, |_, _, _, _, _, _| Ok(Steps::None)),
+    steps("least steps has a bit too many", "is no answer to least steps", GENERATED, |policy, x, y, work1, work2, path| {
+        Steps::from_raw(flowgoal_calls::least_steps(policy, x, y, work1, work2, path)?.raw() | 128)
+    }),
     steps(
         "a context that fails rho or mu reaches itself",
         ": steps 0, expected none",
@@ -194,44 +181,30 @@ pub const TRIALS: [Trial; 40] = [
         GENERATED,
         counted!(|_x, _y, _work1, _path| Steps::Shown(m) => Steps::Shown(m + 1), Steps::NoRoom(m) => Steps::NoRoom(m + 1)),
     ),
-    steps("the steps back are counted", ", expected ", GENERATED, |policy, setting, x, y, work1, work2, path| {
-        flowgoal_calls::least_steps(policy, setting, y, x, work1, work2, path)
+    steps("the steps back are counted", ", expected ", GENERATED, |policy, x, y, work1, work2, path| {
+        flowgoal_calls::least_steps(policy, y, x, work1, work2, path)
     }),
-    steps(
-        "the path of the steps back is shown",
-        "the path shown: wrong ends",
-        GENERATED,
-        |policy, setting, x, y, work1, work2, path| match flowgoal_calls::least_steps(policy, setting, x, y, work1, work2, path)?
-        {
-            Steps::Shown(_) => flowgoal_calls::least_steps(policy, setting, y, x, work1, work2, path),
+    steps("the path of the steps back is shown", "the path shown: wrong ends", GENERATED, |policy, x, y, work1, work2, path| {
+        match flowgoal_calls::least_steps(policy, x, y, work1, work2, path)? {
+            Steps::Shown(_) => flowgoal_calls::least_steps(policy, y, x, work1, work2, path),
             other => Ok(other),
-        },
-    ),
-    steps("work for a leg is wanted", ": refused 11, expected ", GENERATED, |policy, setting, x, y, work1, work2, path| {
-        let half = work1.len() / 2;
-        flowgoal_calls::least_steps(policy, setting, x, y, &mut work1[..half], work2, path)
+        }
     }),
-    steps(
-        "the second slice of least steps is not asked",
-        ", expected refused 11",
-        GENERATED,
-        |policy, setting, x, y, work1, _, path| {
-            let mut work2 = vec![0; work1.len()];
-            flowgoal_calls::least_steps(policy, setting, x, y, work1, &mut work2, path)
-        },
-    ),
-    steps(
-        "the first slice of least steps is not asked",
-        ", expected refused 11",
-        GENERATED,
-        |policy, setting, x, y, _, work2, path| {
-            let mut work1 = vec![0; work2.len()];
-            flowgoal_calls::least_steps(policy, setting, x, y, &mut work1, work2, path)
-        },
-    ),
-    steps("none comes before 11", ": none, expected refused 11", GENERATED, |policy, setting, x, y, work1, work2, path| {
-        match flowgoal_calls::least_steps(policy, setting, x, y, work1, work2, path)? {
-            Steps::Refused(11) => flowgoal_calls::least_steps(policy, setting, x, y, &mut [0; LIMIT], &mut [0; LIMIT], path),
+    steps("work for a leg is wanted", ": refused 11, expected ", GENERATED, |policy, x, y, work1, work2, path| {
+        let half = work1.len() / 2;
+        flowgoal_calls::least_steps(policy, x, y, &mut work1[..half], work2, path)
+    }),
+    steps("the second slice of least steps is not asked", ", expected refused 11", GENERATED, |policy, x, y, work1, _, path| {
+        let mut work2 = vec![0; work1.len()];
+        flowgoal_calls::least_steps(policy, x, y, work1, &mut work2, path)
+    }),
+    steps("the first slice of least steps is not asked", ", expected refused 11", GENERATED, |policy, x, y, _, work2, path| {
+        let mut work1 = vec![0; work2.len()];
+        flowgoal_calls::least_steps(policy, x, y, &mut work1, work2, path)
+    }),
+    steps("none comes before 11", ": none, expected refused 11", GENERATED, |policy, x, y, work1, work2, path| {
+        match flowgoal_calls::least_steps(policy, x, y, work1, work2, path)? {
+            Steps::Refused(11) => flowgoal_calls::least_steps(policy, x, y, &mut [0; LIMIT], &mut [0; LIMIT], path),
             other => Ok(other),
         }
     }),
@@ -257,11 +230,8 @@ pub const TRIALS: [Trial; 40] = [
         "13 is asked of the first context alone",
         ": none, expected refused 13",
         GENERATED,
-        |policy, setting, x, y, work1, work2, path| match flowgoal_calls::least_steps(policy, setting, x, y, work1, work2, path)?
-        {
-            Steps::Refused(13)
-                if flowgoal_calls::least_steps(policy, setting, x, x, work1, work2, path)? != Steps::Refused(13) =>
-            {
+        |policy, x, y, work1, work2, path| match flowgoal_calls::least_steps(policy, x, y, work1, work2, path)? {
+            Steps::Refused(13) if flowgoal_calls::least_steps(policy, x, x, work1, work2, path)? != Steps::Refused(13) => {
                 Ok(Steps::None)
             }
             other => Ok(other),
@@ -279,15 +249,10 @@ pub const TRIALS: [Trial; 40] = [
         GENERATED,
         counted!(|_x, _y, _work1, _path| Steps::NoRoom(_) => Steps::NoRoom(0)),
     ),
-    steps(
-        "2m + 2 entries are wanted",
-        ": refused 12 0, expected steps 0",
-        GENERATED,
-        |policy, setting, x, y, work1, work2, path| {
-            let shorter = path.len().saturating_sub(1);
-            flowgoal_calls::least_steps(policy, setting, x, y, work1, work2, &mut path[..shorter])
-        },
-    ),
+    steps("2m + 2 entries are wanted", ": refused 12 0, expected steps 0", GENERATED, |policy, x, y, work1, work2, path| {
+        let shorter = path.len().saturating_sub(1);
+        flowgoal_calls::least_steps(policy, x, y, work1, work2, &mut path[..shorter])
+    }),
     steps(
         "none is written into the slice",
         "the path slice was changed with the answer none",

@@ -4,8 +4,8 @@ use crate::policy::{Policy, Record};
 use std::cmp::Reverse;
 
 /// Kind and key.
-fn key(r: &Record) -> (u8, u16, u16, u8, u8, u8) {
-    (r.kind, r.a, r.b, r.c, r.d, r.e)
+fn key(r: &Record) -> (u8, u16, u16, u8) {
+    (r.kind, r.a, r.b, r.c)
 }
 
 /// Does the record carry a mask?
@@ -32,7 +32,7 @@ fn remasked(policy: &Policy, mut records: Vec<Record>, of: impl Fn(&[u32]) -> u3
 
 /// Those with what flows both ways in records of its own, with b 3.
 fn both_put_together(records: Vec<Record>) -> Vec<Record> {
-    let mask = |a: u16, b: u16| records.iter().find(|r| key(r) == (3, a, b, 0, 0, 0)).map_or(0, |r| r.mask);
+    let mask = |a: u16, b: u16| records.iter().find(|r| key(r) == (3, a, b, 0)).map_or(0, |r| r.mask);
     let mut all = records.clone();
     for r in all.iter_mut().filter(|r| r.kind == 3) {
         r.mask &= !mask(r.a, 3 - r.b);
@@ -44,18 +44,6 @@ fn both_put_together(records: Vec<Record>) -> Vec<Record> {
     all
 }
 
-/// Those with a rule that stands for on and for off, with the same mask, in one record without a switch.
-fn positions_put_together(mut records: Vec<Record>) -> Vec<Record> {
-    for i in 0..records.len() {
-        let r = records[i];
-        if r.kind == 4 && r.d > 0 && records.contains(&Record { e: 1 - r.e, ..r }) {
-            (records[i].d, records[i].e) = (0, 0);
-        }
-    }
-    records.dedup();
-    records
-}
-
 /// The records of kinds 1 to 7 of the result.
 pub fn facts_as_read(policy: &Policy, mut records: Vec<Record>) -> Vec<Record> {
     // where the first record of a key stands
@@ -64,7 +52,7 @@ pub fn facts_as_read(policy: &Policy, mut records: Vec<Record>) -> Vec<Record> {
         () if on!(SortedByC) => records.sort_by_key(|r| (r.kind, r.c, r.a, r.b)),
         () if on!(SelfLast) => records.sort_by_key(|r| (r.kind, r.a, if r.b == 0 { u16::MAX } else { r.b }, r.c)),
         () if on!(NotSorted) => records.sort_by_key(|r| (r.kind, first(r))),
-        () if on!(SortedDown) => records.sort_by_key(|r| (r.kind, Reverse(key(r)))),
+        () if on!(SortedDown) => records.sort_by_key(|r| (r.kind, Reverse((r.a, r.b, r.c)))),
         () if on!(MasksNotUnited) => {
             records.retain(|r| !masked(r));
             records.extend(split(policy).into_iter().filter(masked));
@@ -90,27 +78,6 @@ pub fn facts_as_read(policy: &Policy, mut records: Vec<Record>) -> Vec<Record> {
             return common;
         }
         () if on!(BothPutTogether) => return both_put_together(records),
-        () if on!(SortedBySwitch) => records.sort_by_key(|r| (r.kind, r.d, r.e, r.a, r.b, r.c)),
-        () if on!(SortedByPosition) => records.sort_by_key(|r| (r.kind, r.a, r.b, r.c, r.e, r.d)),
-        () if on!(BothPositionsNone) => return positions_put_together(records),
-        () if on!(UnitedOverPositions) => {
-            let mut one: Vec<Record> = Vec::new();
-            for r in records {
-                match one.iter_mut().find(|other| key(other) == key(&Record { e: other.e, ..r })) {
-                    Some(other) => other.mask |= r.mask,
-                    None => one.push(r),
-                }
-            }
-            return one;
-        }
-        () if on!(DroppedBesideNone) => {
-            let all = records.clone();
-            for r in records.iter_mut().filter(|r| r.kind == 4 && r.d > 0) {
-                let none = key(&Record { d: 0, e: 0, ..*r });
-                r.mask &= !all.iter().find(|other| key(other) == none).map_or(0, |other| other.mask);
-            }
-            records.retain(|r| !masked(r) || r.mask != 0);
-        }
         () => (),
     }
     records

@@ -40,17 +40,6 @@ pub fn records_as_read(both: [&Policy; 2], mut from: Vec<From>) -> Vec<From> {
     from
 }
 
-/// An allow record of the result, from the maker (0) or the board (1).
-pub fn allow_as_read(who: usize, r: Record) -> Record {
-    match () {
-        () if r.d == 0 => r,
-        () if on!(BoardsSwitchesOthers) && who == 1 => Record { d: r.d % 8 + 1, ..r },
-        () if on!(SwitchesDropped) => Record { d: 0, e: 0, ..r },
-        () if on!(PositionsDropped) => Record { e: 1, ..r },
-        () => r,
-    }
-}
-
 /// Does a constraint or a node of the policy use the node?
 pub fn uses(policy: &Policy, node: usize) -> bool {
     policy.records.iter().any(|r| match (r.kind, r.a) {

@@ -5,8 +5,7 @@ use std::cell::{Cell, RefCell};
 use std::collections::BTreeMap;
 
 mod names;
-pub use names::{Misreading, OF_BARE_SETTINGS, OF_CANONICAL, OF_FLOW, OF_GOALS, OF_IMAGES, OF_JOINS};
-pub use names::{OF_NO_ROOM, OF_SETTINGS, OF_STEPS, OF_SWITCHES, OF_WRITING};
+pub use names::{Misreading, OF_CANONICAL, OF_FLOW, OF_GOALS, OF_IMAGES, OF_JOINS, OF_STEPS, OF_WRITING};
 
 /// Is the misreading switched on? This is what the places in the copy ask (`../places.rs`).
 macro_rules! on {
@@ -39,7 +38,6 @@ copied! {
 // behind `on!`, which they ask by
 mod canonicals;
 mod joins;
-mod settings;
 
 use goal::Goal;
 use landed::Landed;
@@ -74,46 +72,17 @@ fn switched<A>(misreading: Option<Misreading>, say: impl FnOnce() -> A) -> A {
 /// The loader's number for the goal question as one who misreads would give it; with none, nothing is misread. The path is not
 /// asked for.
 pub fn number(misreading: Option<Misreading>, policy: &[u8], goal: &[u8], work: usize) -> u64 {
-    lent_number(misreading, policy, goal, work, 2 * work + 1)
-}
-
-/// The same with no path slice.
-pub fn no_room_number(misreading: Option<Misreading>, policy: &[u8], goal: &[u8], work: usize) -> u64 {
-    lent_number(misreading, policy, goal, work, 0)
-}
-
-fn lent_number(misreading: Option<Misreading>, policy: &[u8], goal: &[u8], work: usize, path: usize) -> u64 {
-    let mut path = vec![0; path];
-    switched(misreading, || {
-        let (answer, setting) = answer::goal_question_with_setting(landed(), policy, goal, [work; 2], &mut path);
-        answer::loader_number(&answer, setting)
-    })
-}
-
-/// What a bare question is asked of: either context, the event, and the setting.
-pub type BareArguments = ([[u32; 3]; 2], [u32; 2], u8);
-
-/// The number for a bare question, likewise: for authorization, or for flow.
-pub fn bare_number(misreading: Option<Misreading>, policy: &[u8], flow: bool, arguments: BareArguments) -> u64 {
-    let (contexts, [c, p], setting) = arguments;
-    let [x, y] = contexts.map(|[t, r, u]| Context { t, r, u });
-    match switched(misreading, || answer::bare_question_at(landed(), policy, setting, flow, x, y, Event { c, p })) {
-        Ok(yes) => yes as u64,
-        Err(number) => 4 * number as u64 + 3,
-    }
-}
-
-/// What least steps is asked of: from the first context to the second, in the setting.
-pub type StepsArguments = ([[u32; 3]; 2], u8);
-
-/// The number for least steps, likewise.
-pub fn steps_number(misreading: Option<Misreading>, policy: &[u8], goal: &[u8], arguments: StepsArguments, work: usize) -> u64 {
     let mut room = vec![0; 2 * work + 1];
-    let (pair, setting) = arguments;
+    switched(misreading, || answer::goal_question_landed(landed(), policy, goal, [work; 2], &mut room).number())
+}
+
+/// The number for least steps, likewise, from the first of the pair to the second.
+pub fn steps_number(misreading: Option<Misreading>, policy: &[u8], goal: &[u8], pair: [[u32; 3]; 2], work: usize) -> u64 {
+    let mut room = vec![0; 2 * work + 1];
     let [x, y] = pair.map(|[t, r, u]| Context { t, r, u });
     let at_hand = answer::check_both_landed(landed(), policy, goal).ok().map(|(_, goal)| goal);
     AT_HAND.with(|now| now.replace(at_hand));
-    switched(misreading, || match steps::least_steps_at(landed(), policy, setting, x, y, [work; 2], &mut room) {
+    switched(misreading, || match steps::least_steps(landed(), policy, x, y, [work; 2], &mut room) {
         Least::None => 0,
         Least::Steps(path) => 256 * (path.steps() as u64 + on!(ContextsCounted) as u64) + 1,
         Least::Refused(number, m) => 256 * m.unwrap_or(0) as u64 + 4 * number as u64 + 3,

@@ -55,43 +55,6 @@ misreadings! {
         DifferentRolesStopped: "different roles stopped whatever kind 7 has",
         BothIsWriteAlone: "flow both ways taken as write-like alone",
     ];
-    /// Of which rules apply in a setting, which a goal, least steps and the bare questions go by. Those of mutants.py come first.
-    OF_SWITCHES = [
-        EveryRuleApplies: "every rule applies: answers from all rules at once, or paths that change the setting on their way",
-        OnAlone: "a rule applies when its switch is on, one for off too",
-        PositionsSwapped: "positions the other way: a rule for off is taken for on",
-        BitD: "bit d for switch d",
-        SwitchedNever: "a rule with a switch never applies",
-        OffAlways: "a rule for off always applies",
-        OnAlways: "a rule for on always applies",
-        SwitchesFromTop: "switch 1 is the highest bit",
-    ];
-    /// Of the settings that a goal is asked in, and of the one that is told. Those of mutants.py come first.
-    OF_SETTINGS = [
-        SettingsBeforeSorts: "settings compared before sorts",
-        SortsBeforeSteps: "sorts compared before steps",
-        SettingsBeforeSteps: "settings compared before steps: the lowest setting that breaks the goal",
-        HighestSetting: "the last setting in place of the lowest",
-        SettingZeroAlone: "asked in setting 0 alone",
-        OffOrOn: "asked with all switches off and all on alone",
-        OneSwitchOn: "asked with one switch on at a time",
-        UnnamedSwitchesOn: "switches that no rule names are on",
-        SettingLower: "the setting told at 2^32",
-        EighthSwitchOff: "asked with switch 8 off alone",
-        SettingNotTold: "no setting is told",
-        BrokenInAll: "broken only where every setting breaks it",
-    ];
-    /// Of what is told with 12. The first is that of mutants.py.
-    OF_NO_ROOM = [
-        SettingWithTwelve: "the setting is told",
-        StepsOfLowest: "the steps are those in the lowest setting that breaks the goal",
-    ];
-    /// Of the setting that a bare question takes. The first is that of mutants.py.
-    OF_BARE_SETTINGS = [
-        BareInSettingZero: "asked in setting 0",
-        BareInSomeSetting: "yes where it is so in some setting",
-        BareInEverySetting: "yes where it is so in every setting",
-    ];
     /// Of least steps. Some are those of mutants.py; the goal is that of the case, which least steps has nothing to do with.
     OF_STEPS = [
         InvalidReachesItself: "a context that fails rho or mu reaches itself",
@@ -104,10 +67,8 @@ misreadings! {
         ExceptionsHeeded: "the exceptions of a goal are heeded",
         LegsHeeded: "an event that no leg of a goal allows is left out",
         EndHeeded: "no path goes on after the end of a goal",
-        StepsInSettingZero: "asked in setting 0",
-        StepsInSomeSetting: "the least over all settings",
     ];
-    /// Of the questions about images, for damaged images to tell apart. They are ours, but for three of switches: 9, 2 and alone.
+    /// Of the questions about images, for damaged images to tell apart. They are ours.
     OF_IMAGES = [
         NodeUsedTwice: "a node may be used twice",
         RightOfNotFree: "right of a not may be anything",
@@ -124,14 +85,8 @@ misreadings! {
         SelfNotAsked: "14 is not asked of an allow on self",
         TargetAsked: "14 is asked of the target",
         DomainsBefore: "a domain that stands after the allow does not count",
-        SwitchNine: "an allow may have switch 9",
-        PositionTwo: "an allow may have position 2",
-        PositionAlone: "an allow may have a position without a switch",
-        NoSwitchTaken: "an allow may have no switch, as until request g",
-        SwitchAnywhere: "a record of any kind may have a switch",
-        SwitchedNotAsked: "14 is not asked of an allow with a switch",
     ];
-    /// Of a join. Those of mutants.py come first, and first of those of switches, which end the list; the rest are ours.
+    /// Of a join. Those of mutants.py come first; the rest are ours.
     OF_JOINS = [
         BoardCheckedFirst: "the board's checks first",
         SmallerCounts: "the smaller count of each pair",
@@ -150,9 +105,6 @@ misreadings! {
         BoardsSourcesNotAsked: "14 of the board not asked",
         MakersDomainsServe: "14 of the board asked with the maker's domains",
         RecordsBeforeBoard: "15 is asked before the board's checks",
-        BoardsSwitchesOthers: "the board's switches are others than the maker's",
-        SwitchesDropped: "switches are dropped",
-        PositionsDropped: "every position is on",
     ];
     /// Of what a call writes, or where it refuses to, which a join and a canonical image both go by. Those of mutants.py come first.
     OF_WRITING = [
@@ -167,7 +119,7 @@ misreadings! {
         BytePastCleared: "the byte past the result is cleared",
         RecordsTold: "records are told of in place of bytes",
     ];
-    /// Of the canonical image. Those of mutants.py come first, and first of those of switches, which end the list; the rest are ours.
+    /// Of the canonical image. Those of mutants.py come first; the rest are ours.
     OF_CANONICAL = [
         EmptyMasksKept: "records with an empty mask are kept",
         BothNotSplit: "flow both ways stays one record",
@@ -195,11 +147,5 @@ misreadings! {
         NodesSorted: "nodes are sorted",
         RepeatedConstraintsOnce: "repeated constraints are written once",
         SourcesNotAsked: "14 is not asked",
-        UnitedOverSwitches: "masks are united over switches, which are not written",
-        SortedBySwitch: "sorted by switch and position first",
-        BothPositionsNone: "the same rule for on and off is written without a switch",
-        UnitedOverPositions: "masks are united over positions: of rules for on and off one is written",
-        SortedByPosition: "sorted by position before switch",
-        DroppedBesideNone: "what is allowed without a switch is dropped where it has one",
     ];
 }

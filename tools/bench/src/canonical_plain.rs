@@ -3,15 +3,15 @@
 use crate::policy_plain::{ask, moved, write, Policy, Record};
 use flowgoal_calls::MOST_RECORDS;
 
-/// Kind and a to e as one number, and the permissions.
-type Fact = (u64, u32);
+/// Kind, a, b and c as one number, and the permissions.
+type Fact = (u32, u32);
 
 /// What the records of kinds 1 to 7 say, but for those with an empty mask; flow both ways is two.
 fn facts(policy: &Policy) -> Vec<Fact> {
     let mut facts = Vec::with_capacity(2 * policy.records.len());
     for r in &policy.records {
-        let [a, b, c, d, e] = r.fields;
-        let fact = |b| (u64::from_be_bytes([0, 0, r.kind, a, b, c, d, e]), r.mask);
+        let [a, b, c, ..] = r.fields;
+        let fact = |b| (u32::from_be_bytes([r.kind, a, b, c]), r.mask);
         match (r.kind, b) {
             (8.., _) => (),
             (2..=4, _) if r.mask == 0 => (),
@@ -36,8 +36,8 @@ fn united(mut facts: Vec<Fact>) -> Vec<Fact> {
 }
 
 fn record((key, mask): Fact) -> Record {
-    let [_, _, kind, a, b, c, d, e] = key.to_be_bytes();
-    Record { next: 0, kind, fields: [a, b, c, d, e], mask }
+    let [kind, a, b, c] = key.to_be_bytes();
+    Record { next: 0, kind, fields: [a, b, c, 0, 0], mask }
 }
 
 /// Writes the canonical image to the front of the output; gives its length, or the number of the first question whose answer is no.

@@ -32,8 +32,6 @@ enum Keys {
     Many,
     /// allows of so few keys, with masks that differ
     Few,
-    /// allows of a few more, which differ in their switches and positions too
-    Switched,
     /// one allow
     One,
     /// flow both ways
@@ -51,8 +49,8 @@ pub struct Sizes {
 
 const ORDERS: [(&str, Order); 3] = [("sorted", Order::Sorted), ("reversed", Order::Reversed), ("random", Order::Random)];
 
-/// Few records, some, and as many as there may be, in every order; and, of the most, on few keys, without switches and with them, or on one,
-/// all of them flow both ways, and with a thousand nodes and constraints.
+/// Few records, some, and as many as there may be, in every order; and, of the most, on few keys or one, all of them flow both ways, and
+/// with a thousand nodes and constraints.
 pub fn cases() -> Vec<(String, Sizes)> {
     let mut all = Vec::new();
     for records in [100, 1000, MOST_RECORDS] {
@@ -60,8 +58,7 @@ pub fn cases() -> Vec<(String, Sizes)> {
             all.push((format!("canonical, {records}, {name}"), Sizes { records, nodes: 0, order, keys: Keys::Many }));
         }
     }
-    let sorts = [("few keys", Keys::Few), ("switched", Keys::Switched), ("one key", Keys::One), ("both ways", Keys::Both)];
-    for (what, keys) in sorts {
+    for (what, keys) in [("few keys", Keys::Few), ("one key", Keys::One), ("both ways", Keys::Both)] {
         for (name, order) in ORDERS {
             let sizes = Sizes { records: MOST_RECORDS, nodes: 0, order, keys };
             all.push((format!("canonical, {what}, {name}"), sizes));
@@ -80,11 +77,6 @@ fn drawn(rng: &mut Rng, keys: Keys, domains: &mut Vec<u32>) -> Record {
     match (keys, domain) {
         (Keys::Many, _) | (_, None) => fact(rng, domains),
         (Keys::Few, Some(t)) => Record::new(4, t, rng.range(0, 7), rng.range(1, CLASSES), mask),
-        (Keys::Switched, Some(t)) => {
-            let d = rng.range(0, 8);
-            let e = if d == 0 { 0 } else { rng.range(0, 1) };
-            Record { d: d as u8, e: e as u8, ..Record::new(4, t, rng.range(0, 7), rng.range(1, CLASSES), mask) }
-        }
         (Keys::One, Some(t)) => Record::new(4, t, 0, 1, 1),
         (Keys::Both, _) => Record::new(3, rng.range(1, CLASSES), 3, 0, mask),
     }
@@ -92,7 +84,7 @@ fn drawn(rng: &mut Rng, keys: Keys, domains: &mut Vec<u32>) -> Record {
 
 /// In any order, but for nodes and constraints, which stay where they are: nodes name nodes by their numbers.
 fn ordered(rng: &mut Rng, order: Order, mut facts: Vec<Record>) -> Vec<Record> {
-    facts.sort_by_key(|r| (r.kind, r.a, r.b, r.c, r.d, r.e));
+    facts.sort_by_key(|r| (r.kind, r.a, r.b, r.c));
     match order {
         Order::Sorted => (),
         Order::Reversed => facts.reverse(),

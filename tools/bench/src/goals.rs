@@ -3,7 +3,7 @@
 use crate::sizes::Size;
 use crate::timing::{least, timed};
 use crate::{fast_search, memory_search};
-use flowgoal_calls::{Broken, Outcome};
+use flowgoal_calls::Outcome;
 
 pub const NOTE: &str =
     "entered: nodes that the plain programs' two searches entered; checks: the part of the proved time up to the search;
@@ -53,13 +53,12 @@ impl Ours {
     }
 }
 
-/// What a plain program says of a path in a setting, in the library's words.
-pub fn plainly(answer: u8, m: usize, setting: u8) -> Option<Outcome> {
-    let broken = Broken { steps: m as u32, setting };
-    match (answer, m) {
+/// What a plain program says, in the library's words.
+fn plainly(answer: u8, m: usize) -> Option<Outcome> {
+    match (answer, m as u32) {
         (0, 0) => Some(Outcome::Holds),
-        (1, _) => Some(Outcome::Order(broken)),
-        (2, _) => Some(Outcome::Events(broken)),
+        (1, m) => Some(Outcome::Order(m)),
+        (2, m) => Some(Outcome::Events(m)),
         _ => None,
     }
 }
@@ -83,7 +82,7 @@ fn agree(name: &str, size: &Size, (policy, goal): (&[u8], &[u8]), ours: &mut Our
         true => (with_memory, f64::INFINITY),
         false => timed(|| fast_search::run(policy, goal)),
     };
-    if plainly(answer, m, 0) == Some(outcome) && without == with_memory {
+    if plainly(answer, m) == Some(outcome) && without == with_memory {
         return Some(Agreed { outcome, entered, proved, memory, plain });
     }
     println!("{name}: the library says {outcome}, the plain program {without:?}, with memory {with_memory:?}");
@@ -91,7 +90,7 @@ fn agree(name: &str, size: &Size, (policy, goal): (&[u8], &[u8]), ours: &mut Our
 }
 
 /// Where there is such a number, it; else a dash.
-pub fn or_dash(number: f64) -> String {
+fn or_dash(number: f64) -> String {
     if number.is_finite() && number > 0.0 {
         format!("{number:.3}")
     } else {

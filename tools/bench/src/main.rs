@@ -1,6 +1,5 @@
 //! `./bench`: the goal question, least steps, joins and canonical images through the static library, each against plain programs on the
-//! same images, in one run; the goal question of policies with switches, against the same ones without; and where it is asked for, the
-//! slowest images that were found.
+//! same images, in one run; and where it is asked for, the slowest images that were found.
 mod canonical_plain;
 mod canonicals;
 mod drawn;
@@ -12,15 +11,13 @@ mod join_plain;
 mod joins;
 mod memory_search;
 mod policy_plain;
-mod settings;
-mod settings_plain;
 mod sizes;
 mod slowest;
 mod steps;
 mod steps_search;
 mod timing;
 
-use sizes::{Goals, Masks, Order, Says, Size, Switched};
+use sizes::{Goals, Masks, Order, Says, Size};
 
 const PROGRAM: Size = Size {
     types: 64,
@@ -36,7 +33,6 @@ const PROGRAM: Size = Size {
     order: Order::Made,
     masks: Masks::OneBit,
     goal: Goals::Holds,
-    switched: Switched::No,
 };
 const STATION: Size = Size { types: 255, classes: 8, allows: 3000, legs: 2, ..PROGRAM };
 const SIX_LEGS: Size = Size { legs: 6, ..STATION };
@@ -112,10 +108,10 @@ fn steps_cases() -> Vec<(String, Size)> {
 }
 
 const USAGE: &str =
-    "usage: ./bench [--list] [--once] [--question goal|settings|steps|join|canonical|slowest] [--only TEXT].. [--leave-out TEXT]..
+    "usage: ./bench [--list] [--once] [--question goal|steps|join|canonical|slowest] [--only TEXT].. [--leave-out TEXT]..
 TEXT is a part of a case's name; --list prints the names; --once asks each program once and times nothing; --question asks one
-alone, the goal question, that of policies with switches, least steps, joins or canonical images, or the goal question on the
-slowest images that were found, which are asked for by name alone.";
+alone, the goal question, least steps, joins or canonical images, or the goal question on the slowest images that were found,
+which are asked for by name alone.";
 
 fn usage() -> ! {
     eprintln!("{USAGE}");
@@ -139,14 +135,6 @@ const GOALS: Table<Size> = Table {
     measure: goals::measure,
     ask_once: goals::ask_once,
     note: goals::NOTE,
-};
-const SETTINGS: Table<Size> = Table {
-    question: "settings",
-    cases: settings::cases,
-    print_head: settings::print_head,
-    measure: settings::measure,
-    ask_once: settings::ask_once,
-    note: settings::NOTE,
 };
 const STEPS: Table<Size> = Table {
     question: "steps",
@@ -253,12 +241,7 @@ fn names() -> Vec<String> {
     fn of<C>(cases: Vec<(String, C)>) -> impl Iterator<Item = String> {
         cases.into_iter().map(|(name, _)| name)
     }
-    of(cases())
-        .chain(of(settings::cases()))
-        .chain(of(joins::cases()))
-        .chain(of(canonicals::cases()))
-        .chain(of(slowest::cases()))
-        .collect()
+    of(cases()).chain(of(joins::cases())).chain(of(canonicals::cases())).chain(of(slowest::cases())).collect()
 }
 
 fn main() {
@@ -267,9 +250,8 @@ fn main() {
         return names().iter().for_each(|name| println!("{name}"));
     }
     type Run<'a> = (bool, &'a dyn Fn() -> bool);
-    let runs: [Run; 6] = [
+    let runs: [Run; 5] = [
         (GOALS.is_asked(&options, true), &|| GOALS.run(&options)),
-        (SETTINGS.is_asked(&options, true), &|| SETTINGS.run(&options)),
         (STEPS.is_asked(&options, true), &|| STEPS.run(&options)),
         (JOINS.is_asked(&options, true), &|| JOINS.run(&options)),
         (CANONICALS.is_asked(&options, true), &|| CANONICALS.run(&options)),

@@ -105,7 +105,7 @@ impl Policy {
             1 => is(a, types) && b == 0 && rest && empty,
             2 => is(a, classes) && b == 0 && rest,
             3 => is(a, classes) && is(b, 3) && rest,
-            4 => is(a, types) && b <= types && is(c, classes) && d <= 8 && e <= (d > 0) as u8,
+            4 => is(a, types) && b <= types && is(c, classes) && d == 0 && e == 0,
             5 => is(a, roles) && is(b, types) && rest && empty,
             6 => is(a, users) && is(b, roles) && rest && empty,
             7 => is(a, roles) && is(b, roles) && rest && empty,

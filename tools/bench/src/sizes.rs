@@ -57,17 +57,6 @@ pub enum Goals {
     OneNode,
 }
 
-/// Which rules have a switch, of eight.
-#[derive(Clone, Copy, PartialEq, Eq)]
-pub enum Switched {
-    No,
-    /// Every other one, in positions at random; those of a line apply with their switch off, so that setting 0 has all of it.
-    EveryOther,
-    /// Of the last two of a line the one applies with switch 1 on and the other with it off, so that no setting has both; of the rules
-    /// that lead back every other one goes by the other switches.
-    Conflict,
-}
-
 #[derive(Clone, Copy)]
 pub struct Size {
     pub types: u32,
@@ -85,7 +74,6 @@ pub struct Size {
     pub order: Order,
     pub masks: Masks,
     pub goal: Goals,
-    pub switched: Switched,
 }
 
 impl Size {
@@ -120,36 +108,14 @@ impl Size {
     pub fn images(&self, seed: u64) -> (Vec<u8>, Vec<u8>) {
         let mut maker = Maker { size: *self, rng: Rng(seed), records: vec![] };
         maker.frame();
-        let before = maker.records.len();
-        let (end, line) = match self.goal {
-            Goals::Holds | Goals::OneNode => (maker.all_reached(), 0),
+        let end = match self.goal {
+            Goals::Holds | Goals::OneNode => maker.all_reached(),
             Goals::LongPath => maker.line(),
         };
-        // by draws of its own, so that the policy is else the one without switches
-        switch(&mut maker.records[before..], line, self.switched, &mut Rng(seed + 1));
         let Size { types, roles, users, classes, .. } = *self;
         let goal = maker.goal(end).encode();
         maker.arrange();
         (Policy { records: maker.records, ..Policy::new(types, roles, users, classes) }.encode(), goal)
-    }
-}
-
-/// The switches of an image.
-const SWITCHES: u32 = 8;
-
-/// Gives allow records their switches; the first ones are those of a line.
-fn switch(allows: &mut [Record], line: usize, switched: Switched, rng: &mut Rng) {
-    let positions = |allow: &mut Record, d: u32, e: u32| (allow.d, allow.e) = (d as u8, e as u8);
-    for (i, allow) in allows.iter_mut().enumerate() {
-        match switched {
-            Switched::EveryOther if i % 2 == 0 => {
-                let e = if i < line { 0 } else { rng.range(0, 1) };
-                positions(allow, rng.range(1, SWITCHES), e)
-            }
-            Switched::Conflict if i < line && i + 2 >= line => positions(allow, 1, (i + 2 == line) as u32),
-            Switched::Conflict if i >= line && i % 2 == 0 => positions(allow, rng.range(2, SWITCHES), rng.range(0, 1)),
-            _ => (),
-        }
     }
 }
 
@@ -283,9 +249,8 @@ impl Maker {
     }
 
     /// A line of types from the first one: a domain and another type in turn, and then the domains that are left. Each leads to
-    /// the next, and every other allow to one before. Masks have one bit: more would lead both ways. Gives the end of the line, and how
-    /// many allows lead along it.
-    fn line(&mut self) -> (u32, usize) {
+    /// the next, and every other allow to one before. Masks have one bit: more would lead both ways. Gives the end of the line.
+    fn line(&mut self) -> u32 {
         let (domains, others): (Vec<u32>, Vec<u32>) = (1..=self.size.types).partition(|&t| self.is_domain(t));
         let pairs = domains.len().min(others.len());
         let mut line: Vec<u32> = domains.iter().zip(&others).flat_map(|(&d, &o)| [d, o]).collect();
@@ -302,7 +267,7 @@ impl Maker {
                 self.allow(from, to);
             }
         }
-        (line[last as usize], last as usize)
+        line[last as usize]
     }
 
     fn goal(&mut self, end: u32) -> Goal {

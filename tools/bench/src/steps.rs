@@ -52,7 +52,7 @@ impl Ours<'_> {
     fn ask_with(&mut self, entries: usize) -> Steps {
         let [x, y] = self.pair;
         let [work1, work2] = self.work.each_mut().map(|work| &mut work[..entries]);
-        flowgoal_calls::least_steps(self.policy, 0, x, y, work1, work2, &mut self.path).unwrap_or_else(|stray| panic!("{stray}"))
+        flowgoal_calls::least_steps(self.policy, x, y, work1, work2, &mut self.path).unwrap_or_else(|stray| panic!("{stray}"))
     }
 }
 

@@ -1,7 +1,7 @@
 //! The outward calls of the static library, as include/flowgoal.h declares them, for the Rust programs that stand beside the crates.
 mod results;
 
-pub use results::{Answer, Broken, Outcome, Steps, Stray, Writing};
+pub use results::{Answer, Outcome, Steps, Stray, Writing};
 
 /// The most records of a policy.
 pub const MOST_RECORDS: usize = 4095;
@@ -17,8 +17,8 @@ fn is_policy_length(bytes: usize) -> bool {
     records <= MOST_RECORDS && bytes == policy_length(records)
 }
 
-/// A bare question: policy and setting, then type, role and user of either context, class and permission.
-type BareQuestion = unsafe extern "C" fn(*const u8, usize, u8, u32, u32, u32, u32, u32, u32, u32, u32) -> u64;
+/// A bare question: policy, then type, role and user of either context, class and permission.
+type BareQuestion = unsafe extern "C" fn(*const u8, usize, u32, u32, u32, u32, u32, u32, u32, u32) -> u64;
 
 extern "C" {
     fn flowgoal_check(
@@ -36,7 +36,6 @@ extern "C" {
     fn flowgoal_authorized(
         policy: *const u8,
         policy_length: usize,
-        setting: u8,
         t1: u32,
         r1: u32,
         u1: u32,
@@ -49,7 +48,6 @@ extern "C" {
     fn flowgoal_flows(
         policy: *const u8,
         policy_length: usize,
-        setting: u8,
         t1: u32,
         r1: u32,
         u1: u32,
@@ -62,7 +60,6 @@ extern "C" {
     fn flowgoal_least_steps(
         policy: *const u8,
         policy_length: usize,
-        setting: u8,
         t1: u32,
         r1: u32,
         u1: u32,
@@ -114,22 +111,20 @@ pub enum Bare {
     Flows,
 }
 
-/// A bare question of two contexts, each as type, role and user, and an event, as class and permission, in a setting of the
-/// switches: bit d - 1 for switch d.
-pub fn bare(question: Bare, policy: &[u8], setting: u8, x: [u32; 3], y: [u32; 3], e: [u32; 2]) -> Result<Answer, Stray> {
+/// A bare question of two contexts, each as type, role and user, and an event, as class and permission.
+pub fn bare(question: Bare, policy: &[u8], x: [u32; 3], y: [u32; 3], e: [u32; 2]) -> Result<Answer, Stray> {
     let call: BareQuestion = match question {
         Bare::Authorized => flowgoal_authorized,
         Bare::Flows => flowgoal_flows,
     };
     // SAFETY: the pointer leads to as many bytes as the length says.
-    let raw = unsafe { call(policy.as_ptr(), policy.len(), setting, x[0], x[1], x[2], y[0], y[1], y[2], e[0], e[1]) };
+    let raw = unsafe { call(policy.as_ptr(), policy.len(), x[0], x[1], x[2], y[0], y[1], y[2], e[0], e[1]) };
     Answer::from_raw(raw)
 }
 
-/// Least steps from one context to another, each as type, role and user, in a setting of the switches.
+/// Least steps from one context to another, each as type, role and user.
 pub fn least_steps(
     policy: &[u8],
-    setting: u8,
     x: [u32; 3],
     y: [u32; 3],
     work1: &mut [u32],
@@ -141,7 +136,6 @@ pub fn least_steps(
         flowgoal_least_steps(
             policy.as_ptr(),
             policy.len(),
-            setting,
             x[0],
             x[1],
             x[2],

@@ -1,30 +1,20 @@
-//! What the calls answer, by name. A call gives the number 2^40 s + 256m + 4k + answer, for the setting s of a path that breaks a
-//! goal, m steps, or the m bytes that it wrote, and the refusal k, where m takes 32 bits and s eight; it is put together and taken
-//! apart here alone.
+//! What the calls answer, by name. A call gives the number 256m + 4k + answer, for m steps, or the m bytes that it wrote, and the
+//! refusal k, where m takes 32 bits; it is put together and taken apart here alone.
 use crate::is_policy_length;
 use std::fmt;
 
 /// What the goal question is answered with.
 #[derive(Clone, Copy, PartialEq, Eq, PartialOrd, Ord, Debug)]
 pub enum Outcome {
-    /// No path breaks the goal, in any setting.
     Holds,
-    /// A path breaks order, and none of fewer steps breaks the goal, in any setting.
-    Order(Broken),
-    /// A path breaks events, none of so many steps breaks order, and none of fewer steps breaks the goal, in any setting.
-    Events(Broken),
+    /// A path of m steps breaks order, and none of fewer steps breaks the goal.
+    Order(u32),
+    /// A path of m steps breaks events, none of so many steps breaks order, and none of fewer steps breaks the goal.
+    Events(u32),
     /// Refused with k: from 1 to 11, or with 14.
     Refused(u32),
-    /// Refused with 12: a path of m steps breaks the goal, and the path slice has no room for it. No setting is told.
+    /// Refused with 12: a path of m steps breaks the goal, and the path slice has no room for it.
     NoRoom(u32),
-}
-
-/// The path that breaks a goal.
-#[derive(Clone, Copy, PartialEq, Eq, PartialOrd, Ord, Debug)]
-pub struct Broken {
-    pub steps: u32,
-    /// The setting that it goes in: the lowest that has a path of so many steps that breaks the same.
-    pub setting: u8,
 }
 
 /// What a bare question is answered with.
@@ -77,28 +67,14 @@ fn fields(raw: u64) -> (u32, u32, u64) {
     ((raw / 256) as u32, (raw / 4 % 64) as u32, raw % 4)
 }
 
-/// Where the setting stands in a number.
-const SETTING_BIT: u32 = 40;
-
-impl Broken {
-    fn number(self, answer: u64) -> u64 {
-        ((self.setting as u64) << SETTING_BIT) + number(self.steps, 0, answer)
-    }
-
-    /// The path that the number tells of, without what stands above the setting.
-    fn from_raw(raw: u64) -> Broken {
-        Broken { steps: fields(raw).0, setting: (raw >> SETTING_BIT) as u8 }
-    }
-}
-
 impl Outcome {
     /// What the number says, which must be exactly that outcome's: nothing in it is passed over.
     pub fn from_raw(raw: u64) -> Result<Outcome, Stray> {
         let (m, k, answer) = fields(raw);
         let outcome = match (k, answer) {
             (0, 0) => Some(Outcome::Holds),
-            (0, 1) => Some(Outcome::Order(Broken::from_raw(raw))),
-            (0, 2) => Some(Outcome::Events(Broken::from_raw(raw))),
+            (0, 1) => Some(Outcome::Order(m)),
+            (0, 2) => Some(Outcome::Events(m)),
             (1..=11 | 14, REFUSED) => Some(Outcome::Refused(k)),
             (12, REFUSED) => Some(Outcome::NoRoom(m)),
             _ => None,
@@ -109,8 +85,8 @@ impl Outcome {
     pub fn raw(self) -> u64 {
         match self {
             Outcome::Holds => number(0, 0, 0),
-            Outcome::Order(broken) => broken.number(1),
-            Outcome::Events(broken) => broken.number(2),
+            Outcome::Order(m) => number(m, 0, 1),
+            Outcome::Events(m) => number(m, 0, 2),
             Outcome::Refused(k) => number(0, k, REFUSED),
             Outcome::NoRoom(m) => number(m, 12, REFUSED),
         }
@@ -119,21 +95,12 @@ impl Outcome {
     /// The steps that the outcome tells of; 0 where it tells of none.
     pub fn steps(self) -> u32 {
         match self {
-            Outcome::Order(broken) | Outcome::Events(broken) => broken.steps,
-            Outcome::NoRoom(m) => m,
+            Outcome::Order(m) | Outcome::Events(m) | Outcome::NoRoom(m) => m,
             Outcome::Holds | Outcome::Refused(_) => 0,
         }
     }
 
-    /// The setting that the path is shown in; 0 where none is shown.
-    pub fn setting(self) -> u8 {
-        match self {
-            Outcome::Order(broken) | Outcome::Events(broken) => broken.setting,
-            Outcome::Holds | Outcome::Refused(_) | Outcome::NoRoom(_) => 0,
-        }
-    }
-
-    /// The outcome in words, without its steps and its setting.
+    /// The outcome in words, without its steps.
     pub fn name(self) -> String {
         match self {
             Outcome::Holds => "holds".to_string(),
@@ -237,12 +204,12 @@ impl Writing {
     }
 }
 
-/// As the first line that the goal program prints, which has no setting.
+/// As the first line that the goal program prints.
 impl fmt::Display for Outcome {
     fn fmt(&self, f: &mut fmt::Formatter) -> fmt::Result {
         match self {
             Outcome::Holds | Outcome::Refused(_) => write!(f, "{}", self.name()),
-            Outcome::Order(_) | Outcome::Events(_) | Outcome::NoRoom(_) => write!(f, "{} {}", self.name(), self.steps()),
+            Outcome::Order(m) | Outcome::Events(m) | Outcome::NoRoom(m) => write!(f, "{} {m}", self.name()),
         }
     }
 }

@@ -11,24 +11,9 @@ pub struct Usage {
     pub words: &'static str,
     /// Options that stand alone, and those that a value follows.
     pub flags: &'static [&'static str],
-    pub values: &'static [Valued],
+    pub values: &'static [&'static str],
     pub help: &'static str,
 }
-
-/// An option that a value follows.
-pub struct Valued {
-    pub name: &'static str,
-    /// What the value is, in words.
-    pub is: &'static str,
-    /// It may be given more than once.
-    pub several: bool,
-}
-
-pub const NAMES: Valued = Valued { name: "--names", is: "a file", several: false };
-pub const DOT: Valued = Valued { name: "--dot", ..NAMES };
-pub const PROGRAM: Valued = Valued { name: "--program", ..NAMES };
-pub const SETTING: Valued = Valued { name: "--setting", is: "a number", several: false };
-pub const SET: Valued = Valued { name: "--set", is: "SWITCH=on or SWITCH=off", several: true };
 
 /// The words of a run, options apart.
 pub struct Args {
@@ -47,30 +32,20 @@ impl Args {
             match word.as_str() {
                 "--" => args.words.extend(rest.by_ref().cloned()),
                 _ if usage.flags.contains(&word.as_str()) => args.flags.push(word.clone()),
-                _ => match usage.values.iter().find(|option| option.name == name) {
-                    Some(option) => {
-                        let value = value.map(str::to_string).or_else(|| rest.next().cloned());
-                        args.take(option, value)?
+                _ if usage.values.contains(&name) => {
+                    let value = value.map(str::to_string).or_else(|| rest.next().cloned());
+                    let value = value.filter(|value| !value.is_empty());
+                    let value = value.ok_or_else(|| args.wrong(format!("{name} is followed by a file")))?;
+                    if args.value(name).is_some() {
+                        return Err(args.wrong(format!("{name} is given twice")));
                     }
-                    None if word.len() > 1 && word.starts_with('-') => {
-                        return Err(args.wrong(format!("there is no option {word}")))
-                    }
-                    None => args.words.push_back(word.clone()),
-                },
+                    args.values.push((name.to_string(), value));
+                }
+                _ if word.len() > 1 && word.starts_with('-') => return Err(args.wrong(format!("there is no option {word}"))),
+                _ => args.words.push_back(word.clone()),
             }
         }
         Ok(args)
-    }
-
-    fn take(&mut self, option: &Valued, value: Option<String>) -> Run<()> {
-        let Valued { name, is, several } = option;
-        let value = value.filter(|value| !value.is_empty());
-        let value = value.ok_or_else(|| self.wrong(format!("{name} is followed by {is}")))?;
-        if !several && self.value(name).is_some() {
-            return Err(self.wrong(format!("{name} is given twice")));
-        }
-        self.values.push((name.to_string(), value));
-        Ok(())
     }
 
     fn wrong(&self, what: String) -> Fault {
@@ -84,11 +59,6 @@ impl Args {
 
     pub fn value(&self, name: &str) -> Option<&str> {
         self.values.iter().find(|(given, _)| given == name).map(|(_, value)| value.as_str())
-    }
-
-    /// The values of an option that may be given more than once.
-    pub fn values<'a>(&'a self, name: &'a str) -> impl Iterator<Item = &'a str> {
-        self.values.iter().filter(move |(given, _)| given == name).map(|(_, value)| value.as_str())
     }
 
     pub fn is_empty(&self) -> bool {

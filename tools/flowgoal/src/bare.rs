@@ -1,5 +1,5 @@
 //! `authorized` and `flows`: the bare questions, each answer with the records that give it or the clauses that fail.
-use crate::args::{Args, Usage, NAMES, SET, SETTING};
+use crate::args::{Args, Usage};
 use crate::asked::{Refusal, Subject};
 use crate::check::Form;
 use crate::ending::{bug, End, Run};
@@ -9,27 +9,23 @@ use crate::names::Names;
 use crate::policy::{Clause, Reading, Way};
 use crate::report::{clauses_json, way_json};
 use crate::sets::listed;
-use crate::setting::Asked;
 use crate::{library, output};
 use flowgoal_calls::{Answer, Bare};
 use second_search::policy::{Context, Event};
 
 pub const AUTHORIZED: Usage = Usage {
     name: "authorized",
-    words: "POLICY X Y CLASS PERMISSION [--setting N | --set SWITCH=on|off ..] [--plain | --json] [--names FILE]",
+    words: "POLICY X Y CLASS PERMISSION [--plain | --json] [--names FILE]",
     flags: &["--plain", "--json"],
-    values: &[SETTING, SET, NAMES],
+    values: &["--names"],
     help: "Is the permission of the class authorized from the context X, which acts, on the context Y?
 
 A context is USER:ROLE:TYPE, each by its name or its number, or three numbers TYPE ROLE USER; class and permission are names or
 numbers. Prints yes with the records that give it, no with the clauses that fail, or refused k.
 
-  --setting N       the setting of the policy's switches, 0 to 255: bit d - 1 is for switch d (without it all are off)
-  --set SWITCH=on   the same by a switch's name or number, on or off, as often as needed; what is not named is off
-  --plain           the answer alone
-  --json            one object with every clause
-  --names FILE      names of types, roles, users, classes, permissions and switches (names.txt beside the policy, where it is
-                    there)
+  --plain       the answer alone
+  --json        one object with every clause
+  --names FILE  names of types, roles, users, classes and permissions (names.txt beside the policy, where it is there)
 
 Exit status: 0 yes, 1 no, 2 refused, 3 it could not be asked.",
 };
@@ -43,12 +39,9 @@ write-like and authorized from X on Y, or read-like and authorized from Y on X.
 A context is USER:ROLE:TYPE, each by its name or its number, or three numbers TYPE ROLE USER; class and permission are names or
 numbers. Prints yes with the records that give it, no with what fails, or refused k.
 
-  --setting N       the setting of the policy's switches, 0 to 255: bit d - 1 is for switch d (without it all are off)
-  --set SWITCH=on   the same by a switch's name or number, on or off, as often as needed; what is not named is off
-  --plain           the answer alone
-  --json            one object with every clause
-  --names FILE      names of types, roles, users, classes, permissions and switches (names.txt beside the policy, where it is
-                    there)
+  --plain       the answer alone
+  --json        one object with every clause
+  --names FILE  names of types, roles, users, classes and permissions (names.txt beside the policy, where it is there)
 
 Exit status: 0 yes, 1 no, 2 refused, 3 it could not be asked.",
     ..AUTHORIZED
@@ -70,27 +63,20 @@ fn ask(mut args: Args, question: Bare) -> Run<End> {
     let (x, y) = (args.context("X", &names)?, args.context("Y", &names)?);
     let e = args.event(&names)?;
     args.end()?;
-    let asked = Asked::of(&args, &names)?;
     let image = image(&file, What::Policy, &names)?;
     if let Some(k) = library::policy_refusal(&image)? {
         return Refusal::of("flowgoal_authorized", k, Subject::Image("the policy", file)).print(form);
     }
     let policy = library::policy(&image)?;
-    let answer = library::bare(question, &image, asked.setting, x, y, e)?;
+    let answer = library::bare(question, &image, x, y, e)?;
     if let Answer::Refused(_) = answer {
         return Refusal::out_of_range("flowgoal_authorized", &policy, &names, &[x, y], Some(e)).print(form);
     }
-    let reading = Reading::new(&policy, &names, asked.setting);
-    let explained = || held(&reading, question, answer, x, y, e);
+    let explained = || held(&Reading::new(&policy, &names), question, answer, x, y, e);
     output::print(&match form {
         Form::Plain => format!("{answer}\n"),
-        Form::Explained => format!("{answer}\n\n{}{}", asked.words(&names, &reading.switches), explained()?.why),
-        Form::Json => {
-            let mut fields = vec![("answer", text(answer))];
-            fields.extend(asked.json(&names, &reading.switches));
-            fields.push(explained()?.json);
-            format!("{}\n", Json::Object(fields))
-        }
+        Form::Explained => format!("{answer}\n\n{}", explained()?.why),
+        Form::Json => format!("{}\n", Json::Object(vec![("answer", text(answer)), explained()?.json])),
     })?;
     Ok(if answer == Answer::Yes { End::Yes } else { End::No })
 }

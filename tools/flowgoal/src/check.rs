@@ -1,5 +1,5 @@
 //! `check POLICY GOAL`: the goal question, and what its answer rests on.
-use crate::args::{Args, Usage, DOT, NAMES};
+use crate::args::{Args, Usage};
 use crate::asked::{Refusal, Subject};
 use crate::ending::{unasked, End, Run};
 use crate::ground::{self, Ground};
@@ -16,19 +16,18 @@ pub const USAGE: Usage = Usage {
     name: "check",
     words: "POLICY GOAL [--plain | --json] [--dot FILE [--overwrite]] [--names FILE]",
     flags: &["--plain", "--json", "--overwrite"],
-    values: &[DOT, NAMES],
+    values: &["--dot", "--names"],
     help: "Does the goal hold of the policy? Each is an image, of any size, or its text.
 
-It holds where it does in every setting of the policy's switches. First the lines of the goal program: holds, order m or events m
-with the path, or refused k. Then, for a path, the setting that it goes in, where rules have switches; each step with the allow
-records that give it, and where the path breaks the goal; for holds, what that rests on, and a warning where it says nothing.
+First the lines of the goal program: holds, order m or events m with the path, or refused k. Then, for a path, each step with
+the allow records that give it and where the path breaks the goal; for holds, what that rests on, and a warning where it says
+nothing.
 
   --plain       the lines of the goal program alone
   --json        one object with all of it
   --dot FILE    a picture for Graphviz: the goal's legs, and the path with the sets that its contexts are in
   --overwrite   FILE may be there already
-  --names FILE  names of types, roles, users, classes, permissions and switches (names.txt beside the policy, where it is
-                there)
+  --names FILE  names of types, roles, users, classes and permissions (names.txt beside the policy, where it is there)
 
 Exit status: 0 the goal holds, 1 a path breaks it, 2 refused, 3 it could not be asked.",
 };
@@ -88,7 +87,7 @@ pub fn run(mut args: Args) -> Run<End> {
     } else {
         let policy = library::policy(&policy_image)?;
         let goal = library::goal(&goal_image, &policy)?;
-        let reading = Reading::new(&policy, &names, outcome.setting());
+        let reading = Reading::new(&policy, &names);
         let ground = match path {
             None => Found::Nothing(ground::of(&reading, &policy_image, &goal)?),
             Some(path) => found_path(&reading, &policy_image, &goal, outcome, path)?,
@@ -112,10 +111,9 @@ fn refused(policy: &[u8], goal: &[u8], policy_file: String, goal_file: String) -
     })
 }
 
-/// The path of an answer, walked; it must be one of the goal in its setting, and break what the answer says.
+/// The path of an answer, walked; it must be one of the goal, and break what the answer says.
 fn found_path(reading: &Reading, image: &[u8], goal: &Goal, outcome: Outcome, path: Path) -> Run<Found> {
     let sort = if matches!(outcome, Outcome::Order(_)) { Sort::Order } else { Sort::Events };
-    walk::setting(reading)?;
     let steps = walk::steps(reading, image, &path)?;
     walk::ends(reading, goal, &path)?;
     let broken = walk::broken(goal, &path, sort)?;

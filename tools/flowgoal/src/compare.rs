@@ -1,38 +1,34 @@
 //! `compare`: two instruments on the same images, what is proved and the second search. Do their answers agree?
-use crate::args::{Args, Usage, NAMES, PROGRAM, SET, SETTING};
+use crate::args::{Args, Usage};
 use crate::ending::{unasked, End, Run};
 use crate::input::{image, What};
 use crate::names::Names;
-use crate::setting::{switches, Asked};
 use crate::{library, output};
 use flowgoal_calls::Writing;
-use second_search::answer::{goal_question_with_setting, validate_output_landed};
-use second_search::policy::{check_policy_landed, Context};
-use second_search::steps::{least_steps_at, validate_steps_at};
+use second_search::answer::{goal_question_landed, validate_output_landed};
+use second_search::policy::Context;
+use second_search::steps::{least_steps, validate_steps};
 use second_search::{canonical, join};
 use std::path::Path;
 use std::process::{Command, Stdio};
 
 pub const USAGE: Usage = Usage {
     name: "compare",
-    words: "DIR.. | steps POLICY FROM TO [--setting N | --set SWITCH=on|off ..] | join MAKER BOARD | canonical POLICY \
-            [--program PROGRAM] [--names FILE]",
+    words: "DIR.. | steps POLICY FROM TO | join MAKER BOARD | canonical POLICY [--program PROGRAM] [--names FILE]",
     flags: &[],
-    values: &[SETTING, SET, PROGRAM, NAMES],
+    values: &["--program", "--names"],
     help: "Asks the proved library and the second search, a reference by other hands, and says whether they agree.
 
   compare DIR..                 the goal question of each folder's policy.img and goal.img, or of their texts
-  compare steps POLICY FROM TO  least steps from one context to another, in a setting of the switches
+  compare steps POLICY FROM TO  least steps from one context to another
   compare join MAKER BOARD      the maker's policy and the board's as one
   compare canonical POLICY      the canonical image of a policy
 
-They agree where the answer, the number of steps and the setting are the same and the path that is shown is one in that setting,
-which need not be the second search's own; of an image that is written, where the answers and all bytes are the same.
+They agree where the answer and the number of steps are the same and the path that is shown is one, which need not be the second
+search's own; of an image that is written, where the answers and all bytes are the same.
 
-  --setting N        the setting of the policy's switches, 0 to 255, or --set SWITCH=on|off as often as needed (else all are off)
-  --program PROGRAM  what a program prints, in place of the library's answer. It is run in DIR as the goal program is, which
-                     tells no setting; or with the words POLICY T R U T R U, and then the setting where one is named; or with
-                     the words MAKER BOARD RESULT or POLICY RESULT, and then writes RESULT too
+  --program PROGRAM  what a program prints, in place of the library's answer. It is run in DIR as the goal program is; or with the
+                     words POLICY T R U T R U; or with the words MAKER BOARD RESULT or POLICY RESULT, and then writes RESULT too
   --names FILE       names that texts and contexts use (names.txt beside the policy, where it is there)
 
 Exit status: 0 all agree, 1 some do not, 3 something could not be compared.",
@@ -60,32 +56,19 @@ struct Compared<'a> {
     names: Option<&'a str>,
 }
 
-/// A record: what is printed of an answer, and the setting of its path where that is told.
-struct Record {
-    lines: String,
-    setting: Option<u8>,
-}
-
-impl Record {
-    fn of(lines: impl Into<String>) -> Record {
-        Record { lines: lines.into(), setting: None }
-    }
-
-    /// As it is shown: its answer, and its path on one line.
-    fn shown(&self) -> String {
-        let (first, path) = self.lines.split_once('\n').unwrap_or((&self.lines, ""));
-        let setting = self.setting.map_or(String::new(), |setting| format!(", in setting {setting}"));
-        match path.trim_end() {
-            "" => first.to_string(),
-            path => format!("{first}{setting}\n    {}", path.replace('\n', "; ")),
-        }
+/// A record as it is shown: its answer, and its path on one line.
+fn shown(lines: &str) -> String {
+    let (first, path) = lines.split_once('\n').unwrap_or((lines, ""));
+    match path.trim_end() {
+        "" => first.to_string(),
+        path => format!("{first}\n    {}", path.replace('\n', "; ")),
     }
 }
 
 impl Tally {
     /// Adds two records, and what the second search has against the first.
-    fn add(&mut self, what: &str, who: &str, records: [Record; 2], against: Result<(), String>) {
-        let [first, second] = records.map(|record| record.shown());
+    fn add(&mut self, what: &str, who: &str, records: [&str; 2], against: Result<(), String>) {
+        let [first, second] = records.map(shown);
         self.said += &format!("{what}\n  {:<15} {first}\n  {:<15} {second}\n", format!("{who}:"), "second search:");
         self.compared += 1;
         match against {
@@ -144,37 +127,29 @@ impl Compared<'_> {
         let policy = self.image(&in_folder(folder, What::Policy)?, What::Policy)?;
         let goal = self.image(&in_folder(folder, What::Goal)?, What::Goal)?;
         let first = match self.program {
-            Some(program) => Record::of(printed(program, folder, &[])?),
-            None => goal_record(&policy, &goal)?,
+            Some(program) => printed(program, folder, &[])?,
+            None => goal_lines(&policy, &goal)?,
         };
         let landed = library::landed();
-        let (answer, setting) = goal_question_with_setting(landed, &policy, &goal, [WORK; 2], &mut vec![0; PATH]);
-        let second = Record { lines: answer.print(), setting: Some(setting) };
-        let against =
-            validate_output_landed(landed, &policy, &goal, WORK, PATH, &first.lines).and_then(|()| same_setting(&first, setting));
-        // of a policy without switches there is nothing to tell
-        let told = check_policy_landed(landed, &policy).is_ok_and(|policy| !switches(&policy).is_empty());
-        let records = [first, second].map(|record| Record { setting: record.setting.filter(|_| told), ..record });
-        tally.add(folder, self.who(), records, against);
+        let second = goal_question_landed(landed, &policy, &goal, [WORK; 2], &mut vec![0; PATH]).print();
+        let against = validate_output_landed(landed, &policy, &goal, WORK, PATH, &first);
+        tally.add(folder, self.who(), [&first, &second], against);
         Ok(())
     }
 
     /// Least steps of a policy.
-    fn steps(&self, tally: &mut Tally, file: &str, [x, y]: [Context; 2], asked: Asked) -> Run<()> {
+    fn steps(&self, tally: &mut Tally, file: &str, [x, y]: [Context; 2]) -> Run<()> {
         let policy = self.image(file, What::Policy)?;
         let numbers = [x.t, x.r, x.u, y.t, y.r, y.u].map(|number| number.to_string());
-        let setting = asked.setting;
-        let named = asked.named.then(|| setting.to_string());
         let first = match self.program {
-            Some(program) => printed(program, ".", &[&[file.to_string()][..], &numbers, named.as_slice()].concat())?,
-            None => steps_lines(&policy, setting, [x, y])?,
+            Some(program) => printed(program, ".", &[&[file.to_string()][..], &numbers].concat())?,
+            None => steps_lines(&policy, [x, y])?,
         };
         let landed = library::landed();
-        let second = least_steps_at(landed, &policy, setting, x, y, [WORK; 2], &mut vec![0; PATH]).print();
-        let against = validate_steps_at(landed, &policy, setting, (x, y), WORK, PATH, &first);
-        let in_setting = named.map_or(String::new(), |named| format!(", in setting {named}"));
-        let what = format!("{file}, from {} to {}{in_setting}", numbers[..3].join(" "), numbers[3..].join(" "));
-        tally.add(&what, self.who(), [first, second].map(Record::of), against);
+        let second = least_steps(landed, &policy, x, y, [WORK; 2], &mut vec![0; PATH]).print();
+        let against = validate_steps(landed, &policy, x, y, WORK, PATH, &first);
+        let what = format!("{file}, from {} to {}", numbers[..3].join(" "), numbers[3..].join(" "));
+        tally.add(&what, self.who(), [&first, &second], against);
         Ok(())
     }
 
@@ -193,35 +168,25 @@ impl Compared<'_> {
         };
         let second =
             second.map_or_else(|k| (format!("refused {k}\n"), vec![]), |n| (format!("written {n}\n"), output[..n].to_vec()));
-        let against = same_image((&first, &ours), (&second.0, &second.1));
-        tally.add(&files.join(" and "), self.who(), [first, second.0].map(Record::of), against);
+        tally.add(&files.join(" and "), self.who(), [&first, &second.0], same_image((&first, &ours), (&second.0, &second.1)));
         Ok(())
     }
 }
 
-/// The library's answer to the goal question, in the goal program's lines, and its setting.
-fn goal_record(policy: &[u8], goal: &[u8]) -> Run<Record> {
+/// The library's answer to the goal question, in the goal program's lines.
+fn goal_lines(policy: &[u8], goal: &[u8]) -> Run<String> {
     if let Some(k) = library::goal_refusal(policy, goal)? {
-        return Ok(Record::of(format!("refused {k}\n")));
+        return Ok(format!("refused {k}\n"));
     }
     let (outcome, path) = library::check(policy, goal)?;
-    let lines = format!("{outcome}\n{}", path.map_or(String::new(), |path| path.lines()));
-    Ok(Record { lines, setting: Some(outcome.setting()) })
+    Ok(format!("{outcome}\n{}", path.map_or(String::new(), |path| path.lines())))
 }
 
-/// Is the setting, where one is told, the second search's?
-fn same_setting(first: &Record, second: u8) -> Result<(), String> {
-    match first.setting {
-        Some(setting) if setting != second => Err(format!("the setting is {setting}, not {second}")),
-        _ => Ok(()),
-    }
-}
-
-fn steps_lines(policy: &[u8], setting: u8, [x, y]: [Context; 2]) -> Run<String> {
+fn steps_lines(policy: &[u8], [x, y]: [Context; 2]) -> Run<String> {
     if let Some(k) = library::policy_refusal(policy)? {
         return Ok(format!("refused {k}\n"));
     }
-    let (steps, path) = library::least_steps(policy, setting, x, y)?;
+    let (steps, path) = library::least_steps(policy, x, y)?;
     Ok(format!("{steps}\n{}", path.map_or(String::new(), |path| path.lines())))
 }
 
@@ -260,13 +225,8 @@ pub fn run(mut args: Args) -> Run<End> {
         args.split();
         let ends = [args.context("FROM", &names)?, args.context("TO", &names)?];
         args.end()?;
-        compared.steps(&mut tally, &file, ends, Asked::of(&args, &names)?)?;
-        return tally.end();
-    }
-    if let Some(option) = [SETTING, SET].iter().find(|option| args.value(option.name).is_some()) {
-        return Err(unasked(format!("{} is for compare steps alone", option.name)));
-    }
-    if args.takes("join") {
+        compared.steps(&mut tally, &file, ends)?;
+    } else if args.takes("join") {
         let files = [args.file("MAKER")?, args.file("BOARD")?];
         args.end()?;
         compared.written(&mut tally, &files)?;

@@ -1,5 +1,5 @@
 //! `text` and `image`: texts of images, and images of texts.
-use crate::args::{Args, Usage, NAMES};
+use crate::args::{Args, Usage};
 use crate::ending::{unasked, End, Fault, Run};
 use crate::input::{self, What};
 use crate::names::Names;
@@ -10,7 +10,7 @@ pub const TEXT: Usage = Usage {
     name: "text",
     words: "IMAGE [TEXT [--overwrite]] [--names FILE]",
     flags: &["--overwrite"],
-    values: &[NAMES],
+    values: &["--names"],
     help: "The text of an accepted image, of a policy or of a goal: printed, or written to TEXT.
 
   --overwrite   TEXT may be there already
@@ -23,7 +23,7 @@ pub const IMAGE: Usage = Usage {
     name: "image",
     words: "TEXT IMAGE [--overwrite] [--names FILE]",
     flags: &["--overwrite"],
-    values: &[NAMES],
+    values: &["--names"],
     help: "The image that a text says; docs/TOOLS.md has the format. An error names the line. Values are held to the bytes that they must
 fit into and not to the questions of the specification: where the checker will refuse the image, that is said, and it is written.
 

@@ -1,5 +1,5 @@
 //! `difference A B`: what one policy says and the other does not.
-use crate::args::{Args, Usage, NAMES};
+use crate::args::{Args, Usage};
 use crate::asked::{Refusal, Subject};
 use crate::check::Form;
 use crate::ending::{bug, End, Run};
@@ -13,13 +13,13 @@ pub const USAGE: Usage = Usage {
     name: "difference",
     words: "A B [--names FILE]",
     flags: &[],
-    values: &[NAMES],
+    values: &["--names"],
     help: "What the policies A and B say differently, whatever the order of their records: lines of the text format, with - for what A alone
 says and + for what B alone says. Nothing is printed where they say the same. Constraints and their nodes are lists: n1, n2 and
 so on are nodes by their places.
 
-  --names FILE  names of types, roles, users, classes, permissions and switches (names.txt beside A, where it is there; where B's
-                text uses names, those beside B)
+  --names FILE  names of types, roles, users, classes and permissions (names.txt beside A, where it is there; where B's text uses
+                names, those beside B)
 
 Exit status: 0 they say the same, 1 they do not, 2 refused, 3 it could not be asked.",
 };

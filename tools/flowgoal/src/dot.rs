@@ -1,9 +1,7 @@
 //! A picture of an answer for Graphviz: the goal's legs, and the path with the sets that its contexts are in.
 use crate::check::{Checked, Found};
-use crate::policy::Reading;
-use crate::report::in_all_settings;
+use crate::policy::Way;
 use crate::sets;
-use crate::setting::positions;
 use crate::walk::{Break, Step};
 use second_search::goal::{Goal, Item, GAMMA, GAMMA_E, SIGMA_E};
 use second_search::paths::Path;
@@ -15,13 +13,9 @@ fn quoted(text: &str) -> String {
 
 pub fn picture(checked: &Checked) -> String {
     let title = match &checked.ground {
-        Found::Nothing(_) => {
-            let settings = in_all_settings(checked.reading).map_or(String::new(), |words| format!(", {words}"));
-            format!("{}: no path breaks the goal{settings}", checked.outcome)
-        }
+        Found::Nothing(_) => format!("{}: no path breaks the goal", checked.outcome),
         Found::Path { path, broken, .. } => {
-            let words = broken.words(checked.goal, path, checked.reading.names);
-            format!("{}: {words}{}", checked.outcome, in_setting(checked.reading))
+            format!("{}: {}", checked.outcome, broken.words(checked.goal, path, checked.reading.names))
         }
     };
     let mut said =
@@ -32,14 +26,6 @@ pub fn picture(checked: &Checked) -> String {
         said += &walked(checked, path, steps, broken);
     }
     said + "}\n"
-}
-
-/// The setting that a path goes in, where rules have switches, on a line of its own.
-fn in_setting(Reading { names, switches, setting, .. }: &Reading) -> String {
-    match switches.is_empty() {
-        true => String::new(),
-        false => format!("\nin setting {setting}: {}", positions(names, switches, *setting)),
-    }
 }
 
 /// What a set of the goal holds, a record a line.
@@ -99,7 +85,7 @@ fn walked(checked: &Checked, path: &Path, steps: &[Step], broken: &Break) -> Str
     }
     for (j, step) in steps.iter().enumerate() {
         let sets = sets::of_event(goal, step.event).join(" ");
-        let lines = [vec![names.event(step.event)], vec![sets], ways(checked.reading, step)].concat();
+        let lines = [vec![names.event(step.event)], vec![sets], step.ways.iter().map(way).collect()].concat();
         let label = lines.into_iter().filter(|line| !line.is_empty()).collect::<Vec<_>>().join("\n");
         let color = if broken.at() == j + 1 { ", color=red" } else { "" };
         said += &format!("    x{j} -> x{} [label={}{color}];\n", j + 1, quoted(&label));
@@ -107,7 +93,8 @@ fn walked(checked: &Checked, path: &Path, steps: &[Step], broken: &Break) -> Str
     said + "  }\n"
 }
 
-/// The ways of a step, each with the numbers of its allow records and their switches.
-fn ways(reading: &Reading, step: &Step) -> Vec<String> {
-    step.ways.iter().map(|way| format!("{}, record {}", way.name, reading.numbered(&way.allows()))).collect()
+/// A way with the numbers of its allow records.
+fn way(way: &Way) -> String {
+    let allows = way.clauses.iter().filter(|clause| clause.name == "allow").flat_map(|clause| &clause.records);
+    format!("{}, record {}", way.name, sets::listed(&allows.collect::<Vec<_>>()))
 }

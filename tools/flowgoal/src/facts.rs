@@ -5,9 +5,8 @@ use crate::text;
 use second_search::policy::{Policy, Record};
 use std::collections::{BTreeMap, BTreeSet, HashMap};
 
-/// Kind, a, b, c, d and e of records that say the same up to their permissions. An allow that is switched is another fact than one that
-/// is not, or that applies in the other position (request g).
-type Key = (u8, u32, u32, u32, u8, u8);
+/// Kind, a, b and c of records that say the same up to their permissions.
+type Key = (u8, u32, u32, u32);
 
 /// The facts of kinds 1 to 7, with the permissions of kinds 2 to 4; flow both ways is flow either way.
 fn facts(policy: &Policy) -> BTreeMap<Key, u32> {
@@ -17,7 +16,7 @@ fn facts(policy: &Policy) -> BTreeMap<Key, u32> {
         // a fact without permissions is there or not: one bit says so
         let mask = if (2..=4).contains(&record.kind) { record.mask } else { 1 };
         for b in ways.into_iter().filter(|_| mask != 0) {
-            *facts.entry((record.kind, record.a as u32, b, record.c as u32, record.d, record.e)).or_default() |= mask;
+            *facts.entry((record.kind, record.a as u32, b, record.c as u32)).or_default() |= mask;
         }
     }
     facts
@@ -86,10 +85,10 @@ impl Difference {
         for key in keys {
             let [ours, theirs] = [a, b].map(|facts| facts.get(key).copied().unwrap_or(0));
             for (sign, mask) in [('-', ours & !theirs), ('+', theirs & !ours)] {
-                let &(kind, x, y, z, d, e) = key;
+                let &(kind, x, y, z) = key;
                 if mask != 0 {
                     let mask = if (2..=4).contains(&kind) { mask } else { 0 };
-                    self.lines.push((sign, writer.line(Record { d, e, ..Record::new(kind, x, y, z, mask) })));
+                    self.lines.push((sign, writer.line(Record::new(kind, x, y, z, mask))));
                 }
             }
         }

@@ -3,7 +3,6 @@ use crate::ending::{bug, Run};
 use crate::library;
 use crate::policy::Reading;
 use crate::reach::{Bounds, Direction, Graph};
-use crate::setting::{applies, settings};
 use flowgoal_calls::Outcome;
 use second_search::goal::{is_sigma, Goal, Item, GAMMA_E, SIGMA_E};
 use second_search::policy::Context;
@@ -16,7 +15,7 @@ pub struct Ground {
     /// valid contexts in σ0, and in σn
     pub starts: usize,
     pub ends: usize,
-    /// in some setting, by the paths of the goal, which meet no exception before their end: reached from σ0, leading to σn, and both
+    /// by the paths of the goal, which meet no exception before their end: reached from σ0, leading to σn, and both
     pub reached: usize,
     pub leading: usize,
     pub both: usize,
@@ -39,63 +38,14 @@ fn without(goal: &Goal, dropped: &[usize]) -> Goal {
     Goal { items: goal.items.iter().filter(|(chain, _)| !dropped.contains(chain)).copied().collect(), ..goal.clone() }
 }
 
-/// The contexts that the searches come to, in one setting or in some.
-#[derive(Default)]
-struct Met {
-    reached: HashSet<Context>,
-    leading: HashSet<Context>,
-    both: HashSet<Context>,
-    /// reached from σ0 where exceptions are passed over
-    everywhere: HashSet<Context>,
-}
-
-impl Met {
-    /// By the allow records that count in the graph.
-    fn by(graph: &Graph, goal: &Goal) -> Met {
-        let (start, end) = (|x: Context| goal.sigma(0, x), |x: Context| goal.sigma(goal.n, x));
-        let bounds = Bounds { goal: Some(goal), exceptions: true };
-        let reached = graph.search(Direction::Forward, &start, bounds);
-        let leading = graph.search(Direction::Backward, &end, bounds);
-        let both = reached.intersection(&leading).copied().collect();
-        let everywhere = graph.search(Direction::Forward, &start, Bounds { exceptions: false, ..bounds });
-        Met { reached, leading, both, everywhere }
-    }
-
-    fn add(&mut self, more: Met) {
-        self.reached.extend(more.reached);
-        self.leading.extend(more.leading);
-        self.both.extend(more.both);
-        self.everywhere.extend(more.everywhere);
-    }
-
-    fn counts(&self) -> [usize; 4] {
-        [&self.reached, &self.leading, &self.both, &self.everywhere].map(HashSet::len)
-    }
-
-    /// In some setting of the switches, by a graph in which all rules count. No setting comes to more than that: where as much is met, the
-    /// other settings are not asked.
-    fn in_some(graph: &mut Graph, switches: &[u32], goal: &Goal) -> Met {
-        let most = Met::by(graph, goal);
-        if switches.is_empty() {
-            return most;
-        }
-        let mut met = Met::default();
-        for setting in settings(switches).rev() {
-            if met.counts() == most.counts() {
-                break;
-            }
-            graph.count(&|record| applies(record, setting));
-            met.add(Met::by(graph, goal));
-        }
-        met
-    }
-}
-
 /// The ground of the library's "holds". What the search says of there being a path must be what the library says of it.
 pub fn of(reading: &Reading, image: &[u8], goal: &Goal) -> Run<Ground> {
-    let mut graph = Graph::new(reading, &|_| true);
+    let graph = Graph::new(reading);
     let (start, end) = (|x: Context| goal.sigma(0, x), |x: Context| goal.sigma(goal.n, x));
-    let Met { reached, leading, both, everywhere } = Met::in_some(&mut graph, &reading.switches, goal);
+    let bounds = Bounds { goal: Some(goal), exceptions: true };
+    let reached = graph.search(Direction::Forward, &start, bounds);
+    let leading = graph.search(Direction::Backward, &end, bounds);
+    let everywhere = graph.search(Direction::Forward, &start, Bounds { exceptions: false, ..bounds });
     held(image, goal, true, reached.iter().any(|&x| end(x)))?;
     held(image, goal, true, leading.iter().any(|&x| start(x)))?;
     held(image, goal, false, everywhere.iter().any(|&x| end(x)))?;
@@ -107,7 +57,7 @@ pub fn of(reading: &Reading, image: &[u8], goal: &Goal) -> Run<Ground> {
         ends: valid_in(&end),
         reached: reached.len(),
         leading: leading.len(),
-        both: both.len(),
+        both: reached.intersection(&leading).count(),
         warnings: vec![],
     };
     ground.warnings = warnings(&ground, image, goal, &everywhere)?;

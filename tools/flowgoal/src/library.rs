@@ -17,7 +17,7 @@ fn sane<T>(said: Result<T, Stray>) -> Run<T> {
 
 /// Why a policy is refused, or none. A bare question of nothing is refused with 13 where the policy is accepted.
 pub fn policy_refusal(policy: &[u8]) -> Run<Option<u32>> {
-    match sane(flowgoal_calls::bare(Bare::Authorized, policy, 0, [0; 3], [0; 3], [0; 2]))? {
+    match sane(flowgoal_calls::bare(Bare::Authorized, policy, [0; 3], [0; 3], [0; 2]))? {
         Answer::Refused(13) => Ok(None),
         Answer::Refused(k) => Ok(Some(k)),
         _ => Err(bug("the library answers a question that is out of range")),
@@ -68,21 +68,19 @@ pub fn check(policy: &[u8], goal: &[u8]) -> Run<(Outcome, Option<Path>)> {
     let outcome = sane(flowgoal_calls::check(policy, goal, &mut work1, &mut work2, &mut path))?;
     match outcome {
         Outcome::Holds => Ok((outcome, None)),
-        Outcome::Order(broken) | Outcome::Events(broken) => {
-            Ok((outcome, Some(Path::from_entries(&path[..2 * broken.steps as usize + 1]))))
-        }
+        Outcome::Order(m) | Outcome::Events(m) => Ok((outcome, Some(Path::from_entries(&path[..2 * m as usize + 1])))),
         Outcome::Refused(_) | Outcome::NoRoom(_) => {
             Err(bug(format!("the library says \"{outcome}\" to images that are accepted, with slices that are long enough")))
         }
     }
 }
 
-/// Least steps of an accepted policy in a setting: the answer, and the path where there is one.
-pub fn least_steps(policy: &[u8], setting: u8, x: Context, y: Context) -> Run<(Steps, Option<Path>)> {
+/// Least steps of an accepted policy: the answer, and the path where there is one.
+pub fn least_steps(policy: &[u8], x: Context, y: Context) -> Run<(Steps, Option<Path>)> {
     let nodes = contexts(policy);
     let (mut work1, mut work2, mut path) = (vec![0; nodes], vec![0; nodes], vec![0; 2 * nodes + 1]);
     let (x, y) = ([x.t, x.r, x.u], [y.t, y.r, y.u]);
-    let steps = sane(flowgoal_calls::least_steps(policy, setting, x, y, &mut work1, &mut work2, &mut path))?;
+    let steps = sane(flowgoal_calls::least_steps(policy, x, y, &mut work1, &mut work2, &mut path))?;
     match steps {
         Steps::None | Steps::Refused(13) => Ok((steps, None)),
         Steps::Shown(m) => Ok((steps, Some(Path::from_entries(&path[..2 * m as usize + 1])))),
@@ -92,9 +90,9 @@ pub fn least_steps(policy: &[u8], setting: u8, x: Context, y: Context) -> Run<(S
     }
 }
 
-/// A bare question in a setting.
-pub fn bare(question: Bare, policy: &[u8], setting: u8, x: Context, y: Context, e: Event) -> Run<Answer> {
-    sane(flowgoal_calls::bare(question, policy, setting, [x.t, x.r, x.u], [y.t, y.r, y.u], [e.c, e.p]))
+/// A bare question.
+pub fn bare(question: Bare, policy: &[u8], x: Context, y: Context, e: Event) -> Run<Answer> {
+    sane(flowgoal_calls::bare(question, policy, [x.t, x.r, x.u], [y.t, y.r, y.u], [e.c, e.p]))
 }
 
 /// What a call writes into an output that is long enough for every policy, and what it answers.

@@ -22,7 +22,6 @@ mod reach;
 mod refusals;
 mod report;
 mod sets;
-mod setting;
 mod steps;
 mod text;
 mod walk;

@@ -1,5 +1,5 @@
-//! A names file: `type 1 raw_stage_t`, `permission 2 0 read`, `switch 1 radio`. Types, roles, users, classes, permissions and switches have
-//! numbers in images; with such a file they are written and read by their names.
+//! A names file: `type 1 raw_stage_t`, `permission 2 0 read`. Types, roles, users, classes and permissions have numbers in images; with
+//! such a file they are written and read by their names.
 use crate::ending::{unasked, Run};
 use crate::input::{read, utf8};
 use second_search::policy::{Context, Event};
@@ -14,7 +14,6 @@ pub enum Sort {
     User,
     Class,
     PermissionOf(u32),
-    Switch,
 }
 
 impl Sort {
@@ -25,7 +24,6 @@ impl Sort {
             Sort::User => "user",
             Sort::Class => "class",
             Sort::PermissionOf(_) => "permission",
-            Sort::Switch => "switch",
         }
     }
 
@@ -36,7 +34,6 @@ impl Sort {
             Sort::Role | Sort::User => (1, 15),
             Sort::Class => (1, 31),
             Sort::PermissionOf(_) => (0, 31),
-            Sort::Switch => (1, 8),
         }
     }
 }
@@ -94,13 +91,10 @@ impl Names {
             ["role", n, name] => self.give(Sort::Role, n, name, at),
             ["user", n, name] => self.give(Sort::User, n, name, at),
             ["class", n, name] => self.give(Sort::Class, n, name, at),
-            ["switch", n, name] => self.give(Sort::Switch, n, name, at),
             ["permission", class, n, name] => self.give(Sort::PermissionOf(number(class, Sort::Class)?), n, name, at),
-            ["type" | "role" | "user" | "class" | "switch", ..] => {
-                Err(format!("{} is followed by a number and a name", words[0]))
-            }
+            ["type" | "role" | "user" | "class", ..] => Err(format!("{} is followed by a number and a name", words[0])),
             ["permission", ..] => Err("permission is followed by a class's number, its own, and a name".into()),
-            [word, ..] => Err(format!("{word:?} is none of type, role, user, class, permission, switch")),
+            [word, ..] => Err(format!("{word:?} is none of type, role, user, class, permission")),
         }
     }
 
@@ -140,11 +134,6 @@ impl Names {
             (Ok(n), _) | (_, Some(&n)) => Ok(n),
             _ => Err(self.unknown(sort, word)),
         }
-    }
-
-    /// The same, of a number that some policy has.
-    pub fn in_range(&self, sort: Sort, word: &str) -> Result<u32, String> {
-        number(&self.number(sort, word)?.to_string(), sort)
     }
 
     fn unknown(&self, sort: Sort, word: &str) -> String {

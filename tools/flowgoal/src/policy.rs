@@ -2,21 +2,16 @@
 //! is held to the library's answer wherever it is shown.
 use crate::expression;
 use crate::names::{Names, Sort};
-use crate::sets::listed;
-use crate::setting::{applies, position, switches};
 use crate::text;
 use second_search::policy::{Context, Event, Policy, Record, TRANSITION};
 
 /// The role that is the source's object role.
 const OBJECT_ROLE: u32 = 1;
 
-/// A policy in a setting, with the text of its records and its names.
+/// A policy with the text of its records and its names.
 pub struct Reading<'a> {
     pub policy: &'a Policy,
     pub names: &'a Names,
-    pub setting: u8,
-    /// The switches that some rule names.
-    pub switches: Vec<u32>,
     lines: Vec<String>,
     /// The numbers of the records of each kind.
     kinds: [Vec<usize>; 10],
@@ -66,11 +61,6 @@ impl Way {
     pub fn flows(&self) -> bool {
         !self.records.is_empty() && self.is_authorized()
     }
-
-    /// The allow records that give it.
-    pub fn allows(&self) -> Vec<usize> {
-        self.clauses.iter().filter(|clause| clause.name == "allow").flat_map(|clause| clause.records.clone()).collect()
-    }
 }
 
 fn has(record: &Record, p: u32) -> bool {
@@ -78,12 +68,12 @@ fn has(record: &Record, p: u32) -> bool {
 }
 
 impl<'a> Reading<'a> {
-    pub fn new(policy: &'a Policy, names: &'a Names, setting: u8) -> Reading<'a> {
+    pub fn new(policy: &'a Policy, names: &'a Names) -> Reading<'a> {
         let mut kinds: [Vec<usize>; 10] = Default::default();
         for (i, record) in policy.records.iter().enumerate() {
             kinds[record.kind as usize].push(i + 1);
         }
-        Reading { policy, names, setting, switches: switches(policy), lines: text::record_lines(policy, names), kinds }
+        Reading { policy, names, lines: text::record_lines(policy, names), kinds }
     }
 
     /// A record's line in the text format.
@@ -109,22 +99,10 @@ impl<'a> Reading<'a> {
         self.records(2, |record| record.a as u32 == e.c && has(record, e.p))
     }
 
-    /// The allow records that give an event from one type on another, whether they apply or not; a target of 0 is the source itself.
-    fn allows(&self, t1: u32, t2: u32, e: Event) -> Vec<usize> {
+    /// The allow records that give an event from one type on another; a target of 0 is the source itself.
+    pub fn allows(&self, t1: u32, t2: u32, e: Event) -> Vec<usize> {
         let on = |record: &Record| if record.b == 0 { t1 == t2 } else { record.b as u32 == t2 };
         self.records(4, |record| record.a as u32 == t1 && on(record) && record.c as u32 == e.c && has(record, e.p))
-    }
-
-    /// The switch of an allow record and the position in which it applies, in words; none where it is not switched.
-    pub fn switch(&self, record: usize) -> Option<String> {
-        let record = &self.policy.records[record - 1];
-        (record.kind == 4 && record.d != 0).then(|| position(self.names, record.d as u32, record.e == 1))
-    }
-
-    /// Records by their numbers, each with its switch.
-    pub fn numbered(&self, records: &[usize]) -> String {
-        let one = |&k: &usize| self.switch(k).map_or(k.to_string(), |switch| format!("{k} ({switch})"));
-        listed(&records.iter().map(one).collect::<Vec<_>>())
     }
 
     /// ρ(r, t): the records that give it, and whether the rule does that the object role holds what is no domain.
@@ -211,18 +189,12 @@ impl<'a> Reading<'a> {
         Some(Clause { name: "transition", holds, records, words })
     }
 
-    /// α in its three parts: a domain, Γ, and an allow record that applies in the setting.
+    /// α in its three parts: a domain, Γ, and an allow record.
     fn alpha(&self, t1: u32, t2: u32, e: Event) -> [Clause; 3] {
         let by = self.names.event(e);
         let (source, target) = (self.names.long(Sort::Type, t1), self.names.long(Sort::Type, t2));
         let class = self.names.long(Sort::Class, e.c);
         let permission = self.names.long(Sort::PermissionOf(e.c), e.p);
-        let (applying, others): (Vec<usize>, Vec<usize>) =
-            self.allows(t1, t2, e).into_iter().partition(|&k| applies(&self.policy.records[k - 1], self.setting));
-        let elsewhere = match &others[..] {
-            [] => String::new(),
-            others => format!(" in this setting; in others it is given by record {}", self.numbered(others)),
-        };
         let given = |name, records: Vec<usize>, yes: String, no: String| {
             let holds = !records.is_empty();
             Clause { name, holds, records, words: if holds { yes } else { no } }
@@ -232,9 +204,9 @@ impl<'a> Reading<'a> {
             given("class", self.gamma(e), format!("{class} has {permission}"), format!("{class} has no {permission}")),
             given(
                 "allow",
-                applying,
+                self.allows(t1, t2, e),
                 format!("{source} is allowed {by} on {target}"),
-                format!("no allow record gives {source} the event {by} on {target}{elsewhere}"),
+                format!("no allow record gives {source} the event {by} on {target}"),
             ),
         ]
     }

@@ -3,7 +3,7 @@
 use crate::expression::{self, OfType, Sides};
 use crate::policy::Reading;
 use second_search::goal::Goal;
-use second_search::policy::{Context, Event, Policy, Record, TRANSITION};
+use second_search::policy::{Context, Event, Policy, TRANSITION};
 use std::collections::{BTreeMap, HashSet};
 
 /// What flows from one type to another by a class, as far as types say: permissions, and who acts.
@@ -24,7 +24,7 @@ struct Asked {
     roots: Vec<usize>,
 }
 
-/// The contexts of a policy that meet ρ and μ, and what flows between their types by the allow records that count.
+/// The contexts of a policy that meet ρ and μ, and what flows between their types.
 pub struct Graph<'a> {
     policy: &'a Policy,
     links: Vec<Link>,
@@ -70,22 +70,16 @@ fn masks(policy: &Policy, kind: u8, is: impl Fn(u16) -> bool) -> Vec<u32> {
 }
 
 impl<'a> Graph<'a> {
-    /// The graph in which those allow records count of which something is so.
-    pub fn new(reading: &'a Reading<'a>, counts: &dyn Fn(&Record) -> bool) -> Graph<'a> {
+    pub fn new(reading: &'a Reading<'a>) -> Graph<'a> {
         let policy = reading.policy;
         let changes = |r1: u32| (0..=policy.roles).map(|r2| reading.role_rule(r1, r2, TRANSITION).holds()).collect();
         Graph {
             policy,
-            links: links(policy, counts),
+            links: links(policy),
             asked: (0..=policy.classes).map(|c| asked(reading, c)).collect(),
             changes: (0..=policy.roles).map(changes).collect(),
             valid: reading.valid(),
         }
-    }
-
-    /// The same contexts, where other allow records count.
-    pub fn count(&mut self, counts: &dyn Fn(&Record) -> bool) {
-        self.links = links(self.policy, counts);
     }
 
     /// The contexts that are come to from some, which are among them where they meet ρ and μ.
@@ -170,12 +164,12 @@ impl Link {
     }
 }
 
-/// What the allow records that count give, permissions outside Γ and those that make no flow left out.
-fn links(policy: &Policy, counts: &dyn Fn(&Record) -> bool) -> Vec<Link> {
+/// What the allow records give, permissions outside Γ and those that make no flow left out.
+fn links(policy: &Policy) -> Vec<Link> {
     let gamma = masks(policy, 2, |_| true);
     let (write, read) = (masks(policy, 3, |b| b != 2), masks(policy, 3, |b| b != 1));
     let mut given: BTreeMap<(u32, u32, u32, bool), u32> = BTreeMap::new();
-    for allow in policy.records.iter().filter(|record| record.kind == 4 && counts(record)) {
+    for allow in policy.records.iter().filter(|record| record.kind == 4) {
         let (source, class) = (allow.a as u32, allow.c as u32);
         let target = if allow.b == 0 { source } else { allow.b as u32 };
         let mask = allow.mask & gamma[class as usize];

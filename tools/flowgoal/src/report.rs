@@ -5,13 +5,11 @@ use crate::json::{list, number, text, Json};
 use crate::names::Sort;
 use crate::policy::{Clause, Reading, Way};
 use crate::sets::{self, listed};
-use crate::setting::{self, applies};
 use crate::walk::{self, Break, Step};
 use flowgoal_calls::Outcome;
 use second_search::goal::Goal;
 use second_search::paths::{self, Path};
-use second_search::policy::{Context, Event, Record};
-use std::collections::{BTreeMap, BTreeSet};
+use second_search::policy::{Context, Event};
 
 /// A line of a block: a word in its own column, and what it says.
 pub fn row(word: &str, said: &str) -> String {
@@ -63,46 +61,12 @@ pub fn step(reading: &Reading, goal: Option<&Goal>, at: usize, step: &Step) -> S
     said + &step.ways.iter().map(|one| way(reading, one)).collect::<String>()
 }
 
-/// The allow records of a path that are switched, each with the steps that it gives, counted from 1.
-fn switched(reading: &Reading, steps: &[Step]) -> BTreeMap<usize, Vec<usize>> {
-    let mut switched: BTreeMap<usize, Vec<usize>> = BTreeMap::new();
-    for (j, step) in steps.iter().enumerate() {
-        let allows: BTreeSet<usize> = step.ways.iter().flat_map(Way::allows).collect();
-        for k in allows.into_iter().filter(|&k| reading.switch(k).is_some()) {
-            switched.entry(k).or_default().push(j + 1);
-        }
-    }
-    switched
-}
-
-/// The setting that a path goes in, where rules have switches: where these stand, and the rules of the path that apply because of that.
-fn setting(reading: &Reading, steps: &[Step]) -> String {
-    let Reading { policy, names, setting, switches, .. } = reading;
-    if switches.is_empty() {
-        return String::new();
-    }
-    let rules: Vec<&Record> = policy.records.iter().filter(|record| record.kind == 4 && record.d != 0).collect();
-    let applying = rules.iter().filter(|record| applies(record, *setting)).count();
-    let of_all = format!("{applying} of {}", count(rules.len(), "switched rule applies", "switched rules apply"));
-    let mut said = format!("setting {setting}\n");
-    said += &row("with", &format!("{}: {of_all}", setting::positions(names, switches, *setting)));
-    let switched = switched(reading, steps);
-    for (i, (&k, of_steps)) in switched.iter().enumerate() {
-        let in_steps = format!("{} {}", if of_steps.len() == 1 { "step" } else { "steps" }, listed(of_steps));
-        said += &row(if i == 0 { "so" } else { "" }, &format!("record {k} applies, in {in_steps}: {}", reading.line(k)));
-    }
-    if switched.is_empty() {
-        said += &row("so", "the path goes in every setting: no record that gives a step is switched");
-    }
-    said
-}
-
 /// The steps of a path that breaks a goal, and where it does.
 fn walked(checked: &Checked, path: &Path, steps: &[Step], broken: &Break, sort: paths::Sort) -> String {
     let (reading, goal) = (checked.reading, checked.goal);
     let breaks = row("breaks", &format!("{}: {}", walk::word(sort), broken.words(goal, path, reading.names)));
     let open = walk::open_legs(goal, path);
-    let mut said = setting(reading, steps);
+    let mut said = String::new();
     if broken.at() == 0 {
         said += &format!("start\n{}{breaks}", row("at", &context(reading, Some(goal), path.xs[0])));
     }
@@ -125,24 +89,14 @@ fn count(number: usize, one: &str, many: &str) -> String {
     format!("{number} {}", if number == 1 { one } else { many })
 }
 
-/// Where rules have switches: that it is so in all their settings.
-pub fn in_all_settings(reading: &Reading) -> Option<String> {
-    let number = count(reading.switches.len(), "switch", "switches");
-    (!reading.switches.is_empty()).then(|| format!("in all settings of {number}"))
-}
-
-fn grounded(reading: &Reading, ground: &Ground, last: usize) -> String {
+fn grounded(ground: &Ground, last: usize) -> String {
     let Ground { contexts, valid, starts, ends, reached, leading, both, warnings } = ground;
-    let names = || reading.switches.iter().map(|&switch| setting::name(reading.names, switch)).collect::<Vec<_>>();
-    let settings = in_all_settings(reading).map(|words| format!("it holds {words}: {}\n", listed(&names())));
-    let [in_some, in_one] = if settings.is_some() { [" in some setting", " in one"] } else { [""; 2] };
-    let mut said = settings.unwrap_or_default();
-    said += &format!("{} of {} ρ and μ; ", valid, count(*contexts, "context meets", "contexts meet"));
+    let mut said = format!("{} of {} ρ and μ; ", valid, count(*contexts, "context meets", "contexts meet"));
     said += &format!("of these {} in σ0 and {ends} in σ{last}\n", count(*starts, "is", "are"));
     let reached = count(*reached, "is reached", "are reached");
     let leading = count(*leading, "leads", "lead");
-    said += &format!("{reached} from σ0 and {leading} to σ{last}{in_some}, with no exception met before; ");
-    said += &format!("{} both{in_one}\n", count(*both, "does", "do"));
+    said += &format!("{reached} from σ0 and {leading} to σ{last}, with no exception met before; ");
+    said += &format!("{} both\n", count(*both, "does", "do"));
     said + &warnings.iter().map(|warning| format!("warning: {warning}\n")).collect::<String>()
 }
 
@@ -156,7 +110,7 @@ pub fn checked(checked: &Checked, form: Form) -> String {
     match (form, &checked.ground) {
         (Form::Plain, _) => lines.clone(),
         (Form::Json, _) => format!("{}\n", as_json(checked)),
-        (_, Found::Nothing(ground)) => format!("{lines}\n{}", grounded(checked.reading, ground, checked.goal.n)),
+        (_, Found::Nothing(ground)) => format!("{lines}\n{}", grounded(ground, checked.goal.n)),
         (_, Found::Path { path, steps, broken, sort }) => format!("{lines}\n{}", walked(checked, path, steps, broken, *sort)),
     }
 }
@@ -168,20 +122,10 @@ fn as_json(checked: &Checked) -> Json {
         ("lines", list(checked.lines.lines(), text)),
         ("legs", list(0..checked.goal.n, |leg| text(if checked.goal.repeated(leg) { "repeated" } else { "one step" }))),
     ];
-    let Reading { names, switches, .. } = checked.reading;
     match &checked.ground {
-        Found::Nothing(ground) => {
-            if !switches.is_empty() {
-                fields.push(("switches", list(switches, |&switch| Json::Object(setting::switch_json(names, switch)))));
-            }
-            fields.push(("ground", ground_json(ground)));
-        }
+        Found::Nothing(ground) => fields.push(("ground", ground_json(ground))),
         Found::Path { path, steps, broken, sort } => {
             fields[1].1 = number(path.steps());
-            if !switches.is_empty() {
-                fields.extend(setting::json(names, switches, checked.reading.setting));
-                fields.push(("switched", list(switched(checked.reading, steps), switched_json)));
-            }
             fields.push(("contexts", list(&path.xs, |&x| context_json(checked.reading, Some(checked.goal), x))));
             fields.push(("walk", list(steps, |step| step_json(checked.reading, Some(checked.goal), step))));
             fields.push(("open_legs", list(walk::open_legs(checked.goal, path), |legs| list(legs, number))));
@@ -191,11 +135,6 @@ fn as_json(checked: &Checked) -> Json {
         }
     }
     Json::Object(fields)
-}
-
-/// A switched record of a path, and its steps.
-fn switched_json((record, steps): (usize, Vec<usize>)) -> Json {
-    Json::Object(vec![("record", number(record)), ("steps", list(steps, number))])
 }
 
 fn ground_json(ground: &Ground) -> Json {

@@ -4,7 +4,6 @@ use crate::ending::{unasked, Run};
 use crate::input::What;
 use crate::labels;
 use crate::names::{Names, Sort};
-use crate::setting::{is_on_word, position_word};
 use second_search::goal::Goal;
 use second_search::policy::Policy;
 
@@ -17,9 +16,6 @@ enum Slot {
     Class,
     /// permissions of the class that stands in the same line
     Mask,
-    Switch,
-    /// the position of a switch
-    Position,
 }
 
 /// The places of a line that have names, by the words that it begins with.
@@ -28,7 +24,6 @@ fn slots(words: &[&str]) -> &'static [(usize, Slot)] {
     match words {
         ["domain", ..] => &[(1, Type)],
         ["class" | "flow", ..] => &[(1, Class), (3, Mask)],
-        ["allow", _, _, _, _, "switch", ..] => &[(1, Type), (2, Type), (3, Class), (4, Mask), (6, Switch), (7, Position)],
         ["allow", ..] => &[(1, Type), (2, Type), (3, Class), (4, Mask)],
         ["role", ..] => &[(1, Role), (3, Type)],
         ["user", ..] => &[(1, User), (3, Role)],
@@ -75,8 +70,6 @@ fn to_number(names: &Names, word: &str, slot: Slot, class: u32) -> Result<String
         Slot::User => names.number(Sort::User, word)?,
         Slot::Class => names.number(Sort::Class, word)?,
         Slot::Mask => mask(names, word, class)?,
-        Slot::Switch => names.number(Sort::Switch, word)?,
-        Slot::Position => is_on_word(word)? as u32,
     };
     Ok(number.to_string())
 }
@@ -103,8 +96,6 @@ fn to_name(names: &Names, word: &str, slot: Slot, class: u32) -> String {
     let Ok(number) = word.parse() else { return word.to_string() };
     match slot {
         Slot::Mask => names.mask(class, number),
-        Slot::Switch => names.short(Sort::Switch, number),
-        Slot::Position => position_word(number == 1).to_string(),
         _ if number == 0 => "*".to_string(),
         Slot::Type => names.short(Sort::Type, number),
         Slot::Role => names.short(Sort::Role, number),

@@ -5,7 +5,6 @@ use crate::library;
 use crate::names::Names;
 use crate::policy::{Reading, Way};
 use crate::sets::listed;
-use crate::setting::settings;
 use flowgoal_calls::{Answer, Bare};
 use second_search::goal::Goal;
 use second_search::paths::{Path, Sort};
@@ -40,22 +39,13 @@ pub enum Reason {
     Early,
 }
 
-/// The setting of a path that breaks a goal, which is the lowest that has such a path: none of its switches that is on may be one that no
-/// rule names.
-pub fn setting(reading: &Reading) -> Run<()> {
-    match settings(&reading.switches).any(|setting| setting == reading.setting) {
-        true => Ok(()),
-        false => Err(bug(format!("a switch is on in the library's setting {} that no rule names", reading.setting))),
-    }
-}
-
-/// The steps of a path, each by the tool's own reading, which must give it a way of flow in the setting just as the library does.
+/// The steps of a path, each by the tool's own reading, which must give it a way of flow just as the library does.
 pub fn steps(reading: &Reading, image: &[u8], path: &Path) -> Run<Vec<Step>> {
     let mut steps = Vec::new();
     for (j, &event) in path.es.iter().enumerate() {
         let (from, to) = (path.xs[j], path.xs[j + 1]);
         let ways: Vec<Way> = Vec::from(reading.ways(from, to, event)).into_iter().filter(Way::flows).collect();
-        let said = library::bare(Bare::Flows, image, reading.setting, from, to, event)?;
+        let said = library::bare(Bare::Flows, image, from, to, event)?;
         if ways.is_empty() || said != Answer::Yes {
             let read = if ways.is_empty() { "no" } else { "yes" };
             return Err(bug(format!(

@@ -1,5 +1,5 @@
 //! `join` and `canonical`: policies that the library writes.
-use crate::args::{Args, Usage, NAMES};
+use crate::args::{Args, Usage};
 use crate::asked::{Refusal, Subject};
 use crate::check::Form;
 use crate::ending::{bug, End, Run};
@@ -12,9 +12,9 @@ pub const JOIN: Usage = Usage {
     name: "join",
     words: "MAKER BOARD RESULT [--overwrite] [--names FILE]",
     flags: &["--overwrite"],
-    values: &[NAMES],
+    values: &["--names"],
     help: "Writes the one policy that the maker's and the board's make together to RESULT, as an image, and prints written n, for its n
-bytes, or refused k and whose policy that is said of. A switch of the one is the switch of the same number of the other.
+bytes, or refused k and whose policy that is said of.
 
   --overwrite   RESULT may be there already
   --names FILE  names that a text uses (names.txt beside it, where it is there)
@@ -26,7 +26,7 @@ pub const CANONICAL: Usage = Usage {
     name: "canonical",
     words: "POLICY RESULT [--overwrite] [--names FILE]",
     flags: &["--overwrite"],
-    values: &[NAMES],
+    values: &["--names"],
     help: "Writes the canonical image of the policy to RESULT, and prints written n, for its n bytes, or refused k. Two policies have the
 same canonical image exactly when they say the same.
 

@@ -4,7 +4,6 @@ use Rattle.policy_image.specs.Policy.{policy_of}
 use Rattle.context.specs.declared.Event.{Event}
 use Rattle.context.specs.Inner.Coding.{Coded}
 use Rattle.context.proofs.CodeLaws.{coded_of}
-use Rattle.relations.specs.Settings.{in_setting}
 use Rattle.access.specs.Authorization.{authorized, clauses_of, all_hold}
 use Rattle.access.proofs.authorized.Statement.{statement}
 use Rattle.access.proofs.authorized.Tie as tie
@@ -18,7 +17,7 @@ returns : tie.Need-returns
 unfolding authorized
 returns c =
     let s = c.before.before.before.before in
-    let p = in_setting s.args.setting (policy_of s.args.policy.now) in
+    let p = policy_of s.args.policy.now in
     c.decide.ensures ∙ ap all_hold c.before.values.ensures
     ∙ ap (λ (e : Event). all_hold (clauses_of p e s.args.x s.args.y)) c.before.before.decode.ensures
 

@@ -59,14 +59,14 @@ returns_3 c =
     let A = c.before in
     let K = A.before.before.before in
     let p = passed A.before.before in
-    (p, asked_found (s K) (x K) (y K) (e K) p (start K).args.setting (start K).args.relation A.before.code.ensures A.holds.ensures c.if2.true)
+    (p, asked_found (s K) (x K) (y K) (e K) p (start K).args.relation A.before.code.ensures A.holds.ensures c.if2.true)
 
 returns_4 : tie.Need-returns-4
 returns_4 c =
     let A = c.before in
     let K = A.before.before.before in
     let p = passed A.before.before in
-    (p, asked_found (s K) (x K) (y K) (e K) p (start K).args.setting (start K).args.relation A.before.code.ensures A.holds.ensures c.if2.false)
+    (p, asked_found (s K) (x K) (y K) (e K) p (start K).args.relation A.before.code.ensures A.holds.ensures c.if2.false)
 
 pub ask_spec : {M : Type 1} → statement M
 ask_spec = tie.close (tie.spec (λ c κs. search rules) (λ c. search rules) (λ c. search rules) (λ c κs. search rules) returns (λ c κs. search rules) returns_2 code_requires holds_requires returns_3 returns_4)

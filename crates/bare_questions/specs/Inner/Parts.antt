@@ -3,7 +3,6 @@ use Rattle.std.specs.Prelude.{ℕ, Bool, List}
 use Rattle.policy_image.specs.Policy.{Policy, policy_of}
 use Rattle.context.specs.declared.Context.{Context}
 use Rattle.context.specs.declared.Event.{Event}
-use Rattle.relations.specs.Settings.{in_setting}
 use Rattle.access.specs.Authorization.{authorized, flow}
 use Rattle.bare_questions.specs.declared.Answer.{Answer}
 use Rattle.bare_questions.specs.declared.Relation.{Relation}
@@ -15,5 +14,5 @@ abbrev pub related : Relation → Policy → Event → Context → Context → B
 related Authorization = authorized
 related Flow = flow
 
-abbrev pub RelationAnswer : Relation → List ℕ → ℕ → Context → Context → Event → Answer → Type 0
-RelationAnswer a s k x y e r = BareAnswer s x y e (related a (in_setting k (policy_of s)) e x y) r
+abbrev pub RelationAnswer : Relation → List ℕ → Context → Context → Event → Answer → Type 0
+RelationAnswer a s x y e r = BareAnswer s x y e (related a (policy_of s) e x y) r

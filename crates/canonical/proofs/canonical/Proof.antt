@@ -112,8 +112,7 @@ write_requires c κs =
     let F = c.before.before.before in
     let K = counted F in
     let A = first F in
-    let T = (made K).make-table.ensures.1 in
-    can_be_written (s A) (room A) (passed A) T (of K) K.count-kinds.ensures (few F) (fits F) _ _ T
+    can_be_written (s A) (room A) (passed A) (made K).make-table.ensures.1 (of K) K.count-kinds.ensures (few F) (fits F)
     (λ i. omega (arith, (asked A).before.before.shared-slice-known.given i)) (omega (arith, few F, K.before.before.keys2.given)) (omega (arith, few F, K.before.masks2.given))
 
 returns_4 : tie.Need-returns-4

@@ -138,12 +138,11 @@ returns c =
     let E = ends (ended W) in
     let G = ready (known W) in
     let P = headed R in
-    let a = (start (known W)).args in
     all_put _ (Q.put-run2.auto.0 ∙ K.put-run.auto.0 ∙ R.put-rows.kept.0 ∙ P.put-header.kept.0) G.room
     (header_put (writable_lists G) (ended W).ends_of.result E (heads W).heads-of.result (heads W).heads-of.ensures (counts W) P.put-header.ensures)
     (kept_put G 8 (omega arith) (omega arith) _ refl (E 9 (omega arith)) (constraints_end K) (E 8 (omega arith))
     (kept_put G 7 (omega arith) (omega arith) _ refl (E 8 (omega arith)) (facts_are G) (E 8 (omega arith))
-    (rows_put _ a.keys.now a.masks.now G.table (ended W).ends_of.result E R.put-rows.ensures) K.put-run.ensures.1) Q.put-run2.ensures.1)
+    (rows_put _ G.table (ended W).ends_of.result E R.put-rows.ensures) K.put-run.ensures.1) Q.put-run2.ensures.1)
 
 pub write_spec : {M : Type 1} → statement M
 write_spec =

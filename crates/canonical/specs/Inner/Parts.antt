@@ -1,7 +1,6 @@
 -- What the parts of the canonical image hand on to each other.
 use Rattle.std.specs.Prelude.{ℕ, ◌≤◌, ◌≡◌, cond, List, leb, length, get_or}
 use Rattle.base.specs.Inner.AllBytes.{AllBytes}
-use Rattle.sorting.specs.Inner.Entries.{code_in}
 use Rattle.policy_image.specs.declared.counts.Counts.{Counts}
 use Rattle.policy_image.specs.Layout.{record_count, counts_of}
 use Rattle.policy_image.specs.Policy.{policy_of}
@@ -20,7 +19,7 @@ pub record Canonizable (s : List ℕ) (c : Counts) (keys masks : List ℕ) (m ou
   pub bytes : AllBytes s
   pub counts : c ≡ counts_of s
   pub size : c.records ≡ record_count s
-  pub table : FactTable (policy_of s) (code_in keys) (code_in masks) m
+  pub table : FactTable (policy_of s) keys masks m
   pub keyed : m ≤ length keys
   pub masked : m ≤ length masks
   pub few : (canonical_of (policy_of s)).size ≤ most_records

@@ -1,5 +1,4 @@
--- "A canonical policy image" (paper 02, e, with the switches of g): its claims, of all policies whose canonical image is written. What stands in
--- quotes is the paper's.
+-- "A canonical policy image" (paper 02, e): its claims, of all policies whose canonical image is written. What stands in quotes is the paper's.
 -- proofs/Theorems.antt proves them.
 use Rattle.std.specs.Prelude.{ℕ, ◌≤◌, ◌<◌, ◌≡◌, List, ◌↔◌, length}
 use Rattle.base.specs.Bytes.{byte_at}
@@ -12,7 +11,6 @@ use Rattle.canonical.specs.Canonical.{canonical_image, canonical_questions}
 use Rattle.context.specs.declared.Context.{Context}
 use Rattle.context.specs.declared.Event.{Event}
 use Rattle.relations.specs.Relations.{Γ, write_like, read_like, allowed, α, ρ, μ, role_change}
-use Rattle.relations.specs.Settings.{in_setting}
 use Rattle.constraints.specs.Constraints.{constraints_hold}
 use Rattle.access.specs.Authorization.{χ, role_rule, authorized, flow}
 use Rattle.bare_questions.specs.declared.Answer.{Answer}
@@ -55,13 +53,13 @@ pub record SameRelations (p q : Policy) : Type 0 where
   pub authorizes : (e : Event) (x y : Context) → authorized p e x y ≡ authorized q e x y
   pub flows : (e : Event) (x y : Context) → flow p e x y ≡ flow q e x y
 
--- the answers that are promised of one image are those of the other, whatever else is asked with or lent: of both bare questions and of least
--- steps, in every setting k, and of the goal question, refusals among them
+-- the answers that are promised of one image are those of the other, whatever else is asked with or lent: of both bare questions, of least steps
+-- and of the goal question, refusals among them
 pub record SameAnswers (s t : List ℕ) : Type 0 where
-  pub authorization : (k : ℕ) (x y : Context) (e : Event) (r : Answer) → AuthorizationAnswer s k x y e r ↔ AuthorizationAnswer t k x y e r
-  pub flows : (k : ℕ) (x y : Context) (e : Event) (r : Answer) → FlowAnswer s k x y e r ↔ FlowAnswer t k x y e r
-  pub steps : (k : ℕ) (x y : Context) (work1 work2 : ℕ) (before after : List ℕ) (r : Steps)
-      → StepsPromise s k x y work1 work2 before after r ↔ StepsPromise t k x y work1 work2 before after r
+  pub authorization : (x y : Context) (e : Event) (r : Answer) → AuthorizationAnswer s x y e r ↔ AuthorizationAnswer t x y e r
+  pub flows : (x y : Context) (e : Event) (r : Answer) → FlowAnswer s x y e r ↔ FlowAnswer t x y e r
+  pub steps : (x y : Context) (work1 work2 : ℕ) (before after : List ℕ) (r : Steps)
+      → StepsPromise s x y work1 work2 before after r ↔ StepsPromise t x y work1 work2 before after r
   pub goal : (g : List ℕ) (work1 work2 : ℕ) (before after : List ℕ) (r : Outcome)
       → GoalPromise s g work1 work2 before after r ↔ GoalPromise t g work1 work2 before after r
 
@@ -71,6 +69,6 @@ pub record CanonicalClaims : Type 0 where
   pub equal_bytes : (s t : List ℕ) → ImageWritten s → ImageWritten t → (canonical_image s ≡ canonical_image t) ↔ Same (policy_of s) (policy_of t)
   -- "Writing twice changes nothing."
   pub twice : (s : List ℕ) → ImageWritten s → WritingTwice s
-  -- "Every authorization answer survives the writing.": in every setting
-  pub relations : (s : List ℕ) → ImageWritten s → (k : ℕ) → SameRelations (in_setting k (policy_of s)) (in_setting k (policy_of (canonical_image s)))
+  -- "Every authorization answer survives the writing."
+  pub relations : (s : List ℕ) → ImageWritten s → SameRelations (policy_of s) (policy_of (canonical_image s))
   pub answers : (s : List ℕ) → ImageWritten s → SameAnswers s (canonical_image s)

@@ -4,8 +4,7 @@ use Rattle.policy_image.specs.declared.counts.Counts.{Counts}
 use Rattle.context.specs.Inner.Places.{context_count}
 use Rattle.goal_image.specs.declared.check.Legs.{Legs}
 use Rattle.paths.specs.Model.{Model}
-use Rattle.paths.specs.Paths.{SomeOrder, SomeEvents}
-use Rattle.paths.specs.Cases.OneModel.{OrderAt, EventsAt}
+use Rattle.paths.specs.Paths.{SomeOrder, SomeEvents, OrderAt, EventsAt}
 use Rattle.paths.specs.Inner.Least.{at}
 use Rattle.paths.specs.Inner.Verdict.{Verdict, holds, order, events}
 use Rattle.search_graph.specs.declared.monitor.Mode.{Mode}

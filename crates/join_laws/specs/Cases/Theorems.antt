@@ -5,13 +5,12 @@ use Rattle.base.specs.Bytes.{byte_at}
 use Rattle.base.specs.Questions.{AllYes}
 use Rattle.policy_image.specs.declared.counts.Counts.{Counts}
 use Rattle.policy_image.specs.Layout.{counts_of}
-use Rattle.policy_image.specs.Policy.{Policy, policy_of}
+use Rattle.policy_image.specs.Policy.{policy_of}
 use Rattle.policy_check.specs.Questions.{policy_questions}
 use Rattle.policy_lists.specs.Joined.{larger}
 use Rattle.join.specs.Join.{joined_image, join_questions}
 use Rattle.context.specs.declared.Context.{Context}
 use Rattle.context.specs.declared.Event.{Event}
-use Rattle.relations.specs.Settings.{in_setting}
 use Rattle.access.specs.Authorization.{authorized, flow}
 use Rattle.join_laws.specs.Cases.Both.{TakenTogether, authorized_both, flow_both}
 
@@ -30,20 +29,16 @@ pub record LargerOfEach (result maker board : Counts) : Type 0 where
   pub users : result.users ≡ larger maker.users board.users
   pub classes : result.classes ≡ larger maker.classes board.classes
 
--- the policy of an image in a setting
-abbrev pub policy_in : ℕ → List ℕ → Policy
-policy_in setting s = in_setting setting (policy_of s)
-
 pub record JoinClaims : Type 0 where
   -- the result passes the checks, so that every call takes it
   pub passes : (s t : List ℕ) → ImageJoined s t → AllYes (policy_questions (joined_image s t))
   -- "The result's counts are the larger of each pair."
   pub counts : (s t : List ℕ) → ImageJoined s t → LargerOfEach (counts_of (joined_image s t)) (counts_of s) (counts_of t)
   -- "Its relations are those of both record lists taken together: allows add, constraints all apply, and a type that either calls a domain is
-  -- one." In every setting: "joined policies share switch numbers" (paper 02, g)
-  pub together : (s t : List ℕ) → ImageJoined s t → (k : ℕ) → TakenTogether (policy_in k (joined_image s t)) (policy_in k s) (policy_in k t)
+  -- one."
+  pub together : (s t : List ℕ) → ImageJoined s t → TakenTogether (policy_of (joined_image s t)) (policy_of s) (policy_of t)
   -- "Authorization in the result is judged on this joined list"
-  pub authorizes : (s t : List ℕ) → ImageJoined s t → (k : ℕ) (e : Event) (x y : Context)
-      → authorized (policy_in k (joined_image s t)) e x y ≡ authorized_both (policy_in k s) (policy_in k t) e x y
-  pub flows : (s t : List ℕ) → ImageJoined s t → (k : ℕ) (e : Event) (x y : Context)
-      → flow (policy_in k (joined_image s t)) e x y ≡ flow_both (policy_in k s) (policy_in k t) e x y
+  pub authorizes : (s t : List ℕ) → ImageJoined s t → (e : Event) (x y : Context)
+      → authorized (policy_of (joined_image s t)) e x y ≡ authorized_both (policy_of s) (policy_of t) e x y
+  pub flows : (s t : List ℕ) → ImageJoined s t → (e : Event) (x y : Context)
+      → flow (policy_of (joined_image s t)) e x y ≡ flow_both (policy_of s) (policy_of t) e x y

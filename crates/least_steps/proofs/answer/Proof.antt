@@ -1,8 +1,7 @@
 use native.Mathlib.Omega.{arith}
 use lib.ListN.{length-take}
 use Rattle.plan.proofs.ContextLaws.{plan_counts}
-use Rattle.plan.proofs.PlanLaws.{prepared}
-use Rattle.plan.proofs.RuledLaws.{ruled_in}
+use Rattle.plan.proofs.PlanLaws.{prepared, all_ruled}
 use Rattle.search.specs.Inner.Found.{unbounded}
 use Rattle.least_steps.proofs.AskedLaws.{passed_ready, passed_range, passed_room}
 use Rattle.least_steps.proofs.AnswerLaws.{one_state, ends_over, any_given, promised}
@@ -12,11 +11,8 @@ use Rattle.least_steps.proofs.answer.Tie as tie
 
 -- what is known where the rules are put
 module _ (K : tie.After-put-rules) where
-  abbrev counted : tie.After-counted-in
-  counted = K.before.before.before
-
   abbrev put : tie.After-put-ends
-  put = counted.before.before
+  put = K.before.before.before.before
 
   abbrev made : tie.After-make-plan
   made = put.before.before.before
@@ -32,14 +28,9 @@ put_ends_requires c κs =
     let P = c.before.before.before.before.before.before.before.before.requires in
     ((passed_range P).first, (passed_range P).second, plan_counts (passed_ready P), omega arith)
 
-counted_in_requires : tie.Need-counted-in-requires
-counted_in_requires c κs =
-    let made = c.before.before.before.before in
-    (passed_ready made.before.before.before.before.before.before.requires).sound
-
 put_rules_requires : tie.Need-put-rules-requires
 put_rules_requires c κs =
-    let put = c.before.before.before.before in
+    let put = c.before.before.before in
     let made = put.before.before.before in
     let P = made.before.before.before.before.before.before.requires in
     let E = put.put-ends.ensures in
@@ -57,7 +48,7 @@ search_requires c κs =
     let count = clear.before.before.before in
     let K = count.before.before in
     let P = (start K).requires in (
-      any_given P K.put-rules.ensures.planned,
+      any_given P K.put-rules.ensures.planned (ends_over (start K).requires K.put-rules.ensures (put K).put-ends.ensures.ends) (all_ruled K.put-rules.ensures),
       record {
         queue_room = omega (arith, one_state (start K).args.counts, (passed_room P).first);
         back_room = omega (arith, one_state (start K).args.counts, count.count.ensures, slice_aggregate_back clear.before.before, c.before.before.before.before.back2.given);
@@ -72,7 +63,7 @@ show_found_requires c κs =
     let count = clear.before.before.before in
     let K = count.before.before in
     let P = (start K).requires in (
-      any_given P K.put-rules.ensures.planned,
+      any_given P K.put-rules.ensures.planned (ends_over (start K).requires K.put-rules.ensures (put K).put-ends.ensures.ends) (all_ruled K.put-rules.ensures),
       record { bound = unbounded; found = found.search.ensures.0 },
       omega (arith, one_state (start K).args.counts, count.count.ensures, slice_aggregate_back clear.before.before, found.before.before.before.before.before.back2.given, c.before.before.before.before.back3.given),
     )
@@ -83,8 +74,7 @@ returns c =
     let found = shown.before.before.before.before.before.before.before.before in
     let K = found.before.before.before.before.before.before.before.before.before.before.before in
     rw c.steps_of.ensures
-    (promised (start K).requires K.put-rules.ensures.planned (ends_over (start K).requires K.put-rules.ensures (put K).put-ends.ensures.ends)
-    (start K).args.setting (ruled_in K.put-rules.ensures (start K).args.setting (counted K).counted-in.ensures) _ found.search.result.found found.search.ensures.0 _ _ shown.show-found.result shown.show-found.ensures)
+    (promised (start K).requires K.put-rules.ensures.planned (ends_over (start K).requires K.put-rules.ensures (put K).put-ends.ensures.ends) (all_ruled K.put-rules.ensures) _ found.search.result.found found.search.ensures.0 _ _ shown.show-found.result shown.show-found.ensures)
 
 pub answer_spec : {M : Type 1} → statement M
-answer_spec = tie.close (tie.spec (λ c. search rules) make_plan_requires (λ c. search rules) put_ends_requires counted_in_requires (λ c. search rules) put_rules_requires (λ c κs. search rules) (λ c. search rules) slice_relend_prefix_back slice_aggregate_back (λ c κs. search rules) (λ c. search rules) search_requires (λ c. search rules) show_found_requires (λ c κs. search rules) (λ c. search rules) (λ c. search rules) (λ c. search rules) returns)
+answer_spec = tie.close (tie.spec (λ c. search rules) make_plan_requires (λ c. search rules) put_ends_requires (λ c. search rules) put_rules_requires (λ c κs. search rules) (λ c. search rules) slice_relend_prefix_back slice_aggregate_back (λ c κs. search rules) (λ c. search rules) search_requires (λ c. search rules) show_found_requires (λ c κs. search rules) (λ c. search rules) (λ c. search rules) (λ c. search rules) returns)

@@ -1,8 +1,7 @@
 -- The answers to a goal that is not refused: "holds", "order m", "events m" (paper 01).
 use Rattle.std.specs.Prelude.{ℕ}
 use Rattle.paths.specs.Model.{Model}
-use Rattle.paths.specs.Paths.{Holds}
-use Rattle.paths.specs.Cases.OneModel.{OrderAt, EventsAt}
+use Rattle.paths.specs.Paths.{Holds, OrderAt, EventsAt}
 
 pub data Verdict : Type 0 where
   holds : Verdict

@@ -7,7 +7,7 @@ use Rattle.base.specs.Ranges.{Within}
 use Rattle.policy_image.specs.declared.counts.Counts.{Counts}
 use Rattle.policy_image.specs.Layout.{counts_of}
 use Rattle.policy_image.specs.Policy.{Policy, policy_of}
-use Rattle.policy_image.specs.Counting.{counting}
+use Rattle.policy_image.specs.Inner.Counting.{counting}
 use Rattle.policy_image.specs.OfKind.{some}
 use Rattle.policy_check.specs.Inner.Sound.{Sound}
 use Rattle.context.specs.declared.Event.{Event}

@@ -4,7 +4,7 @@ use Rattle.base.specs.Bits.{bit}
 use Rattle.base.specs.Ranges.{Within}
 use Rattle.policy_image.specs.declared.counts.Counts.{Counts}
 use Rattle.policy_image.specs.Policy.{Policy, policy_of}
-use Rattle.policy_image.specs.Counting.{counting}
+use Rattle.policy_image.specs.Inner.Counting.{counting}
 use Rattle.plan_index.specs.Inner.Counting.{is_counted}
 use Rattle.plan_index.specs.Inner.Meaning.{AllowIndex}
 use Rattle.plan.specs.Inner.Regions.{first_entries, block_entries, groups_start, roles_start, event_sets_start, alike_start, counted_start, first_start, type_special_start, leads_start, type_codes}

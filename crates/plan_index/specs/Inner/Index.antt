@@ -3,7 +3,7 @@
 use Rattle.std.specs.Prelude.{◌≡◌, List, ℕ, ◌/◌, ◌%◌, ◌≤◌, ◌<◌, get_or}
 use Rattle.base.specs.Ranges.{Within}
 -- what is said of entries in general
-pub use Rattle.sorting.specs.Inner.Entries.{code_in, Bears, RisingKeys}
+pub use Rattle.sorting.specs.Inner.Entries.{Bears, RisingKeys}
 use Rattle.plan_index.specs.Inner.Codes.{type_codes, key_code}
 
 -- an entry of the block lo .. hi has the key k
@@ -20,5 +20,5 @@ pub record Ranged (types k : ℕ) : Type 0 where
 
 -- the masks of a block say for class c, other type o and permission q just what R says
 pub record MasksShow (R : ℕ → ℕ → ℕ → Type 0) (keys masks : List ℕ) (lo hi : ℕ) : Type 0 where
-  pub sound : (k q : ℕ) → q < 32 → Bears (code_in keys) (code_in masks) lo hi k q → R (k / type_codes) (k % type_codes) q
-  pub whole : (c o q : ℕ) → c < 32 → o < type_codes → q < 32 → R c o q → Bears (code_in keys) (code_in masks) lo hi (key_code c o) q
+  pub sound : (k q : ℕ) → q < 32 → Bears keys masks lo hi k q → R (k / type_codes) (k % type_codes) q
+  pub whole : (c o q : ℕ) → c < 32 → o < type_codes → q < 32 → R c o q → Bears keys masks lo hi (key_code c o) q

@@ -5,13 +5,13 @@ use Rattle.policy_image.specs.Policy.{Policy}
 use Rattle.context.specs.declared.Event.{Event}
 use Rattle.context.specs.Codes.{event_at}
 use Rattle.relations.specs.Relations.{α}
-use Rattle.plan_index.specs.Inner.Index.{code_in, Has, Ranged, RisingKeys, MasksShow}
+use Rattle.plan_index.specs.Inner.Index.{Has, Ranged, RisingKeys, MasksShow}
 
 -- the block of the type t by a relation A, an entry for each class and other type in rising order: `writes` has all that A lets t do
 -- to the other, `reads` all that A lets the other do to t, for each class below 32, type below 4,096 and permission below 32
 pub record BlockOf (A : ℕ → ℕ → Event → Bool) (p : Policy) (t : ℕ) (keys ws rs : List ℕ) (lo hi : ℕ) : Type 0 where
   pub order : lo ≤ hi
-  pub sorted : RisingKeys (code_in keys) lo hi
+  pub sorted : RisingKeys keys lo hi
   pub ranged : (k : ℕ) → Has keys lo hi k → Ranged p.counts.types k
   pub writes : MasksShow (λ c o q. A t o (event_at c q) ≡ true) keys ws lo hi
   pub reads : MasksShow (λ c o q. A o t (event_at c q) ≡ true) keys rs lo hi

@@ -3,7 +3,7 @@ use Rattle.std.specs.Prelude.{◌≡◌, List, ℕ, ◌+◌, ◌/◌, ◌%◌, �
 use Rattle.base.specs.Ranges.{Within}
 use Rattle.plan_tables.specs.Inner.Tables.{type_entries}
 use Rattle.plan_index.specs.Inner.Codes.{key_codes, items}
-use Rattle.plan_index.specs.Inner.Index.{code_in, RisingKeys}
+use Rattle.plan_index.specs.Inner.Index.{RisingKeys}
 
 -- the type in whose block entry j is, by its whole code
 abbrev pub own_of : List ℕ → ℕ → ℕ
@@ -15,7 +15,7 @@ pub record Splittable (types m : ℕ) (first codes : List ℕ) : Type 0 where
   pub few_types : types < type_entries
   pub few : m ≤ length codes
   pub small : m ≤ items
-  pub sorted : RisingKeys (code_in codes) 0 m
+  pub sorted : RisingKeys codes 0 m
   pub own : (j : ℕ) → j < m → Within 1 types (own_of codes j)
 
 -- the entries of the types from t on start at f

@@ -1,6 +1,6 @@
 -- Items with the same code become one entry.
 use Rattle.std.specs.Prelude.{List, ℕ, ◌≤◌, length}
-use Rattle.sorting.specs.Inner.Entries.{code_in, EntryKeys, Unites}
+use Rattle.sorting.specs.Inner.Entries.{EntryKeys, Unites}
 use Rattle.plan_index.specs.Inner.Codes.{items}
 
 -- room for an entry for each item
@@ -11,6 +11,6 @@ pub record EntryRoom (keys ws rs : List ℕ) : Type 0 where
 
 -- the m entries have the codes of the first n items, and two masks: what the items give to one side, and what they give to the other
 pub record UnitedItems (code write read : ℕ → ℕ) (n : ℕ) (keys ws rs : List ℕ) (m : ℕ) : Type 0 where
-  pub entries : EntryKeys code n (code_in keys) m
-  pub writes : Unites code write n (code_in keys) (code_in ws) m
-  pub reads : Unites code read n (code_in keys) (code_in rs) m
+  pub entries : EntryKeys code n keys m
+  pub writes : Unites code write n keys ws m
+  pub reads : Unites code read n keys rs m

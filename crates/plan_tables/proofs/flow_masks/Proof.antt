@@ -10,5 +10,5 @@ flow_masks_spec =
     tie.close
     (tie.spec
     (λ c. search rules)
-    (λ c κs. let S = c.before.before.requires in gathers _ S 3 31 32 refl (λ op switch. S.range.classes.high))
+    (λ c κs. let S = c.before.before.requires in gathers _ S 3 31 32 refl (λ op. S.range.classes.high))
     (λ c. flow_means _ _ 32 _ c.before.gather.ensures))

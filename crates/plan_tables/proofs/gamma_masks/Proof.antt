@@ -10,5 +10,5 @@ gamma_masks_spec =
     tie.close
     (tie.spec
     (λ c. search rules)
-    (λ c κs. let S = c.before.before.requires in gathers _ S 2 31 32 refl (λ op switch. S.range.classes.high))
+    (λ c κs. let S = c.before.before.requires in gathers _ S 2 31 32 refl (λ op. S.range.classes.high))
     (λ c. gamma_means _ _ 32 _ c.before.gather.ensures))

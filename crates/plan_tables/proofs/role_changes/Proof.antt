@@ -11,7 +11,7 @@ gather_requires : tie.Need-gather-requires
 gather_requires c κs =
     let S = c.before.before.before.requires in
     let n = length c.before.own-roles.result in
-    gathers _ S 7 15 n (lt-ltb 15 n (omega arith)) (λ op switch. S.range.roles.high)
+    gathers _ S 7 15 n (lt-ltb 15 n (omega arith)) (λ op. S.range.roles.high)
 
 returns : tie.Need-returns
 returns c = changes_mean _ _ _ _ c.before.before.before.own-roles.ensures c.before.gather.ensures

@@ -11,7 +11,7 @@ gather_requires : tie.Need-gather-requires
 gather_requires c κs =
     let S = c.before.before.before.before.before.requires in
     let n = length c.before.object-roles.result in
-    gathers _ S 5 255 n (lt-ltb 255 n (omega arith)) (λ op switch. S.range.types.high)
+    gathers _ S 5 255 n (lt-ltb 255 n (omega arith)) (λ op. S.range.types.high)
 
 returns : tie.Need-returns
 returns c =

@@ -10,5 +10,5 @@ user_table_spec =
     tie.close
     (tie.spec
     (λ c. search rules)
-    (λ c κs. let S = c.before.before.requires in gathers _ S 6 15 16 refl (λ op switch. S.range.users.high))
+    (λ c κs. let S = c.before.before.requires in gathers _ S 6 15 16 refl (λ op. S.range.users.high))
     (λ c. users_mean _ _ _ c.before.gather.ensures))

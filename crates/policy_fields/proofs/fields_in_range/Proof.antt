@@ -22,7 +22,7 @@ abbrev decreases_loop : tie.decreases-loop
 decreases_loop image counts n i₀ i = n + 1 - i
 
 -- the limits as computed for the record as read are those of the policy's record
-fits_of : (p : Policy) (n : Counts) (l : Limits) (r s : Record) → n ≡ p.counts → l ≡ limits_of n r.kind r.a r.d → r ≡ s → WithinLimits l r ≡ Fits p.counts s
+fits_of : (p : Policy) (n : Counts) (l : Limits) (r s : Record) → n ≡ p.counts → l ≡ limits_of n r.kind r.a → r ≡ s → WithinLimits l r ≡ Fits p.counts s
 fits_of p n l r s e f g =
     ap (λ (x : Limits). WithinLimits x r) f ∙ ap (λ (m : Counts). Fits m r) e ∙ ap (λ (q : Record). Fits p.counts q) g
 

@@ -3,7 +3,6 @@ use mathlib.Core.Bool.{true}
 use borrow.Author.Rules.{rules}
 use borrow.Author.Tests.{not-true, not-false}
 use Rattle.policy_image.specs.Policy.{policy_of}
-use Rattle.policy_image.specs.OfKind.{some}
 use Rattle.policy_sources.specs.Sources.{domain}
 use Rattle.relations.specs.Relations.{Γ, α}
 use Rattle.relations.proofs.alpha.Statement.{statement}
@@ -17,15 +16,15 @@ event : (E : tie.Else2) → Γ (policy_of E.before.before.before.before.before.a
 event E = sym E.before.gamma.ensures ∙ not-false E.before.gamma.result E.if2.false
 
 returns : tie.Need-returns
-unfolding α Γ domain some
+unfolding α
 returns c = rw (← c.before.is-domain.ensures, not-true c.before.is-domain.result c.if1.true)
 
 returns_2 : tie.Need-returns-2
-unfolding α Γ domain some
+unfolding α
 returns_2 c = rw (source c.before.before, ← c.before.gamma.ensures, not-true c.before.gamma.result c.if2.true)
 
 returns_3 : tie.Need-returns-3
-unfolding α Γ domain some
+unfolding α
 returns_3 c =
     let E2 = c.before.before in
     let E1 = E2.before.before in

@@ -1,13 +1,12 @@
 -- What the loops over the records of a kind look for. These definitions serve the contracts of the leaves; the relations are
 -- stated without them.
-use Rattle.std.specs.Prelude.{ℕ, ◌≤◌, ◌≡◌, Bool, false, ◌&&◌, ◌||◌, List, [], ◌∷◌, eqb, get_or}
+use Rattle.std.specs.Prelude.{ℕ, ◌≡◌, Bool, false, ◌&&◌, ◌||◌, List, [], ◌∷◌, eqb, get_or}
 use Rattle.base.specs.Bits.{bit}
 use Rattle.policy_image.specs.declared.records.Record.{Record}
 use Rattle.policy_image.specs.Policy.{Policy}
 use Rattle.policy_image.specs.OfKind.{some}
 use Rattle.relations.specs.declared.facts.Fact.{Fact}
 use Rattle.relations.specs.Relations.{target_of, allowed}
-use Rattle.relations.specs.Settings.{applies}
 
 abbrev pub unstated : Record → Bool
 unstated r = false
@@ -19,7 +18,7 @@ statements f =
     ∷ (λ r. eqb r.a f.a)
     ∷ (λ r. eqb r.a f.a)
     ∷ (λ r. eqb r.a f.a && (eqb r.b f.b || eqb r.b 3))
-    ∷ (λ r. (eqb r.a f.a && (eqb (target_of r) f.b && eqb r.c f.c)) && applies f.setting r)
+    ∷ (λ r. eqb r.a f.a && (eqb (target_of r) f.b && eqb r.c f.c))
     ∷ (λ r. eqb r.a f.a && eqb r.b f.b)
     ∷ (λ r. eqb r.a f.a && eqb r.b f.b)
     ∷ (λ r. eqb r.a f.a && eqb r.b f.b)
@@ -30,10 +29,6 @@ stated_as f k = get_or (statements f) k unstated
 
 abbrev pub states : Fact → Record → Bool
 states f r = stated_as f f.kind r
-
--- where the fact is one of allow records, the record's switch is a bit of the setting
-abbrev pub Switched : Fact → Record → Type 0
-Switched f r = f.kind ≡ 4 → r.d ≤ 8
 
 -- m is the union of the masks of the records that state the fact
 pub record United (p : Policy) (f : Fact) (m : ℕ) : Type 0 where

@@ -1,5 +1,5 @@
 -- The model that a search goes by: flow, ρ and μ of the policy, and the sets of the plan, whatever they were made of. Where they were made of a
--- goal, it has the paths of the policy and the goal (`same_model` in goal_settings/proofs/ModelLaws.antt). Where they were made of two contexts, its
+-- goal, it has the paths of the policy and the goal (`same_model` in goal_question/proofs/ModelLaws.antt). Where they were made of two contexts, its
 -- paths are the flow paths from the first that meet the second at their end alone (`flow_path`, `cut_path` in least_steps/proofs/PathLaws.antt).
 use Rattle.std.specs.Prelude.{Bool, not, ◌&&◌, List, ℕ}
 use Rattle.base.specs.Bits.{bit}

@@ -1,5 +1,5 @@
 -- W1 to W12 (paper 01) as results of the outward calls: what every number that their promises allow is.
-use Rattle.std.specs.Prelude.{ℕ, ◌+◌, ◌*◌, ◌^◌, ◌≤◌, ◌<◌, List, ◌⊎◌, ◌≡◌, length, get_or}
+use Rattle.std.specs.Prelude.{ℕ, ◌+◌, ◌*◌, ◌≤◌, ◌<◌, List, ◌⊎◌, ◌≡◌, length, get_or}
 use Rattle.base.specs.Numbers.{Numbered}
 use Rattle.base.specs.Questions.{AllYes, RefusedWith}
 use Rattle.policy_image.specs.Layout.{PolicyExact, counts_of, record_count, record_of}
@@ -30,15 +30,10 @@ SaysHolds s g = (before after : List ℕ) (n : ℕ) → Gives s g 32 32 before a
 abbrev pub Refuses : List ℕ → List ℕ → ℕ → ℕ → ℕ → Type 0
 Refuses s g work1 work2 k = (before after : List ℕ) (n : ℕ) → Gives s g work1 work2 before after n → (n ≡ 4 * k + 3) × (after ≡ before)
 
--- a path of m steps breaks the goal, in a setting: with room for it 256m + answer, and "the setting sits at 2^40 times itself" (paper 02, g);
--- without, 256m + 51, which has no setting, and the path slice is as it was
-pub record SaysBrokenIn (s g : List ℕ) (m answer setting : ℕ) : Type 0 where
-  pub room : (before after : List ℕ) (n : ℕ) → 2 * m + 1 ≤ length before → Gives s g 32 32 before after n → n ≡ 2 ^ 40 * setting + 256 * m + answer
+-- a path of m steps breaks the goal: with room for it, 256m + answer; without, 256m + 51, and the path slice is as it was
+pub record SaysBroken (s g : List ℕ) (m answer : ℕ) : Type 0 where
+  pub room : (before after : List ℕ) (n : ℕ) → 2 * m + 1 ≤ length before → Gives s g 32 32 before after n → n ≡ 256 * m + answer
   pub no_room : (before after : List ℕ) (n : ℕ) → length before < 2 * m + 1 → Gives s g 32 32 before after n → (n ≡ 256 * m + 51) × (after ≡ before)
-
--- where no rule has a switch the setting is 0
-abbrev pub SaysBroken : List ℕ → List ℕ → ℕ → ℕ → Type 0
-SaysBroken s g m answer = SaysBrokenIn s g m answer 0
 
 -- W5's path slice
 pub record Prints (before after : List ℕ) : Type 0 where
@@ -68,9 +63,9 @@ pub record WeirCalled : Type 0 where
   pub w8 : SaysHolds weir no_start
   -- "W9 an added allow 3 on 1 read authorizes nothing.", which paper 02, b, "turns .. into a refusal": 14 by each call, whatever it is asked besides,
   -- in range or not (of the canonical image: weir_canonical, `CanonicalCalled`)
-  pub w9_authorized : (setting : ℕ) (x y : Context) (e : Event) (n : ℕ) → Numbered number_of (AuthorizationAnswer weir_allow31 setting x y e) n → n ≡ 4 * 14 + 3
-  pub w9_flows : (setting : ℕ) (x y : Context) (e : Event) (n : ℕ) → Numbered number_of (FlowAnswer weir_allow31 setting x y e) n → n ≡ 4 * 14 + 3
-  pub w9_steps : (setting : ℕ) (x y : Context) (work1 work2 : ℕ) → RefusesSteps weir_allow31 setting x y work1 work2 14
+  pub w9_authorized : (x y : Context) (e : Event) (n : ℕ) → Numbered number_of (AuthorizationAnswer weir_allow31 x y e) n → n ≡ 4 * 14 + 3
+  pub w9_flows : (x y : Context) (e : Event) (n : ℕ) → Numbered number_of (FlowAnswer weir_allow31 x y e) n → n ≡ 4 * 14 + 3
+  pub w9_steps : (x y : Context) (work1 work2 : ℕ) → RefusesSteps weir_allow31 x y work1 work2 14
   pub w9_check : (g : List ℕ) (work1 work2 : ℕ) → Refuses weir_allow31 g work1 work2 14
   -- .. as the maker's, whatever the board's is, and as the board's, where the maker's passes
   pub w9_join_maker : (t before after : List ℕ) (n : ℕ) → Numbered writing_number (JoinPromise weir_allow31 t before after) n

@@ -13,7 +13,7 @@ use Rattle.context.specs.Codes.{context_at as at, event_at as event}
 use Rattle.relations.specs.Relations.{ρ}
 use Rattle.access.specs.Authorization.{authorized}
 use Rattle.goal_image.specs.Cases.WeirGoal.{goal_g}
-use Rattle.paths.specs.Settings.{settings, HoldsInAll, OrderIn}
+use Rattle.paths.specs.Paths.{Holds, OrderAt}
 use Rattle.policy_lists.specs.Joined.{joined}
 use Rattle.policy_writing.specs.Writing.{writing_number}
 use Rattle.join.specs.Join.{joined_image, join_questions, JoinPromise}
@@ -43,8 +43,8 @@ pub record JoinCases : Type 0 where
   -- "allows add": the board's "4 on 1 read" breaks G as in W5. ".. a board repeats the domain records that it uses": a record that both have is
   -- written twice. With the board left out, or its records unlinked, G would hold
   pub read : JoinIs weir board_read weir_read
-  pub read_before : Answered weir goal_g (λ M. HoldsInAll M settings)
-  pub read_after : Answered (joined_image weir board_read) goal_g (λ M. OrderIn M settings 1 0)
+  pub read_before : Answered weir goal_g Holds
+  pub read_after : Answered (joined_image weir board_read) goal_g (λ M. OrderAt M 1)
   pub read_slice : (before after : List ℕ) (r : Outcome) → 3 ≤ length before → GoalPromise (joined_image weir board_read) goal_g 32 32 before after r
       → W5Slice before after r
   -- "a board's constraint may take away what the maker allowed": 2 on 1 read, and not 4 on 3 read. Judged on the maker's list it would stay

@@ -10,8 +10,7 @@ use Rattle.access.specs.Authorization.{χ, authorized, flow}
 use Rattle.access.specs.Cases.Gate.{gate}
 use Rattle.access.specs.Cases.Readers.{readers}
 use Rattle.goal_image.specs.Cases.WeirGoal.{goal_g}
-use Rattle.paths.specs.Paths.{Holds}
-use Rattle.paths.specs.Cases.OneModel.{OrderAt, EventsAt}
+use Rattle.paths.specs.Paths.{Holds, OrderAt, EventsAt}
 use Rattle.paths.specs.Cases.Drawn.{drawn_model, except, failing, only}
 use Rattle.paths.specs.Cases.Drawings.{self_release, start_in_first, one_leg, start_too_early, mid_too_early, highest_alone, lowest_alone, one_step_stays, repeated_stays, no_step, middle_event, wrong_place, bad, end_goes_on, out_of_range, met_twice, tie, fewest}
 use Rattle.goal_model.specs.Images.{model}
@@ -92,11 +91,11 @@ pub record OwnCases : Type 0 where
   pub met_twice_lem : EventsAt (drawn_model met_twice) 2
   pub order_on_a_tie : OrderAt (drawn_model tie) 1
   pub fewest_steps : EventsAt (drawn_model fewest) 1
-  -- ---- paths over images, in setting 0: no rule has a switch
-  pub goal_g_lem : Holds (model weir goal_g 0)
-  pub zero_is_any : EventsAt (model weir write_only 0) 3
-  pub any_class_lem : Holds (model weir any_class 0)
-  pub start_fails_rho : Holds (model weir role_two 0)
-  pub start_meets_rho : EventsAt (model weir role_one 0) 0
-  pub start_fails_mu : Holds (model users user_two 0)
-  pub start_meets_mu : EventsAt (model users user_one 0) 0
+  -- ---- paths over images
+  pub goal_g_lem : Holds (model weir goal_g)
+  pub zero_is_any : EventsAt (model weir write_only) 3
+  pub any_class_lem : Holds (model weir any_class)
+  pub start_fails_rho : Holds (model weir role_two)
+  pub start_meets_rho : EventsAt (model weir role_one) 0
+  pub start_fails_mu : Holds (model users user_two)
+  pub start_meets_mu : EventsAt (model users user_one) 0

@@ -7,14 +7,12 @@ use Rattle.policy_check.specs.Questions.{policy_questions}
 use Rattle.context.specs.declared.Context.{Context}
 use Rattle.context.specs.declared.Event.{Event}
 use Rattle.context.specs.Codes.{context_of, event_of, context_at as at, event_at as event, is_transition}
-use Rattle.relations.specs.Settings.{in_setting}
 use Rattle.access.specs.Authorization.{authorized, flow}
 use Rattle.access.specs.Cases.RoleRules.{Rule, authorized_under, flow_under, source_rule, equal_types, equal_users, never_asked, equal_alone, every_event, role_one_alone, either_way, turned}
 use Rattle.access.specs.Cases.Roles.{roles, Otherwise}
 use Rattle.goal_image.specs.Cases.WeirGoal.{goal_g}
 use Rattle.paths.specs.Model.{Model}
-use Rattle.paths.specs.Paths.{IsPath}
-use Rattle.paths.specs.Settings.{settings, HoldsInAll, EventsIn}
+use Rattle.paths.specs.Paths.{IsPath, Holds, EventsAt}
 use Rattle.goal_model.specs.Images.{in_range, meetsρμ, model}
 use Rattle.least_steps.specs.LeastSteps.{FlowPath}
 use Rattle.weir.specs.Cases.RolePolicies.{weir_same_role, weir_other_role, weir_changed_role}
@@ -22,18 +20,18 @@ use Rattle.weir.specs.Cases.Called.{Gives, SaysHolds, SaysBroken}
 use Rattle.weir.specs.Cases.Steps.{StepsAre, NoSteps, GivesSteps, SaysNone, SaysSteps}
 
 -- ---- goals and least steps over flow with the rule w: `model` and `FlowPath` with another flow
-abbrev pub model_under : Rule → List ℕ → List ℕ → ℕ → Model
-model_under w s g setting =
+abbrev pub model_under : Rule → List ℕ → List ℕ → Model
+model_under w s g =
     record {
-      flow_by = λ x e y. flow_under w (in_setting setting (policy_of s)) (event_of e) (context_of x) (context_of y);
-      context = (model s g setting).context;
-      held = (model s g setting).held;
-      legs = (model s g setting).legs;
-      σ = (model s g setting).σ;
-      γ = (model s g setting).γ;
-      repeated = (model s g setting).repeated;
-      σe = (model s g setting).σe;
-      γe = (model s g setting).γe;
+      flow_by = λ x e y. flow_under w (policy_of s) (event_of e) (context_of x) (context_of y);
+      context = (model s g).context;
+      held = (model s g).held;
+      legs = (model s g).legs;
+      σ = (model s g).σ;
+      γ = (model s g).γ;
+      repeated = (model s g).repeated;
+      σe = (model s g).σe;
+      γe = (model s g).γe;
     }
 
 pub record FlowPathUnder (w : Rule) (p : Policy) (x y : Context) (m : ℕ) (c e : ℕ → ℕ) : Type 0 where
@@ -101,26 +99,26 @@ pub record RoleCases : Type 0 where
   pub flow_different : (p : Policy) (e : Event) (x y : Context) → (x.role ≡ y.role → ⊥) → flow p e x y ≡ flow_under source_rule p e x y
   pub flow_other : (p : Policy) (e : Event) (x y : Context) → is_transition e ≡ false → flow p e x y ≡ flow_under source_rule p e x y
   -- so no path is lost: a goal that holds held before, and least steps have become no more
-  pub goal_more : (s g : List ℕ) → HoldsInAll (model s g) settings → HoldsInAll (model_under source_rule s g) settings
+  pub goal_more : (s g : List ℕ) → Holds (model s g) → Holds (model_under source_rule s g)
   pub steps_more : (p : Policy) (x y : Context) (m : ℕ) (c e : ℕ → ℕ) → FlowPathUnder source_rule p x y m c e → FlowPath p x y m c e
   -- ---- "and goals with paths over that flow": a goal that held for want of a record, and is broken now, with its one path
-  pub same_before : HoldsInAll (model_under source_rule weir_same_role goal_g) settings
-  pub same_now : EventsIn (model weir_same_role goal_g) settings 2 0
-  pub same_path : (setting : ℕ) (x e : ℕ → ℕ) → IsPath (model weir_same_role goal_g setting) 2 x e → TwoSteps x e
+  pub same_before : Holds (model_under source_rule weir_same_role goal_g)
+  pub same_now : EventsAt (model weir_same_role goal_g) 2
+  pub same_path : (x e : ℕ → ℕ) → IsPath (model weir_same_role goal_g) 2 x e → TwoSteps x e
   pub same_called : SaysBroken weir_same_role goal_g 2 2
   pub same_printed : (before after : List ℕ) (n : ℕ) → 5 ≤ length before → Gives weir_same_role goal_g 32 32 before after n → PrintsTwo before after
   -- with different roles it holds as before, and a record breaks it
-  pub other_now : HoldsInAll (model weir_other_role goal_g) settings
+  pub other_now : Holds (model weir_other_role goal_g)
   pub other_called : SaysHolds weir_other_role goal_g
-  pub changed_now : EventsIn (model weir_changed_role goal_g) settings 2 0
+  pub changed_now : EventsAt (model weir_changed_role goal_g) 2
   pub changed_called : SaysBroken weir_changed_role goal_g 2 2
-  -- ---- least steps likewise, in every setting: none before, and 2 now
-  pub steps_before : (setting m : ℕ) (c e : ℕ → ℕ) → FlowPathUnder source_rule (in_setting setting (policy_of weir_same_role)) (at 1 1 1) (at 4 2 1) m c e → ⊥
-  pub steps_now : (setting : ℕ) → StepsAre weir_same_role setting (at 1 1 1) (at 4 2 1) 8 2
-  pub steps_path : (setting : ℕ) (c e : ℕ → ℕ) → FlowPath (in_setting setting (policy_of weir_same_role)) (at 1 1 1) (at 4 2 1) 2 c e → TwoSteps c e
-  pub steps_called : (setting : ℕ) → SaysSteps weir_same_role setting (at 1 1 1) (at 4 2 1) 8 2
-  pub steps_printed : (setting : ℕ) (before after : List ℕ) (n : ℕ) → 5 ≤ length before → GivesSteps weir_same_role setting (at 1 1 1) (at 4 2 1) 8 8 before after n → PrintsTwo before after
-  pub steps_other : (setting : ℕ) → NoSteps weir_other_role setting (at 1 1 1) (at 4 1 1) 8
-  pub steps_other_called : (setting : ℕ) → SaysNone weir_other_role setting (at 1 1 1) (at 4 1 1) 8
-  pub steps_changed : (setting : ℕ) → StepsAre weir_changed_role setting (at 1 1 1) (at 4 1 1) 8 2
-  pub steps_changed_called : (setting : ℕ) → SaysSteps weir_changed_role setting (at 1 1 1) (at 4 1 1) 8 2
+  -- ---- least steps likewise: none before, and 2 now
+  pub steps_before : (m : ℕ) (c e : ℕ → ℕ) → FlowPathUnder source_rule (policy_of weir_same_role) (at 1 1 1) (at 4 2 1) m c e → ⊥
+  pub steps_now : StepsAre weir_same_role (at 1 1 1) (at 4 2 1) 8 2
+  pub steps_path : (c e : ℕ → ℕ) → FlowPath (policy_of weir_same_role) (at 1 1 1) (at 4 2 1) 2 c e → TwoSteps c e
+  pub steps_called : SaysSteps weir_same_role (at 1 1 1) (at 4 2 1) 8 2
+  pub steps_printed : (before after : List ℕ) (n : ℕ) → 5 ≤ length before → GivesSteps weir_same_role (at 1 1 1) (at 4 2 1) 8 8 before after n → PrintsTwo before after
+  pub steps_other : NoSteps weir_other_role (at 1 1 1) (at 4 1 1) 8
+  pub steps_other_called : SaysNone weir_other_role (at 1 1 1) (at 4 1 1) 8
+  pub steps_changed : StepsAre weir_changed_role (at 1 1 1) (at 4 1 1) 8 2
+  pub steps_changed_called : SaysSteps weir_changed_role (at 1 1 1) (at 4 1 1) 8 2

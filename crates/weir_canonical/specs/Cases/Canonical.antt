@@ -1,4 +1,4 @@
--- The canonical image (paper 02, e, with the switches of g) on named inputs: each case as a statement from the definitions, and as a result of the call, that is what
+-- The canonical image (paper 02, e) on named inputs: each case as a statement from the definitions, and as a result of the call, that is what
 -- every number that the promise allows is.
 use Rattle.std.specs.Prelude.{ℕ, ◌+◌, ◌*◌, ◌≤◌, ◌<◌, true, false, List, [], ◌∷◌, ◌++◌, ◌≡◌, length, drop}
 use Rattle.base.specs.Numbers.{Numbered}
@@ -11,12 +11,11 @@ use Rattle.policy_facts.specs.Canonical.{canonical_of}
 use Rattle.policy_facts.specs.Cases.Same.{Same}
 use Rattle.policy_writing.specs.Writing.{writing_number}
 use Rattle.context.specs.Codes.{context_at as at, event_at as event}
-use Rattle.relations.specs.Settings.{in_setting}
 use Rattle.access.specs.Authorization.{authorized}
 use Rattle.canonical.specs.Canonical.{canonical_image, canonical_questions, CanonicalPromise}
 use Rattle.weir.specs.Cases.Goals.{weir_allow41, empty}
 use Rattle.weir.specs.Cases.JoinPolicies.{weir_read, no_type, leaning, blank, blank_then}
-use Rattle.weir_canonical.specs.Cases.CanonicalPolicies.{weir_written, weir_read_written, allows, allows_written, overlapping, overlapping_written, emptied, emptied_written, repeated, repeated_written, both_ways, both_ways_written, by_self, by_type, self_and_type, self_and_type_written, switched, switched_written, ruled, ruled_both, always, off_one, on_one, off_two, constrained, constrained_written, first_engineer, second_engineer, engineers_written, one_permission_more, other_class, nodes_swapped, children_swapped, roomy, wide_policy, crowded, one_flow, one_flow_again, no_flow}
+use Rattle.weir_canonical.specs.Cases.CanonicalPolicies.{weir_written, weir_read_written, allows, allows_written, overlapping, overlapping_written, emptied, emptied_written, repeated, repeated_written, both_ways, both_ways_written, by_self, by_type, self_and_type, self_and_type_written, constrained, constrained_written, first_engineer, second_engineer, engineers_written, one_permission_more, other_class, nodes_swapped, children_swapped, roomy, wide_policy, crowded, one_flow, one_flow_again, no_flow}
 
 -- the policy passes the checks, its canonical image has at most 4,095 records and is this one, which passes them too, and of which "Writing twice
 -- changes nothing" is so
@@ -64,19 +63,6 @@ pub record CanonicalCases : Type 0 where
   pub by_type_lem : CanonicalIs by_type by_type
   pub self_and_type_lem : CanonicalIs self_and_type self_and_type_written
   pub self_not_type : SayOtherThings by_self by_type
-  -- "Sorting and uniting in the canonical image includes d and e" (g): c before d, d before e; masks of one switch and position are united, and
-  -- those of no other; an empty mask is dropped
-  pub switches_sorted : CanonicalIs switched switched_written
-  -- two allows that differ in e alone stay two records; in d alone; a rule without a switch stays beside one with a switch
-  pub on_and_off_lem : CanonicalIs (ruled_both off_one (on_one 1)) (ruled_both off_one (on_one 1))
-  pub two_switches : CanonicalIs (ruled_both off_one off_two) (ruled_both off_one off_two)
-  pub always_and_on : CanonicalIs (ruled_both always (on_one 1)) (ruled_both always (on_one 1))
-  -- so a rule for on is not one for off; and the same rule for on and off, which applies in every setting, is not one without a switch
-  pub on_alone : CanonicalIs (ruled (on_one 1)) (ruled (on_one 1))
-  pub off_alone : CanonicalIs (ruled off_one) (ruled off_one)
-  pub always_alone : CanonicalIs (ruled always) (ruled always)
-  pub on_not_off : SayOtherThings (ruled (on_one 1)) (ruled off_one)
-  pub both_not_always : SayOtherThings (ruled_both off_one (on_one 1)) (ruled always)
   -- "Kinds 8 and 9 keep their order, with root, left and right renumbered.": byte by byte
   pub kept : CanonicalIs constrained constrained_written
   -- .. in both bytes of a root, a left and a right: 253, 254 and 255 become 256, 257 and 258
@@ -111,13 +97,6 @@ pub record CanonicalCases : Type 0 where
   pub self_written : authorized (policy_of (canonical_image second_engineer)) (event 2 1) (at 2 2 1) (at 2 2 1) ≡ true
   pub no_self : authorized (policy_of second_engineer) (event 2 1) (at 4 2 1) (at 4 2 1) ≡ false
   pub no_self_written : authorized (policy_of (canonical_image second_engineer)) (event 2 1) (at 4 2 1) (at 4 2 1) ≡ false
-  -- .. in every setting: 2 writes 1 where switch 1 is on, and not in setting 0, nor where only switch 2 is on
-  pub on_writes : (authorized (in_setting 1 (policy_of switched)) (event 1 1) (at 2 1 1) (at 1 1 1) ≡ true)
-      × (authorized (in_setting 1 (policy_of (canonical_image switched))) (event 1 1) (at 2 1 1) (at 1 1 1) ≡ true)
-  pub off_does_not : (authorized (in_setting 0 (policy_of switched)) (event 1 1) (at 2 1 1) (at 1 1 1) ≡ false)
-      × (authorized (in_setting 0 (policy_of (canonical_image switched))) (event 1 1) (at 2 1 1) (at 1 1 1) ≡ false)
-  pub other_does_not : (authorized (in_setting 2 (policy_of switched)) (event 1 1) (at 2 1 1) (at 1 1 1) ≡ false)
-      × (authorized (in_setting 2 (policy_of (canonical_image switched))) (event 1 1) (at 2 1 1) (at 1 1 1) ≡ false)
   -- ---- the questions: those of the policy first
   pub policy_first : (s : List ℕ) (k : ℕ) → RefusedWith (policy_questions s) k → CanonicalRefused s k
   pub no_type_2 : CanonicalRefused no_type 2
@@ -171,10 +150,6 @@ pub record CanonicalCalled : Type 0 where
   pub by_self_lem : SaysTwice by_self by_self
   pub by_type_lem : SaysTwice by_type by_type
   pub self_and_type_lem : SaysTwice self_and_type self_and_type_written
-  pub switches_sorted : SaysTwice switched switched_written
-  pub on_and_off_lem : SaysTwice (ruled_both off_one (on_one 1)) (ruled_both off_one (on_one 1))
-  pub two_switches : SaysTwice (ruled_both off_one off_two) (ruled_both off_one off_two)
-  pub always_and_on : SaysTwice (ruled_both always (on_one 1)) (ruled_both always (on_one 1))
   pub kept : SaysTwice constrained constrained_written
   pub first : SaysTwice first_engineer engineers_written
   pub second : SaysTwice second_engineer engineers_written

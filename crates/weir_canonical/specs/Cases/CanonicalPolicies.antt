@@ -1,4 +1,4 @@
--- Policies for the canonical image: each is such that a misreading of paper 02 (e, g) would write other bytes, and what is to be written stands
+-- Policies for the canonical image: each is such that a misreading of paper 02 (e) would write other bytes, and what is to be written stands
 -- beside it.
 use Rattle.std.specs.Prelude.{ℕ, zero, suc, ◌+◌, ◌*◌, List, [], ◌∷◌, ◌++◌, length}
 use Rattle.policy_image.specs.declared.records.Record.{Record}
@@ -142,58 +142,6 @@ self_and_type =
 abbrev pub self_and_type_written : List ℕ
 self_and_type_written =
     image 2 1 1 1 (1 ∷ 0 ∷ 0 ∷ 2 ∷ 0 ∷ 0 ∷ 0 ∷ 0 ∷ 0 ∷ []) (domain 0 2 ∷ allow 3 2 0 1 2 ∷ allow 4 2 1 1 1 ∷ allow 0 2 2 1 1 ∷ [])
-
--- ---- "Sorting and uniting in the canonical image includes d and e": an allow record with a switch and a position
-abbrev pub allow_if : ℕ → ℕ → ℕ → ℕ → ℕ → ℕ → ℕ → List ℕ
-allow_if next source target class switch position m = line next 4 source target class switch position m 0 0 0
-
--- domain 2 on 1, in class 1 without a switch, in class 2 without one, where switch 1 is off, where it is on, with a mask, and where switch 2 is off
-abbrev pub always : ℕ → List ℕ
-always next = allow next 2 1 1 1
-
-abbrev pub always_two : ℕ → List ℕ
-always_two next = allow next 2 1 2 1
-
-abbrev pub off_one : ℕ → List ℕ
-off_one next = allow_if next 2 1 1 1 0 1
-
-abbrev pub on_one : ℕ → ℕ → List ℕ
-on_one m next = allow_if next 2 1 1 1 1 m
-
-abbrev pub off_two : ℕ → List ℕ
-off_two next = allow_if next 2 1 1 2 0 1
-
--- in no order, with the mask where switch 1 is on in two parts, and a rule of switch 8 with an empty mask
-abbrev pub switched : List ℕ
-switched =
-    image 2 1 1 2 (1 ∷ 2 ∷ 0 ∷ 3 ∷ 10 ∷ 0 ∷ 0 ∷ 0 ∷ 0 ∷ [])
-    (domain 0 2
-    ∷ permissions 0 1 3
-    ∷ always_two 4
-    ∷ off_two 5
-    ∷ on_one 1 6
-    ∷ always 7
-    ∷ off_one 8
-    ∷ on_one 2 9
-    ∷ allow_if 0 2 1 1 8 1 0
-    ∷ role_type 0 1 2
-    ∷ [])
-
--- the same domain, class and role with five allows; what is written
-abbrev pub switched_in : (one two three four five : ℕ → List ℕ) → List ℕ
-switched_in one two three four five =
-    image 2 1 1 2 (1 ∷ 2 ∷ 0 ∷ 3 ∷ 8 ∷ 0 ∷ 0 ∷ 0 ∷ 0 ∷ [])
-    (domain 0 2 ∷ permissions 0 1 3 ∷ one 4 ∷ two 5 ∷ three 6 ∷ four 7 ∷ five 0 ∷ role_type 0 1 2 ∷ [])
-
-abbrev pub switched_written : List ℕ
-switched_written = switched_in always off_one (on_one 3) off_two always_two
-
--- a domain with one allow, and with two
-abbrev pub ruled : (ℕ → List ℕ) → List ℕ
-ruled one = image 2 1 1 1 (1 ∷ 0 ∷ 0 ∷ 2 ∷ 0 ∷ 0 ∷ 0 ∷ 0 ∷ 0 ∷ []) (domain 0 2 ∷ one 0 ∷ [])
-
-abbrev pub ruled_both : (one two : ℕ → List ℕ) → List ℕ
-ruled_both one two = image 2 1 1 1 (1 ∷ 0 ∷ 0 ∷ 2 ∷ 0 ∷ 0 ∷ 0 ∷ 0 ∷ 0 ∷ []) (domain 0 2 ∷ one 3 ∷ two 0 ∷ [])
 
 -- ---- "Kinds 8 and 9 keep their order, with root, left and right renumbered.": constraints on classes 3, 1 and 1, the second with an empty mask, the
 -- third with the bits 0 and 16, which are no left and right; nodes before and among the other records, one of which no record uses; a domain that

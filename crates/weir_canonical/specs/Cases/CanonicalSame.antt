@@ -6,10 +6,9 @@ use Rattle.base.specs.Questions.{AllYes}
 use Rattle.policy_image.specs.Policy.{Policy, policy_of}
 use Rattle.policy_image.specs.Cases.Written.{domain, permissions, flow, allow, role_type, user_role, role_change, constraint, node, image, no_chain, chain_of}
 use Rattle.policy_check.specs.Questions.{policy_questions}
-use Rattle.policy_facts.specs.Facts.{Key, is_stated, permits, carries_mask}
+use Rattle.policy_facts.specs.Facts.{is_stated, permits, carries_mask}
 use Rattle.policy_facts.specs.Cases.Same.{by_place, Same}
 use Rattle.canonical.specs.Canonical.{canonical_image}
-use Rattle.weir_canonical.specs.Cases.CanonicalPolicies.{allow_if}
 
 -- the fields of `Same`, each by itself
 module _ (p q : Policy) where
@@ -26,10 +25,10 @@ module _ (p q : Policy) where
   SameClasses = p.counts.classes ≡ q.counts.classes
 
   abbrev pub SameKeys : Type 0
-  SameKeys = (k : ℕ) (x : Key) → Within 1 7 k → carries_mask k ≡ false → is_stated p k x ≡ is_stated q k x
+  SameKeys = (k a b c : ℕ) → Within 1 7 k → carries_mask k ≡ false → is_stated p k a b c ≡ is_stated q k a b c
 
   abbrev pub SamePermissions : Type 0
-  SamePermissions = (k : ℕ) (x : Key) (i : ℕ) → carries_mask k ≡ true → permits p k x i ≡ permits q k x i
+  SamePermissions = (k a b c i : ℕ) → carries_mask k ≡ true → permits p k a b c i ≡ permits q k a b c i
 
   abbrev pub SameConstraints : Type 0
   SameConstraints = by_place p 8 ≡ by_place q 8
@@ -97,10 +96,6 @@ pub record CanonicalSame : Type 0 where
   pub both_ways_lem : ByOneField (one 3 (flow 0 1 1 1)) (one 3 (flow 0 1 3 1)) (λ p q. SameCounts p q × SameKeys p q × SameLists p q)
   pub allows : ByOneField (allowing (allow 0 2 1 1 1)) (allowing (allow 0 2 1 2 1)) (λ p q. SameCounts p q × SameKeys p q × SameLists p q)
   pub self : ByOneField (allowing (allow 0 2 0 1 1)) (allowing (allow 0 2 2 1 1)) (λ p q. SameCounts p q × SameKeys p q × SameLists p q)
-  -- a switch, a position, and none (g)
-  pub switches : ByOneField (allowing (allow_if 0 2 1 1 1 1 1)) (allowing (allow_if 0 2 1 1 2 1 1)) (λ p q. SameCounts p q × SameKeys p q × SameLists p q)
-  pub positions : ByOneField (allowing (allow_if 0 2 1 1 1 0 1)) (allowing (allow_if 0 2 1 1 1 1 1)) (λ p q. SameCounts p q × SameKeys p q × SameLists p q)
-  pub no_switch : ByOneField (allowing (allow 0 2 1 1 1)) (allowing (allow_if 0 2 1 1 1 0 1)) (λ p q. SameCounts p q × SameKeys p q × SameLists p q)
   -- ---- "and their lists of kinds 8 and 9 agree, a node being named by its place in the list": a constraint's class, its mask, its root
   pub constraint_class : ByOneField (constraining 1 1 2 5) (constraining 2 1 2 5) (λ p q. SameCounts p q × SameFacts p q × SameNodes p q)
   pub constraint_mask : ByOneField (constraining 1 1 2 5) (constraining 1 0 2 5) (λ p q. SameCounts p q × SameFacts p q × SameNodes p q)

@@ -1,4 +1,4 @@
--- Canonical images and answers that the promise keeps out, each on a named input: what a misreading of paper 02 (e, g) would give.
+-- Canonical images and answers that the promise keeps out, each on a named input: what a misreading of paper 02 (e) would give.
 use Rattle.std.specs.Prelude.{ℕ, ◌≤◌, List, [], ◌∷◌, ◌++◌, ◌≡◌, length, take}
 use Rattle.policy_image.specs.Cases.Written.{line, domain, permissions, flow, allow, role_type, user_role, role_change, constraint, node, heads, lines, image, no_chain, chain_of}
 use Rattle.policy_image.specs.Cases.Weir.{weir}
@@ -7,7 +7,7 @@ use Rattle.policy_writing.specs.declared.answer.Writing.TheVariants as writing
 use Rattle.canonical.specs.Canonical.{canonical_image, CanonicalPromise}
 use Rattle.weir.specs.Cases.Goals.{empty}
 use Rattle.weir.specs.Cases.JoinPolicies.{no_type, leaning, blank, blank_then}
-use Rattle.weir_canonical.specs.Cases.CanonicalPolicies.{allows, allows_written, overlapping, overlapping_written, emptied, repeated, both_ways, by_self, by_type, self_and_type, allow_if, always, always_two, off_one, on_one, off_two, switched, switched_in, switched_written, ruled, ruled_both, constrained, constrained_written, second_engineer, roomy, crowded, one_flow, one_flow_again, no_flow}
+use Rattle.weir_canonical.specs.Cases.CanonicalPolicies.{allows, allows_written, overlapping, overlapping_written, emptied, repeated, both_ways, by_self, by_type, self_and_type, constrained, constrained_written, second_engineer, roomy, crowded, one_flow, one_flow_again, no_flow}
 use Rattle.weir_canonical.specs.Cases.Canonical.{GivesCanonical}
 
 -- no answer allows an output with room that begins with these bytes, whatever was there and whatever stands behind them
@@ -154,26 +154,6 @@ pub record CanonicalStandIns : Type 0 where
       (domain_and (1 ∷ 0 ∷ 0 ∷ 2 ∷ 0 ∷ 0 ∷ 0 ∷ 0 ∷ 0 ∷ []) (allow 3 2 1 1 1 ∷ allow 4 2 0 1 2 ∷ allow 0 2 2 1 1 ∷ []))
   pub not_self_last : KeptOut self_and_type
       (domain_and (1 ∷ 0 ∷ 0 ∷ 2 ∷ 0 ∷ 0 ∷ 0 ∷ 0 ∷ 0 ∷ []) (allow 3 2 1 1 1 ∷ allow 4 2 2 1 1 ∷ allow 0 2 0 1 2 ∷ []))
-  -- ---- "Sorting and uniting in the canonical image includes d and e" (g): e before d; e falling; d before c; rules without a switch last; d and e
-  -- written as 0; the position written as 0; the mask where switch 1 is on in one of its parts alone
-  pub rightly_switched : switched_in always off_one (on_one 3) off_two always_two ≡ switched_written
-  pub not_e_first : KeptOut switched (switched_in always off_one off_two (on_one 3) always_two)
-  pub not_on_first : KeptOut switched (switched_in always (on_one 3) off_one off_two always_two)
-  pub not_d_before_c : KeptOut switched (switched_in always always_two off_one (on_one 3) off_two)
-  pub not_always_last : KeptOut switched (switched_in off_one (on_one 3) off_two always always_two)
-  pub not_switches_lost : KeptOut switched (switched_in always always (λ n. allow n 2 1 1 3) always always_two)
-  pub not_positions_lost : KeptOut switched (switched_in always off_one (λ n. allow_if n 2 1 1 1 0 3) off_two always_two)
-  pub not_on_in_part : KeptOut switched (switched_in always off_one (on_one 1) off_two always_two)
-  -- on and off merged to a rule without a switch; one of them dropped; both kept with their masks united
-  pub not_merged : KeptOut (ruled_both off_one (on_one 2)) (ruled (λ n. allow n 2 1 1 3))
-  pub not_off_dropped : KeptOut (ruled_both off_one (on_one 1)) (ruled (on_one 1))
-  pub not_on_dropped : KeptOut (ruled_both off_one (on_one 1)) (ruled off_one)
-  pub not_both_united : KeptOut (ruled_both off_one (on_one 2)) (ruled_both (λ n. allow_if n 2 1 1 1 0 3) (on_one 3))
-  -- a switched rule dropped beside the same rule without a switch; the one without united to it
-  pub not_beside_dropped : KeptOut (ruled_both always (on_one 1)) (ruled always)
-  pub not_always_dropped : KeptOut (ruled_both always (on_one 1)) (ruled (on_one 1))
-  -- two switches taken for one
-  pub not_one_switch : KeptOut (ruled_both off_one off_two) (ruled off_one)
   -- ---- "Kinds 8 and 9 keep their order": constraints sorted, united, or dropped with an empty mask; nodes dropped that no record uses, or sorted
   pub not_sorted_constraints : KeptOut constrained sorted_constraints
   pub not_united_constraints : KeptOut constrained (fewer_constraints 9)

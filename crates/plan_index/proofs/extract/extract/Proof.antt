@@ -10,7 +10,7 @@ use Rattle.base.proofs.ChainLaws.{left}
 use Rattle.policy_image.specs.declared.records.Record.{Record}
 use Rattle.policy_image.specs.Layout.{record_count}
 use Rattle.policy_image.specs.Policy.{policy_of}
-use Rattle.policy_image.specs.Counting.{counting}
+use Rattle.policy_image.specs.Inner.Counting.{counting}
 use Rattle.policy_image.proofs.FieldLaws.{SameFields, same_fields}
 use Rattle.policy_check.specs.Inner.Sound.{Sound}
 use Rattle.policy_check.proofs.Along.{along_less}

@@ -15,7 +15,6 @@ use Rattle.policy_check.specs.Inner.Sound.{Sound}
 use Rattle.relations.specs.declared.facts.Fact.{Fact}
 use Rattle.relations.specs.Inner.Facts.{states}
 use Rattle.policy_check.proofs.Along.{along_start, along_step, along_less, along_kind, along_end}
-use Rattle.relations.proofs.SwitchLaws.{switch_read}
 use Rattle.relations.proofs.facts.is_given.Statement.{statement}
 use Rattle.relations.proofs.facts.is_given.Tie as tie
 
@@ -58,14 +57,6 @@ loop_holds c =
     let a = c.before.before.before in
     along_start a.args.policy.now a.requires.0 a.args.f.kind a.requires.1 a.requires.2 (Not (policy_of a.args.policy.now) a.args.f) _ c.head_at.ensures
 
-is_stated_requires : tie.Need-is-stated-requires invariant_loop decreases_loop
-is_stated_requires c κs =
-    let a = c.before.before.before.before.before.before in
-    let p = policy_of a.args.policy.now in
-    let l = c.before.before.loop in
-    switch_read a.args.policy.now a.requires.0 a.args.f.kind l.i
-    (along_kind a.args.policy.now a.requires.0 a.args.f.kind a.requires.1 a.requires.2 (Not p a.args.f) l.i (omega arith) l.invariant) c.record_at.result c.record_at.ensures.same
-
 returns : tie.Need-returns invariant_loop decreases_loop
 returns c =
     let K = c.before in
@@ -91,4 +82,4 @@ returns_2 c =
     (subst (λ (j : ℕ). Visit (policy_links p) q.kind (Not p q) j) z c.before.loop.invariant)))
 
 pub is_given_spec : {M : Type 1} → statement M
-is_given_spec = tie.close (tie.spec invariant_loop decreases_loop (λ c. search rules) (λ c κs. search rules) loop_holds (λ c κs. search rules) is_stated_requires returns loop_less loop_again returns_2)
+is_given_spec = tie.close (tie.spec invariant_loop decreases_loop (λ c. search rules) (λ c κs. search rules) loop_holds (λ c κs. search rules) (λ c κs. search rules) returns loop_less loop_again returns_2)

@@ -10,9 +10,6 @@ use borrow.Author.Rules.{rules}
 use Rattle.relations.proofs.facts.is_stated.Statement.{statement}
 use Rattle.relations.proofs.facts.is_stated.Tie as tie
 
-allows_requires : tie.Need-allows-requires
-allows_requires c κs = c.before.requires c.match.keys2
-
 returns : tie.Need-returns
 returns c = let s = c.before.before.args in c.has-way.ensures ∙ sym (ap (λ (k : ℕ). stated_as s.f k s.r) c.before.match.keys1)
 
@@ -32,4 +29,4 @@ returns_6 : tie.Need-returns-6
 returns_6 c = let s = c.before.before.before.before.args in sym (ap (λ (g : Record → Bool). g s.r) (table_other (statements s.f) unstated s.f.kind refl (λ a b. omega arith)))
 
 pub is_stated_spec : {M : Type 1} → statement M
-is_stated_spec = tie.close (tie.spec (λ c κs. search rules) allows_requires (λ c κs. search rules) returns returns_2 returns_3 returns_4 returns_5 returns_6)
+is_stated_spec = tie.close (tie.spec (λ c κs. search rules) (λ c κs. search rules) (λ c κs. search rules) returns returns_2 returns_3 returns_4 returns_5 returns_6)

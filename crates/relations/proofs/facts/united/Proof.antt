@@ -12,11 +12,10 @@ use Rattle.policy_image.specs.Layout.{record_count}
 use Rattle.policy_image.specs.Policy.{policy_of}
 use Rattle.policy_image.proofs.FieldLaws.{SameFields, same_fields}
 use Rattle.policy_check.specs.Inner.Sound.{Sound}
-use Rattle.policy_check.proofs.Along.{along_less, along_kind}
+use Rattle.policy_check.proofs.Along.{along_less}
 use Rattle.relations.specs.declared.facts.Fact.{Fact}
 use Rattle.relations.specs.Inner.Facts.{states}
 use Rattle.relations.proofs.Uniting.{Uniting, uniting_start, uniting_pass, uniting_join, uniting_end}
-use Rattle.relations.proofs.SwitchLaws.{switch_read}
 use Rattle.relations.proofs.facts.united.Statement.{statement}
 use Rattle.relations.proofs.facts.united.Tie as tie
 
@@ -64,13 +63,6 @@ loop_holds c =
 record_at_requires : tie.Need-record-at-requires invariant_loop decreases_loop
 record_at_requires c κs = let v = c.before.loop.invariant.visit.most in search rules
 
-is_stated_requires : tie.Need-is-stated-requires invariant_loop decreases_loop
-is_stated_requires c κs =
-    let a = c.before.before.before.before.before.before in
-    let l = c.before.before.loop in
-    switch_read a.args.policy.now a.requires.0 a.args.f.kind l.i
-    (along_kind a.args.policy.now a.requires.0 a.args.f.kind a.requires.1 a.requires.2 _ l.i (omega arith) l.invariant.visit) c.record_at.result c.record_at.ensures.same
-
 loop_less : tie.Need-loop-smaller invariant_loop decreases_loop
 loop_less c = less c.before.before
 
@@ -97,4 +89,4 @@ returns c =
     (subst (λ (j : ℕ). Uniting (policy_of a.args.policy.now) a.args.f l.mask j) z l.invariant)
 
 pub united_spec : {M : Type 1} → statement M
-united_spec = tie.close (tie.spec invariant_loop decreases_loop (λ c. search rules) (λ c κs. search rules) loop_holds record_at_requires is_stated_requires loop_less loop_again loop_less_2 loop_again_2 returns)
+united_spec = tie.close (tie.spec invariant_loop decreases_loop (λ c. search rules) (λ c κs. search rules) loop_holds record_at_requires (λ c κs. search rules) loop_less loop_again loop_less_2 loop_again_2 returns)

@@ -1,4 +1,4 @@
--- A policy in which fewer allow records count (paper 02, g: the rules that apply in a setting).
+-- A policy in which fewer allow records count.
 use Rattle.std.specs.Prelude.{ℕ, Bool, ◌&&◌}
 use Rattle.policy_image.specs.Policy.{Policy}
 

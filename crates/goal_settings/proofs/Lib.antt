@@ -1,4 +1,0 @@
-pub mod BestLaws
-pub mod ModelLaws
-pub mod HalfLaws
-pub mod RoundLaws

@@ -1,4 +1,0 @@
--- Definitions that contracts inside the project and proofs speak of. No outward promise rests on them.
-pub mod Best
-pub mod Rounds
-pub mod Halves
