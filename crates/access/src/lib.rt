@@ -1,4 +1,6 @@
 // Authorization and flow over a checked policy image. An event is given by its code, as a path has it.
+#![tactic(auto)]
+
 ghost use Rattle.std.specs.Prelude.{◌≡◌, ◌&&◌, ◌<◌};
 ghost use Rattle.policy_image.specs.Policy.{policy_of};
 ghost use Rattle.policy_check.specs.Inner.Sound.{Sound};
@@ -13,7 +15,7 @@ use policy_image::kinds::{READ_LIKE, WRITE_LIKE};
 use relations::{alpha, flows_as, gamma, mu, rho, role_change};
 
 // The value of each clause of the authorization formula, in its order: 1 for the context that acts, 2 for the other.
-#[derive(Drop)]
+#[derive(Clone, Copy)]
 pub struct Clauses {
     pub alpha: bool,
     pub rho1: bool,

@@ -1,1 +1,2 @@
 // What the promises of the outward calls fix: definitions and theorems alone.
+#![tactic(auto)]

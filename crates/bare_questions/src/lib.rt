@@ -1,5 +1,7 @@
 // The bare questions: is an event authorized from one context on another, and does it make flow from one to another? They ask nothing
 // of their caller, and each promise fixes the answer.
+#![tactic(auto)]
+
 ghost use Rattle.std.specs.Prelude.{◌≡◌, ◌<◌};
 ghost use Rattle.base.specs.Inner.Decides.{Decides};
 ghost use Rattle.policy_image.specs.Policy.{policy_of};
@@ -14,7 +16,7 @@ use policy_check::{check, refusal};
 use policy_image::counts::{Checked, Counts};
 
 // The answer to a bare question.
-#[derive(Drop)]
+#[derive(Clone, Copy)]
 pub enum Answer {
     Yes,
     No,
@@ -22,7 +24,7 @@ pub enum Answer {
 }
 
 // What a bare question asks of an event: is it authorized, or does it make flow?
-#[derive(Drop)]
+#[derive(Clone, Copy)]
 enum Relation {
     Authorization,
     Flow,

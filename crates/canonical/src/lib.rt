@@ -1,5 +1,7 @@
 // The canonical image of a policy: two policies that say the same have one. It asks nothing of its caller, and its promise fixes the answer
 // and every byte of the output.
+#![tactic(auto)]
+
 mod rows;
 
 ghost use Rattle.std.specs.Prelude.{ℕ, ◌+◌, ◌≤◌, ◌≡◌, ◌++◌, length, drop};

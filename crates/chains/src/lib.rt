@@ -1,5 +1,7 @@
 // Records that are linked into chains, as they stand in the bytes of an image: the heads, the nexts, and whether they rise. Both images
 // have them; where they stand is the image's shape.
+#![tactic(auto)]
+
 ghost use Rattle.std.specs.Prelude.{◌≡◌, ℕ, ◌≤◌, ◌<◌, get_or};
 ghost use Rattle.base.specs.Inner.Decides.{Decides};
 ghost use Rattle.chains.specs.Inner.Links.{HasShape, links_in, HeadsAreRecords, NextsRising, LinksRising};
@@ -11,7 +13,7 @@ pub const MOST_CHAINS: usize = 16;
 
 // Where an image has its heads and its records. Chains are numbered from first to below end, and the head of chain h stands at
 // heads + 2 × h. There are count records of stride bytes from byte records on, and the first two bytes of a record are its next.
-#[derive(Drop)]
+#[derive(Clone, Copy)]
 pub struct Shape {
     pub heads: usize,
     pub first: usize,

@@ -1,5 +1,7 @@
 // The constraints of a policy, for up to 64 pairs of contexts at once: expression nodes evaluated, and all constraints on an event. What is
 // asked of one pair is a bit of that.
+#![tactic(auto)]
+
 pub mod leaves;
 
 ghost use Rattle.std.specs.Prelude.{◌≡◌, not, ◌<◌};

@@ -1,4 +1,6 @@
 // Contexts and events, and the numbers that stand for them.
+#![tactic(auto)]
+
 pub mod places;
 
 ghost use Rattle.std.specs.Prelude.{◌≡◌, ◌<◌};
@@ -12,7 +14,7 @@ use base::ranges::within;
 use policy_image::counts::Counts;
 
 // A security context: a type, a role and a user, each from 1.
-#[derive(Drop)]
+#[derive(Clone, Copy)]
 pub struct Context {
     pub ty: u32,
     pub role: u32,
@@ -88,7 +90,7 @@ impl Context {
 }
 
 // An event: a permission of a class.
-#[derive(Drop)]
+#[derive(Clone, Copy)]
 pub struct Event {
     pub class: u32,
     pub perm: u32,

@@ -1,5 +1,7 @@
 // The calls for C: those of `bare_questions`, `goal_question`, `least_steps`, `join` and `canonical`, with contexts and events by their
 // numbers and the answer as one number. None asks anything of its caller; each promise fixes the whole result.
+#![tactic(auto)]
+
 ghost use Rattle.std.specs.Prelude.{length};
 ghost use Rattle.base.specs.Numbers.{Numbered};
 ghost use Rattle.context.specs.Codes.{context_at, event_at};

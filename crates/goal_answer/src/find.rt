@@ -13,7 +13,7 @@ use search_graph::task::Task;
 use search_graph::visits::undo;
 
 // What is found, up to a bound on the number of steps.
-#[derive(Drop)]
+#[derive(Clone, Copy)]
 pub enum Finding {
     // no path breaks the goal
     Nothing,
@@ -25,7 +25,7 @@ pub enum Finding {
 }
 
 // What is found, and how many nodes the last search visited: as many places of the first work slice list them.
-#[derive(Drop)]
+#[derive(Clone, Copy)]
 pub struct GoalSought {
     pub finding: Finding,
     pub visited: usize,

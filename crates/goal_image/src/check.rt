@@ -15,14 +15,14 @@ use base::ranges::within;
 use policy_image::counts::Counts;
 
 // The legs of a goal: how many, and which of them are repeated (bit i for leg i).
-#[derive(Drop)]
+#[derive(Clone, Copy)]
 pub struct Legs {
     pub count: u32,
     pub repeated: u32,
 }
 
 // The answer of a check of a goal image: accepted with its legs, or refused with a question's number.
-#[derive(Drop)]
+#[derive(Clone, Copy)]
 pub enum CheckedGoal {
     Accepted(Legs),
     Refused(u32),

@@ -17,7 +17,7 @@ pub const HEADER: usize = 34;
 pub const RECORD: usize = 8;
 
 // A record of a σ chain, its next aside: 0 in a field means any.
-#[derive(Drop)]
+#[derive(Clone, Copy)]
 pub struct ContextRecord {
     pub ty: u32,
     pub role: u32,
@@ -26,7 +26,7 @@ pub struct ContextRecord {
 }
 
 // A record of a γ chain, its next aside: class 0 means any.
-#[derive(Drop)]
+#[derive(Clone, Copy)]
 pub struct EventRecord {
     pub class: u32,
     pub spare: u32,

@@ -23,7 +23,7 @@ pub const EXCEPTED_CONTEXTS: u32 = 13;
 pub const EXCEPTED_EVENTS: u32 = 14;
 
 // What the σ chains are asked: whether a context is in their sets, or a record on them.
-#[derive(Drop)]
+#[derive(Clone, Copy)]
 pub enum Asked {
     Context(Context),
     Record(usize),

@@ -1,5 +1,7 @@
 // The goal program: reads policy.img and goal.img in the working directory, asks whether the goal holds of the policy, and
 // prints the answer and, where the goal is broken, the path.
+#![tactic(auto)]
+
 use report::ask;
 
 const WORK: usize = 16384;

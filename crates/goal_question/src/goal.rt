@@ -23,7 +23,7 @@ use search_graph::visits::clear;
 use witness::path::Showing;
 
 // The answer to the goal question: m is a number of steps.
-#[derive(Drop)]
+#[derive(Clone, Copy)]
 pub enum Outcome {
     // no path breaks the goal
     Holds,

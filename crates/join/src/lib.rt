@@ -1,5 +1,7 @@
 // One policy from maker and board: the join writes one image from two. It asks nothing of its caller, and its promise fixes the answer and
 // every byte of the output.
+#![tactic(auto)]
+
 ghost use Rattle.std.specs.Prelude.{◌+◌, ◌≤◌, ◌≡◌, ◌++◌, length, drop};
 ghost use Rattle.policy_image.specs.Layout.{record_count};
 ghost use Rattle.policy_image.specs.Inner.Sizes.{image_size, most_records};

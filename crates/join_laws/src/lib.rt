@@ -1,1 +1,2 @@
 // What the joined policy states: definitions and theorems alone.
+#![tactic(auto)]

@@ -1,5 +1,7 @@
 // Larger cases of the goal question, beyond what a theorem computes and in part beyond the goal program's slices. Each is read
 // from data/, asked, and printed after its name. What a second search by other hands says of the same images stands in the file stdout.
+#![tactic(auto)]
+
 use libc::STDOUT_FILENO;
 use report::ask;
 

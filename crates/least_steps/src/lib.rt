@@ -1,5 +1,7 @@
 // Least steps between two contexts: how near is one to the other? It asks nothing of its caller, and its promise fixes the answer and the
 // count.
+#![tactic(auto)]
+
 ghost use Rattle.std.specs.Prelude.{◌≡◌, length};
 ghost use Rattle.base.specs.Inner.Decides.{Decides};
 ghost use Rattle.context.specs.Inner.Places.{Countable};
@@ -23,7 +25,7 @@ use search_graph::visits::clear;
 use witness::path::{Showing, show_found};
 
 // The answer: m is a number of steps.
-#[derive(Drop)]
+#[derive(Clone, Copy)]
 pub enum Steps {
     // no path leads from the one to the other
     None,

@@ -1,4 +1,6 @@
 // The index of a policy's allow records: for each type what it may do to others and others to it.
+#![tactic(auto)]
+
 pub mod codes;
 pub mod extract;
 pub mod split;

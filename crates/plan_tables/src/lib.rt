@@ -1,5 +1,7 @@
 // What a call makes of a checked policy once: tables that say in one step what the records say in many. An entry is a set of 32
 // numbers, one to a bit.
+#![tactic(auto)]
+
 pub mod gather;
 pub mod groups;
 

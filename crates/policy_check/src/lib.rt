@@ -1,4 +1,6 @@
 // Questions 1 to 6 and 14 of a policy image, in order.
+#![tactic(auto)]
+
 ghost use Rattle.std.specs.Prelude.{◌≡◌};
 ghost use Rattle.policy_check.specs.Inner.Answer.{PolicyAnswer, refusal_of};
 

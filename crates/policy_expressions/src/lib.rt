@@ -1,4 +1,6 @@
 // Question 6: the nodes that constraints and expression nodes use.
+#![tactic(auto)]
+
 ghost use Rattle.std.specs.Prelude.{◌≡◌, ◌<◌};
 ghost use Rattle.base.specs.Inner.Decides.{Decides};
 ghost use Rattle.policy_image.specs.Policy.{policy_of};
@@ -10,7 +12,7 @@ use policy_image::kinds::{AND, CONSTRAINT, NODE, NOT, OR};
 use policy_image::records::{Record, record_at};
 
 // What a record uses at one of its two places.
-#[derive(Drop)]
+#[derive(Clone, Copy)]
 pub enum Use {
     Nothing,
     Node(usize),

@@ -1,1 +1,2 @@
 // Definitions and laws alone: the facts of a policy, and the canonical policy that states them.
+#![tactic(auto)]

@@ -1,4 +1,6 @@
 // Question 5: the range of each field of a record, by its kind.
+#![tactic(auto)]
+
 ghost use Rattle.std.specs.Prelude.{◌≡◌, get_or};
 ghost use Rattle.base.specs.Inner.Decides.{Decides};
 ghost use Rattle.policy_image.specs.Policy.{policy_of};
@@ -14,14 +16,14 @@ use policy_image::kinds::{
 use policy_image::records::{Record, record_at};
 
 // The numbers from low to high.
-#[derive(Drop)]
+#[derive(Clone, Copy)]
 pub struct Range {
     pub low: u32,
     pub high: u32,
 }
 
 // The range of each field of a record.
-#[derive(Drop)]
+#[derive(Clone, Copy)]
 pub struct Limits {
     pub a: Range,
     pub b: Range,

@@ -14,7 +14,7 @@ pub const RECORD: usize = 12;
 pub const MOST_RECORDS: usize = 4095;
 
 // How many types, roles, users, classes and records a policy has.
-#[derive(Drop)]
+#[derive(Clone, Copy)]
 pub struct Counts {
     pub types: u32,
     pub roles: u32,
@@ -24,7 +24,7 @@ pub struct Counts {
 }
 
 // The answer of a check of a policy image: accepted with its counts, or refused with a question's number.
-#[derive(Drop)]
+#[derive(Clone, Copy)]
 pub enum Checked {
     Accepted(Counts),
     Refused(u32),

@@ -10,7 +10,7 @@ use base::bytes::{u16_at, u32_at, wide};
 use chains::Shape;
 
 // A record, decoded. The bytes of the mask are also the numbers of an expression node's children.
-#[derive(Drop)]
+#[derive(Clone, Copy)]
 pub struct Record {
     pub next: usize,
     pub kind: u32,

@@ -1,4 +1,6 @@
 // Questions 3 and 4: the links of a policy, and its chains.
+#![tactic(auto)]
+
 ghost use Rattle.std.specs.Prelude.{◌≡◌, ℕ, ◌≤◌, get_or};
 ghost use Rattle.base.specs.Inner.Decides.{Decides};
 ghost use Rattle.policy_image.specs.Layout.{PolicyExact};

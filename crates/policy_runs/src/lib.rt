@@ -1,4 +1,6 @@
 // Runs: the records of one kind of one policy are written one behind the other, with node numbers adjusted.
+#![tactic(auto)]
+
 pub mod tables;
 
 ghost use Rattle.std.specs.Prelude.{ℕ, suc, ◌+◌, ◌≤◌, ◌<◌, ◌≡◌, length, get_or};
@@ -26,7 +28,7 @@ pub const NUMBERS: usize = MOST_RECORDS + 1;
 
 // Where a run stands in the result: how many records stand before it, the number of the last record of its kind, and what is added to the
 // count of nodes up to one to give that node's number.
-#[derive(Drop)]
+#[derive(Clone, Copy)]
 pub struct Run {
     pub kind: u32,
     pub before: usize,

@@ -1,4 +1,6 @@
 // Question 14: the sources of a policy's allow records, by a table of its domains, which a search's tables are made with too.
+#![tactic(auto)]
+
 ghost use Rattle.base.specs.Inner.Decides.{Decides};
 ghost use Rattle.policy_image.specs.Layout.{PolicyExact};
 ghost use Rattle.policy_image.specs.Policy.{policy_of};

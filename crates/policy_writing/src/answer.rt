@@ -2,7 +2,7 @@
 ghost use Rattle.std.specs.Prelude.{◌≡◌};
 ghost use Rattle.policy_writing.specs.Writing.{writing_number};
 
-#[derive(Drop)]
+#[derive(Clone, Copy)]
 pub enum Writing {
     // the image is written: so many bytes
     Written(u32),

@@ -1,4 +1,6 @@
 // Writes the parts of a policy image into a lent slice: counts, heads and records, each where it stands in an image.
+#![tactic(auto)]
+
 pub mod answer;
 
 ghost use Rattle.std.specs.Prelude.{◌≡◌, ◌+◌, ◌≤◌, ◌<◌, length, get_or};

@@ -10,7 +10,7 @@ use policy_image::kinds::{ALLOW, BOTH, DOMAIN, FLOW, PERMISSIONS, ROLE_CHANGE, R
 use policy_image::records::{Record, head_at, record_at};
 
 // What a record of the given kind may state: its fields a, b and c, as far as the kind names them.
-#[derive(Drop)]
+#[derive(Clone, Copy)]
 pub struct Fact {
     pub kind: u32,
     pub a: u32,

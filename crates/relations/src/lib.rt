@@ -1,4 +1,6 @@
 // The relations of paper 01 over a checked policy image: Γ, α, ρ, μ, the role rule's relation and the ways of flow.
+#![tactic(auto)]
+
 pub mod facts;
 
 ghost use Rattle.std.specs.Prelude.{◌≡◌, ◌<◌};

@@ -1,4 +1,6 @@
 // What the programs share: images are read from files, the goal question is asked of them, and its answer is printed.
+#![tactic(auto)]
+
 ghost use Rattle.std.specs.Prelude.{◌+◌, ◌*◌, ◌≤◌, length};
 ghost use Rattle.io.specs.Counts.{IsPrefixLen};
 ghost use Rattle.report.specs.Inner.Printing.{Printable};

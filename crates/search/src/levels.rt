@@ -20,7 +20,7 @@ use search_steps::pairs::{PAIRS_END, next_pair, step_pairs};
 use search_steps::sweep::sweep_of;
 
 // A step into a bad end: the node it is from, its event, the end's node, and the number of steps to the node it is from.
-#[derive(Drop)]
+#[derive(Clone, Copy)]
 pub struct LastStep {
     pub from: u32,
     pub event: u32,
@@ -29,7 +29,7 @@ pub struct LastStep {
 }
 
 // What a search finds: nothing; a start that is a bad end, by its code; or a step into a bad end.
-#[derive(Drop)]
+#[derive(Clone, Copy)]
 pub enum LeastEnd {
     Nothing,
     Start(u32),
@@ -37,7 +37,7 @@ pub enum LeastEnd {
 }
 
 // What a search found, and how many nodes it visited: as many places of the queue list them.
-#[derive(Drop)]
+#[derive(Clone, Copy)]
 pub struct Sought {
     pub found: LeastEnd,
     pub visited: usize,

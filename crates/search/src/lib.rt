@@ -1,4 +1,6 @@
 // The search of the nodes of a plan, each a context and a monitor's state, level by level.
+#![tactic(auto)]
+
 pub mod levels;
 
 ghost use Rattle.search_graph.specs.Inner.Seeds.{Roomy};

@@ -17,7 +17,7 @@ use context::{Context, Event};
 
 // The event; the context x; the type whose pairs are asked for, 64 of them, by the number of their word; and whether x acts on them or they
 // on x.
-#[derive(Drop)]
+#[derive(Clone, Copy)]
 pub struct Ask {
     pub event: u32,
     pub x: Context,

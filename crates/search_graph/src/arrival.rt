@@ -14,7 +14,7 @@ use plan::sets::sets_at;
 use policy_image::counts::Counts;
 
 // A node to enter, by its number; an end that breaks nothing; or an end that breaks what is looked for.
-#[derive(Drop)]
+#[derive(Clone, Copy)]
 pub enum Arrival {
     Enter(u32),
     Dropped,

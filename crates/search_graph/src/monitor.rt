@@ -10,7 +10,7 @@ use paths::stages::advance;
 use paths::tracker::track;
 
 // What a search looks for: an end of a path that breaks order, one that breaks events, or any end.
-#[derive(Drop)]
+#[derive(Clone, Copy)]
 pub enum Mode {
     Order,
     Events,

@@ -14,7 +14,7 @@ use plan::meets::is_held;
 use plan::sets::sets_at;
 
 // How many nodes are in the queue, in rising order; or the place of the first start that is a bad end, and how many were put there before it.
-#[derive(Drop)]
+#[derive(Clone, Copy)]
 pub enum Seeded {
     Nodes(usize),
     Start(u32, usize),

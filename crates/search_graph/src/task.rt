@@ -7,7 +7,7 @@ use goal_image::check::Legs;
 use policy_image::counts::Counts;
 
 // The counts of the policy, the legs of the goal, and what is looked for.
-#[derive(Drop)]
+#[derive(Clone, Copy)]
 pub struct Task {
     pub counts: Counts,
     pub legs: Legs,

@@ -1,4 +1,6 @@
 // What a search remembers, so that it sweeps the contexts of a type once for each part of a state that a step depends on.
+#![tactic(auto)]
+
 pub mod first;
 pub mod opens;
 pub mod turn;

@@ -13,7 +13,7 @@ use search_graph::task::{Task, states_in};
 use search_steps::nearest::Asker;
 
 // Its context, who asks for its steps, and whether steps from there are asked at all.
-#[derive(Drop)]
+#[derive(Clone, Copy)]
 pub struct Node {
     pub x: Context,
     pub asker: Asker,

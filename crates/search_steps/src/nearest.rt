@@ -26,7 +26,7 @@ fn step_code(event: u32, ty: u32) -> u32
 }
 
 // Where the entries of a step's class start, or before; the entry that offers the step; and the step.
-#[derive(Drop)]
+#[derive(Clone, Copy)]
 pub struct Offer {
     pub start: usize,
     pub entry: usize,
@@ -34,7 +34,7 @@ pub struct Offer {
 }
 
 // Who asks for a step: a state, the bits of it that every event keeps, and whether only special steps are left to ask.
-#[derive(Drop)]
+#[derive(Clone, Copy)]
 pub struct Asker {
     pub state: u32,
     pub keeps: u32,

@@ -13,7 +13,7 @@ use policy_image::counts::Counts;
 
 // An event, the sets that it is in, whether it is special: its flow depends on more than types, ρ and μ, and the entry that offers it; a type,
 // and the place of its first context.
-#[derive(Drop)]
+#[derive(Clone, Copy)]
 pub struct Sweep {
     pub event: u32,
     pub sets: u32,

@@ -1,5 +1,5 @@
 -- Items that become entries one after the other, in the order of their codes: what the entries have of the first i of them.
-use mathlib.Core.Path.{◌≡◌, refl, sym, ◌∙◌, ap, subst}
+use mathlib.Core.Path.{◌≡◌, sym, ◌∙◌, ap, subst}
 use mathlib.Core.Bool.{true, cond}
 use mathlib.Core.Logic.{⊎_elim}
 use mathlib.Core.List.{List}

@@ -1,1 +1,2 @@
 // The weir policy, case by case: definitions and theorems alone.
+#![tactic(auto)]

@@ -1,1 +1,2 @@
 // The canonical image on named policies: definitions and theorems alone.
+#![tactic(auto)]

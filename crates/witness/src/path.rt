@@ -13,7 +13,7 @@ use search::levels::{LastStep, LeastEnd};
 use search_graph::task::{Task, states_in};
 
 // What became of what a search found: m is the number of steps.
-#[derive(Drop)]
+#[derive(Clone, Copy)]
 pub enum Showing {
     // nothing was found
     Nothing,
