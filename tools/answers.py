@@ -67,6 +67,10 @@ class Function:
         self.klemmas = set()
         self.renamed = set()
         self.steps = set()
+        self.secenv = {}
+        self.imports = set()
+        self.inside = False
+        self.parts = {}
         self.goals = {}
 
     def index_of(self, name):
@@ -124,6 +128,17 @@ class Function:
                             continue
                         if end < len(toks) and toks[end] == ".":
                             env.pop(x, None)
+                            e3 = end + 2
+                            while toks[e3 : e3 + 1] == ["."]:
+                                e3 += 2
+                            f = toks[end + 1]
+                            path = toks[end + 3 : e3 : 2]
+                            if toks[self.skip(toks, e3)] == "in" and self.info["arms"][r[0]] and any(
+                                norm(o) == norm(re.sub(r"\d+$", "", f)) and q[: len(path)] == path and len(q) > len(path) for _, o, q in self.info["arms"][r[0]][2]
+                            ) and not self.of_arm(r[0], f, toks, end + 2):
+                                self.parts[x] = (r[0], f, path)
+                                i = self.skip(toks, self.skip(toks, e3) + 1)
+                                continue
                             e2 = self.skip(toks, end + 2)
                             if e2 < len(toks) and toks[e2] == "in":
                                 self.steps.add(x)
@@ -136,18 +151,58 @@ class Function:
                 p, j = r
                 if j < len(toks) and toks[j] == "." and j + 1 < len(toks):
                     f = toks[j + 1]
+                    hit = self.of_arm(p, f, toks, j + 2)
+                    if hit:
+                        out.append(f"{root}.{hit[0]}")
+                        i = hit[1]
+                        continue
                     out.append(self.field(p, f, root))
                     i = j + 2
-                    if self.places[p][0].startswith("Joined") and toks[i : i + 2] == [".", "branch"]:
+                    if toks[i : i + 2] == [".", "inv"] and re.match("At", self.places[p][0]):
+                        out.append(".invariant")
+                        i += 2
+                        continue
+                    if toks[i : i + 2] == [".", "post"] and re.match("After", self.places[p][0]):
+                        out.append(".ensures")
+                        i += 2
+                        continue
+                    arm = self.info["arms"][p]
+                    if arm:
+                        for new, old, path in arm[2]:
+                            want = [x for w in path for x in (".", w)]
+                            got = toks[i : i + len(want)]
+                            if want and [norm(x) for x in got] == [norm(x) for x in want]:
+                                out.append("." + new)
+                                i += len(want)
+                                break
+                            if not want and toks[i : i + 1] == ["."]:
+                                out.append("." + new)
+                                break
+                    if (self.places[p][0].startswith("Joined") or self.places[p][0].endswith("-branch")) and toks[i : i + 2] == [".", "branch"]:
                         out.append(".branch-raw")
                         i += 2
                     continue
                 n = self.depth_between(rootplace, p)
                 if n is None:
                     raise Bad(f"place {self.places[p][0]} is not above {self.places[rootplace][0]}")
-                out.append(root + ".before" * n)
+                if goalname is None:
+                    if n and not self.inside:
+                        raise Bad(f"a place above {root} is handed on")
+                    out.append(root + ".before" * n)
+                else:
+                    out.append(f"(goal.at.{goalname} {root}).{self.names[p]}")
                 i = j
                 continue
+            if t in self.parts and not (out and out[-1] == ".") and toks[i + 1 : i + 2] == ["."]:
+                p, f, path = self.parts[t]
+                more = [x for w in path for x in (".", w)]
+                hit = self.of_arm(p, f, more + toks[i + 1 :], 0)
+                if hit:
+                    out.append(f"{root}.{hit[0]}")
+                    i = i + 1 + hit[1] - len(more)
+                    continue
+            if "-" in t and len(out) > 1 and out[-1] == "." and re.search(r"(?:^|\.)(args|initial|new|auto|ranges|fn)$", out[-2]):
+                t = t.replace("-", "_")
             if t in self.steps and toks[i + 1 : i + 2] == ["."] and toks[i + 2] in ("inv", "post", "pre") and not (out and out[-1] == "."):
                 out += [t, ".", {"inv": "invariant", "post": "ensures", "pre": "requires"}[toks[i + 2]]]
                 i += 3
@@ -157,7 +212,7 @@ class Function:
                 b = self.arg(toks, a[1]) if a else None
                 if b:
                     inner = "".join(toks[self.skip(toks, a[1]) : b[1]])
-                    out.append(self.rewrite(inner, env, root, rootplace))
+                    out.append(self.rewrite(inner, env, root, rootplace, goalname))
                     i = b[1]
                     continue
             if t in ("not_no", "not_yes") and not (out and out[-1] == "."):
@@ -166,6 +221,19 @@ class Function:
             out.append(t)
             i += 1
         return "".join(out)
+
+    def of_arm(self, p, f, toks, j):
+        """A field of a match's step, as its arm has it: (its path, the index behind it)."""
+        arm = self.info["arms"][p]
+        if not arm:
+            return None
+        for new, old, path in arm[2]:
+            if norm(old) not in (norm(f), norm(re.sub(r"\d+$", "", f))) or not path:
+                continue
+            want = [x for w in path for x in (".", w)]
+            if toks[j : j + len(want)] == want:
+                return f"{arm[0]}.{new}", j + len(want)
+        return None
 
     def arg(self, toks, i):
         """One argument of an application: (start, end)."""
@@ -185,6 +253,30 @@ class Function:
         while j + 1 < len(toks) and toks[j] == ".":
             j += 2
         return i, j
+
+    def named(self, p):
+        self.imports.add(self.names[p])
+        return self.names[p]
+
+    def in_section(self, section, notes, lines, out):
+        """A declaration of a section over the place K."""
+        K, P, _ = section
+        # a comment may stand between declarations of one block
+        text = "\n".join(lines)
+        m = re.match(r"  (?:abbrev )?(" + NAME + r")((?: [^\n]*?)?) : (.*?)\n  \1 ?([^\n=]*)= ?(.*)$", text, re.S)
+        if m and re.match(r"tie\.", m[3]):
+            r = self.place(TOK.findall(m[5]), 0, {K: P} | {f: self.apply(f, P) for f in self.placefns})
+            if not r:
+                raise Bad(f"place function {m[1]}")
+            self.placefns[m[1]] = (K, m[5])
+            self.secenv[m[1]] = r[0]
+            return
+        if "tie." in text:
+            raise Bad(f"{text.split()[0]}: of another form in a section")
+        body = self.rewrite(text, {K: P, **self.secenv}, K, P)
+        if out and len(out) > 1:
+            out.append("")
+        out += notes + [body]
 
     def skip(self, toks, i):
         while i < len(toks) and toks[i].isspace():
@@ -232,7 +324,11 @@ class Function:
     def apply(self, fn, p):
         param, body = self.placefns[fn]
         toks = TOK.findall(body)
-        r = self.place(toks, self.skip(toks, 0), {param: p})
+        env = {param: p}
+        for f in self.secenv:
+            if f != fn and f in toks and toks.index(f) == self.skip(toks, 0):
+                env[f] = self.apply(f, p)
+        r = self.place(toks, self.skip(toks, 0), env)
         if not r:
             raise Bad(f"cannot apply {fn}")
         return r[0]
@@ -374,6 +470,12 @@ class Function:
                     place = self.index_of(self.info["asked_at"][kk][0])
                     body = self.rewrite(m2[2], {params[0]: place} if params else {}, "c", place, goal)
                     used_goals.add(goal)
+                    for name in ("K", "K2", "K3", "K4"):
+                        many = [x for x in set(re.findall(r"\(goal\.at\.\S+ c\)\." + NAME, body)) if body.count(x) > 1]
+                        if not many:
+                            break
+                        one = sorted(many)[0]
+                        body = f"\n    let {name} = {one} in" + (body if body.startswith("\n") else "\n   " + body).replace(one, name)
                     res.append(f"pub {goal} : goal.{goal}\n" + (unf[1] + "\n" if unf else "") + f"{goal} c =" + body)
                 return ("ans", notes, "\n\n".join(res))
             # place function
@@ -384,8 +486,10 @@ class Function:
             mk = re.search(r"\((" + NAME + r") : tie\.(" + NAME + r")[^()]*\)", t[: t.find("\n" + name + " ")] if ("\n" + name + " ") in t else t)
             if mk:
                 K, P = mk[1], self.index_of(mk[2])
+                if P == 0:
+                    raise Bad(f"{name}: a lemma over the start")
                 self.klemmas.add(name)
-                typ = f"({K} : goal.{self.names[P]})"
+                typ = f"({K} : {self.named(P)})"
                 cut = t.index("\n" + name + " ")
                 head, body = t[:cut], t[cut:]
                 head = head[: mk.start()] + "@@" + head[mk.end():]
@@ -397,12 +501,38 @@ class Function:
                 raise Bad(f"{name}: of another form")
             return ("plain", notes, t)
 
+        section, seclines, secnotes = None, [], []
         for notes, lines in decls:
             t = "\n".join(lines)
             if "tie.close" in t:
+                if section is not None:
+                    outs_plain.append("\n".join(secnotes + seclines))
+                    section = None
                 continue
-            if t.startswith("module _"):
-                raise Bad("a section over a place")
+            if t.startswith("module _") and section is None:
+                m = re.match(r"module _ \((" + NAME + r") : tie\.(" + NAME + r")[^()]*\)((?: |\n)*(?:[({][^\n]*)?) where$", lines[0])
+                if not m:
+                    raise Bad("a section of another form")
+                section = (m[1], self.index_of(m[2]), m[3])
+                if self.index_of(m[2]) == 0:
+                    raise Bad("a section over the start")
+                seclines = [f"module _ ({m[1]} : {self.named(section[1])}){m[3]} where"]
+                lines = lines[1:]
+                if not lines:
+                    secnotes = notes
+                    continue
+                secnotes = notes
+                notes = []
+            if section is not None:
+                if lines and lines[0].startswith("  "):
+                    self.in_section(section, notes, lines, seclines)
+                    continue
+                if not lines and notes:
+                    pass
+                outs_plain.append("\n".join(secnotes + seclines))
+                section = None
+                if t.startswith("module _"):
+                    raise Bad("a second section")
             kind, n, text = do_decl(notes, lines, {}, "c", None, 0)
             if kind == "none":
                 continue
@@ -417,7 +547,7 @@ class Function:
                 continue
             goal = needs[k][1]
             place = self.index_of(self.info["asked_at"][k][0])
-            outs_ans.append(f"pub {goal} : goal.{goal}\n{goal} c = " + self.rewrite(m3[3], {m3[1]: place}, "c", place))
+            outs_ans.append(f"pub {goal} : goal.{goal}\n{goal} c = " + self.rewrite(m3[3], {m3[1]: place}, "c", place, goal))
         return uses, outs_inv, outs_plain, outs_ans
 
 
@@ -511,11 +641,11 @@ def main():
             open(os.path.join(d, "Invariants.antt"), "w", encoding="utf-8").write("\n".join(f.top + trimmed(uses, body) + [goal + "Given as goal"]) + "\n\n" + body + "\n")
         if ans:
             body = "\n\n".join(plain + ans)
-            extra = []
+            extra = [goal + "Goals.{" + ", ".join(sorted(f.imports)) + "}"] if f.imports else []
             if inv and early:
                 cited = [x for x in early_names if x in words(body)]
                 if cited:
-                    extra = [goal + "Invariants.{" + ", ".join(cited) + "}"]
+                    extra += [goal + "Invariants.{" + ", ".join(cited) + "}"]
             open(os.path.join(d, "Answers.antt"), "w", encoding="utf-8").write("\n".join(([] if inv else f.top) + trimmed(uses, body) + extra + [goal + "Goals as goal"]) + "\n\n" + body + "\n")
         elif plain and any(re.search(r" : ", p) for p in plain):
             print(f"note: {path}: lemmas without answers dropped")
