@@ -36,7 +36,7 @@ module _ (K : After-record_at-r) where
   same = K.record_at-r.ensures.same
 
   of : OfKind p 8 i
-  of = visit_kind p S.links S.chains 8 (omega arith) (omega arith) Q i K.loop-i-test.taken K.loop-i.invariant.0
+  of = visit_kind p S.links S.chains 8 (omega arith) (omega arith) Q i K.loop-i-test.true K.loop-i.invariant.0
 
   root : IsNode p (root_of r)
   root =
@@ -51,11 +51,6 @@ loop-i-init c =
 pub record_at-r-requires : goal.record_at-r-requires
 record_at-r-requires c =
     let m = c.loop-i.invariant.0.most in (c.requires.0.exact, omega arith, omega arith)
-
-pub constraint_word-all-requires : goal.constraint_word-all-requires
-constraint_word-all-requires c =
-    let K = (goal.at.constraint_word-all-requires c).After-record_at-r in
-    ((S K, root K), (c.record_at-r.ensures.bytes, c.requires.1))
 
 pub loop-i-smaller : goal.loop-i-smaller
 loop-i-smaller c =
@@ -82,3 +77,8 @@ returns c =
     let Q : ℕ → Type 0 = Upheld p c.args.e c.args.leaves.now l.all in
     let v : Visit (policy_links p) 8 Q 0 = subst (λ (j : ℕ). Visit (policy_links p) 8 Q j) c.loop-i-test.false l.invariant.0 in
     all_hold_lem (visit_all p S.links S.chains 8 (omega arith) (omega arith) Q v) l.invariant.1
+
+pub constraint_word-all-requires : goal.constraint_word-all-requires
+constraint_word-all-requires c =
+    let K = (goal.at.constraint_word-all-requires c).After-record_at-r in
+    record { sound = (S K, root K); bytes = (c.record_at-r.ensures.bytes, c.requires.1) }
