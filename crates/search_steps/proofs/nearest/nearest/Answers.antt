@@ -1,7 +1,7 @@
 use Rattle.search_steps.proofs.NearestLaws.{look_begin, look_small, look_other, look_nearer, look_on, look_end, look_stop}
 use Prim.Native.Nat.{◌-◌}
-use mathlib.Core.Logic.{⊎_elim}
 use native.Mathlib.Omega.{arith}
+use Rattle.search_steps.proofs.nearest.nearest.Goals.{else-open-step, then-open-step}
 use Rattle.search_steps.proofs.nearest.nearest.Goals as goal
 
 pub skip-first-requires : goal.skip-first-requires
@@ -43,4 +43,7 @@ returns c = look_end c.loop-j.invariant c.loop-j-test.false
 
 pub loop-j-preserved : goal.loop-j-preserved
 loop-j-preserved c =
-    let L = c.loop-j.invariant in let h = c.loop-j-test.true in ⊎_elim (λ w. rw (w.1, w.2) (look_nearer L h c.asked_mask-mask.ensures c.open_step-open.ensures w.0.taken)) (λ w. rw (w.1, w.2) (look_on L h c.asked_mask-mask.ensures c.open_step-open.ensures w.0.left)) c.if-open-step.branch-raw
+    let L = c.loop-j.invariant in let h = c.loop-j-test.true in elim c.if-open-step.branch [
+      | then-open-step w ↦ rw (w.step-is, w.entry-is) (look_nearer L h c.asked_mask-mask.ensures c.open_step-open.ensures w.if-open-step.true)
+      | else-open-step w ↦ rw (w.step-is, w.entry-is) (look_on L h c.asked_mask-mask.ensures c.open_step-open.ensures w.if-open-step.false)
+    ]

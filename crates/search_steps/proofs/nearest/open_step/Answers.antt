@@ -1,8 +1,8 @@
 use native.Mathlib.Omega.{arith}
-use mathlib.Core.Logic.{⊎_elim}
 use mathlib.Core.Path.{◌∙◌, sym}
 use Rattle.base.proofs.LowestLaws.{less_without}
 use Rattle.search_steps.proofs.NearestLaws.{all_closed, open_begin, open_more, open_stop, open_end}
+use Rattle.search_steps.proofs.nearest.open_step.Goals.{else-from-step, then-from-step+else-below-step+else-not-is_closed}
 use Rattle.search_steps.proofs.nearest.open_step.Goals as goal
 
 pub has_member-requires : goal.has_member-requires
@@ -64,4 +64,7 @@ returns c =
 
 pub loop-left-preserved : goal.loop-left-preserved
 loop-left-preserved c =
-    let q = c.step_code-first.ensures in open_more c.loop-left.invariant c.lowest-q.ensures (λ f. ⊎_elim (λ w. sym (rw q at w.3.ensures) ∙ w.4.left) (λ w. absurd (omega (arith, q, w.left))) c.if-from-step.branch-raw) c.with_bit.ensures c.without-left.ensures
+    let q = c.step_code-first.ensures in open_more c.loop-left.invariant c.lowest-q.ensures (λ f. elim c.if-from-step.branch [
+      | then-from-step+else-below-step+else-not-is_closed w ↦ sym (rw q at w.is_closed.ensures) ∙ w.if-not-is_closed.false
+      | else-from-step w ↦ absurd (omega (arith, q, w.if-from-step.false))
+    ]) c.with_bit.ensures c.without-left.ensures

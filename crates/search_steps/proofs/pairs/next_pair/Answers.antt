@@ -13,4 +13,4 @@ pub returns : goal.returns
 returns c = none_end (omega arith) c.loop-at.invariant
 
 pub returns-then-left-ne0 : goal.returns-then-left-ne0
-returns-then-left-ne0 c = let w = c.word_at in next_found c.loop-at.invariant (omega arith) w.ensures w.type-inv c.if-left-ne0.true
+returns-then-left-ne0 c = let w = c.word_at in next_found c.loop-at.invariant (omega arith) w.ensures w.type_inv c.if-left-ne0.true

@@ -1,8 +1,8 @@
 use Prim.Native.Nat.{ℕ, ◌+◌, ◌-◌}
-use mathlib.Core.Logic.{⊎_elim}
 use mathlib.Core.Path.{◌≡◌, sym, subst, ◌∙◌}
 use native.Mathlib.Omega.{arith}
 use Rattle.search_steps.proofs.PairLaws.{RuleTo, rule_begin, rule_with, rule_without, rule_end, rule_none}
+use Rattle.search_steps.proofs.pairs.rule_word.Goals.{else-may_change, then-may_change}
 use Rattle.search_steps.proofs.pairs.rule_word.Goals as goal
 
 pub returns-then-a-ne-TRANSITION_CODE : goal.returns-then-a-ne-TRANSITION_CODE
@@ -27,5 +27,8 @@ loop-b-preserved c =
     let few = c.loop-b-test.true in
     let to : ℕ → Type 0 = λ r. RuleTo c.args.plan.now c.args.rows.now c.args.a r (l.b + 1) in (
       omega arith,
-      ⊎_elim (λ t. subst to (sym t.2) (rule_with l.invariant.1 few (sym m ∙ t.0.taken))) (λ t. subst to (sym t.1) (rule_without l.invariant.1 few (sym m ∙ t.0.left))) c.if-may_change.branch-raw,
+      elim c.if-may_change.branch [
+        | then-may_change t ↦ subst to (sym t.r-is) (rule_with l.invariant.1 few (sym m ∙ t.if-may_change.true))
+        | else-may_change t ↦ subst to (sym t.r-is) (rule_without l.invariant.1 few (sym m ∙ t.if-may_change.false))
+      ],
     )

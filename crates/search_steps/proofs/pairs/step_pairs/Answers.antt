@@ -9,6 +9,7 @@ use Rattle.search_constraints.specs.Inner.Asked.{AskedBefore}
 use Rattle.search_steps.specs.Inner.Pairs.{StepPairs}
 use Rattle.search_steps.proofs.PairLaws.{asking_on, PairsTo, pairs_begin, pairs_skip, pairs_more}
 use Rattle.search_steps.proofs.pairs.step_pairs.Goals as goal
+use Rattle.search_steps.proofs.pairs.step_pairs.Goals.{then-left-ne0, else-left-ne0}
 
 pub loop-w-init : goal.loop-w-init
 loop-w-init c = (omega arith, pairs_begin, c.requires.0.before)
@@ -30,7 +31,9 @@ loop-w-preserved c =
     let a = c.args in
     let to : List ℕ → Type 0 = λ r. PairsTo (ruled a.policy.now a.plan.now) a.x a.sweep.event a.sweep.ty a.among.now r (l.w + 1) in
     let asked : List ℕ → Type 0 = AskedBefore (policy_of a.policy.now) a.marks.now in
-    ⊎_elim
-    (λ t. (omega arith, subst to (sym t.4) (pairs_more l.invariant.1 c.loop-w-test.true t.2.ensures.0), subst asked (sym t.3) t.2.ensures.1))
-    (λ t. (omega arith, subst to (sym t.2) (pairs_skip l.invariant.1 t.0.left), subst asked (sym t.1) l.invariant.2))
-    c.if-left-ne0.branch-raw
+    elim c.if-left-ne0.branch [
+      then-left-ne0 t ↦
+        (omega arith, subst to (sym t.pairs-is) (pairs_more l.invariant.1 c.loop-w-test.true t.step_word-to.ensures.0), subst asked (sym t.memo-is) t.step_word-to.ensures.1)
+    | else-left-ne0 t ↦
+        (omega arith, subst to (sym t.pairs-is) (pairs_skip l.invariant.1 t.if-left-ne0.false), subst asked (sym t.memo-is) l.invariant.2)
+    ]

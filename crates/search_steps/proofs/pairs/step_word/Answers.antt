@@ -1,6 +1,7 @@
 use mathlib.Core.Bool.{true, false}
 use native.Mathlib.Omega.{arith}
 use Rattle.search_steps.proofs.PairLaws.{asking_on, step_askable, step_plain, step_ways}
+use borrow.Author.Tests.{not-true}
 use Rattle.search_steps.proofs.pairs.step_word.Goals as goal
 
 pub bounds-plan-entry : goal.bounds-plan-entry
@@ -23,4 +24,4 @@ returns c =
     (step_ways c.requires.2 _ c.has_bit-out.ensures c.has_bit-back.ensures c.way_word-written.ensures.0 c.way_word-read.ensures.0, c.way_word-read.ensures.1)
 
 pub returns-then-not-sweep : goal.returns-then-not-sweep
-returns-then-not-sweep c = (step_plain c.requires.2 _ (c.if-not-sweep.true), c.requires.0.before)
+returns-then-not-sweep c = (step_plain c.requires.2 _ (not-true c.args.sweep.special c.if-not-sweep.true), c.requires.0.before)

@@ -1,11 +1,22 @@
-use mathlib.Core.Path.{◌∙◌}
+use Prim.Native.Nat.{ℕ}
+use mathlib.Core.Bool.{not}
+use mathlib.Core.List.{List}
+use mathlib.Core.Path.{◌≡◌, sym, ap, ◌∙◌}
+use Rattle.context.specs.declared.Context.{Context}
+use Rattle.context.specs.declared.Event.{Event}
 use Rattle.constraints.specs.Constraints.{constraints_hold}
+use Rattle.constraints.proofs.CountedLaws.{constraints_counted}
 use Rattle.context.proofs.CodeLaws.{coded_of}
-use mathlib.Core.Path.{◌∙◌}
+use Rattle.policy_image.specs.Policy.{policy_of}
 use Rattle.plan.specs.Inner.Plan.{ruled}
+use Rattle.plan.specs.Inner.Entries.{counted_at}
 use Rattle.search_steps.proofs.OfferLaws.{not_held, no_rule, by_rule}
 use native.Mathlib.Omega.{arith}
 use Rattle.search_steps.proofs.targets.may_act.Goals as goal
+
+-- which allow records count is nothing to a constraint
+held : (s plan : List ℕ) (x y : Context) (e : Event) → constraints_hold (policy_of s) e x y ≡ constraints_hold (ruled s plan) e x y
+held s plan x y e = sym (constraints_counted (counted_at plan) (policy_of s) x y e)
 
 pub returns-then-not-may : goal.returns-then-not-may
 returns-then-not-may c = rw (c.if-not-may.true)
@@ -22,12 +33,12 @@ bounds-plan-role c =
 
 pub returns-then-not-constraints_hold : goal.returns-then-not-constraints_hold
 returns-then-not-constraints_hold c =
-    not_held (ruled c.args.policy.now c.args.plan.now) c.args.x c.args.y c.args.event c.args.may c.decode-e.ensures c.if-not-may.false c.constraints_hold.result (c.constraints_hold.ensures ∙ held (goal.at.returns-then-not-constraints_hold c).Start _) c.if-not-constraints_hold.true
+    not_held (ruled c.args.policy.now c.args.plan.now) c.args.x c.args.y c.args.event c.args.may c.decode-e.ensures (ap not c.if-not-may.false) c.constraints_hold.result (c.constraints_hold.ensures ∙ held c.args.policy.now c.args.plan.now c.args.x c.args.y _) (ap not c.if-not-constraints_hold.true)
 
 pub returns-then-not-is_transition : goal.returns-then-not-is_transition
 returns-then-not-is_transition c =
-    no_rule (ruled c.args.policy.now c.args.plan.now) c.args.x c.args.y c.args.event c.args.may c.decode-e.ensures c.if-not-may.false c.constraints_hold.result (c.constraints_hold.ensures ∙ held (goal.at.returns-then-not-is_transition c).Start _) c.if-not-constraints_hold.false c.is_transition.result c.is_transition.ensures c.if-not-is_transition.true
+    no_rule (ruled c.args.policy.now c.args.plan.now) c.args.x c.args.y c.args.event c.args.may c.decode-e.ensures (ap not c.if-not-may.false) c.constraints_hold.result (c.constraints_hold.ensures ∙ held c.args.policy.now c.args.plan.now c.args.x c.args.y _) (ap not c.if-not-constraints_hold.false) c.is_transition.result c.is_transition.ensures (ap not c.if-not-is_transition.true)
 
 pub returns : goal.returns
 returns c =
-    by_rule (ruled c.args.policy.now c.args.plan.now) c.args.x c.args.y c.args.event c.args.may c.decode-e.ensures c.if-not-may.false c.constraints_hold.result (c.constraints_hold.ensures ∙ held (goal.at.returns c).Start _) c.if-not-constraints_hold.false c.is_transition.result c.is_transition.ensures c.if-not-is_transition.false (c.has_bit.ensures ∙ c.requires.1.tables.change c.args.x.role c.args.y.role c.requires.3)
+    by_rule (ruled c.args.policy.now c.args.plan.now) c.args.x c.args.y c.args.event c.args.may c.decode-e.ensures (ap not c.if-not-may.false) c.constraints_hold.result (c.constraints_hold.ensures ∙ held c.args.policy.now c.args.plan.now c.args.x c.args.y _) (ap not c.if-not-constraints_hold.false) c.is_transition.result c.is_transition.ensures (ap not c.if-not-is_transition.false) (c.has_bit.ensures ∙ c.requires.1.tables.change c.args.x.role c.args.y.role c.requires.3)
