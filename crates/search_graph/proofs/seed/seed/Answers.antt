@@ -4,10 +4,10 @@ use Rattle.context.specs.Inner.Places.{OfType}
 use Rattle.context.proofs.TypeLaws.{own_place}
 use lib.ListN.{length-set}
 use Prim.Native.Nat.{◌-◌}
-use mathlib.Core.Logic.{⊎_elim}
 use mathlib.Core.Path.{refl}
 use native.Mathlib.Omega.{arith}
 use Rattle.search_graph.proofs.seed.seed.Goals.{After-at-ty}
+use Rattle.search_graph.proofs.seed.seed.Goals.{in-Dropped, in-Enter}
 use Rattle.search_graph.proofs.seed.seed.Goals as goal
 
 -- the place is one of its type
@@ -90,6 +90,16 @@ overflow_add-y c = omega arith
 pub loop-y-smaller : goal.loop-y-smaller
 loop-y-smaller c = omega arith
 
+pub loop-y-preserved : goal.loop-y-preserved
+loop-y-preserved c =
+    let i = c.loop-y.invariant in
+    let y = c.loop-y-test.true in
+    let z = c.start_at.ensures in
+    elim c.match-start_at.branch [
+      | in-Dropped w ↦ rw (w.queue-is, w.back-is, w.tail-is) (i.0, i.1, sow_skip i.2 y z w.in-Dropped.is)
+      | in-Enter w ↦ rw (w.queue-is, w.back-is, w.tail-is) (simp length-set i.0, simp length-set i.1, sow_enter i.2 y z w.in-Enter.is)
+    ]
+
 pub shape_of-queue : goal.shape_of-queue
 shape_of-queue c = omega arith
 
@@ -98,13 +108,3 @@ shape_of-back c = omega arith
 
 pub returns : goal.returns
 returns c = sow_end c.loop-y.invariant.2 c.loop-y-test.false
-
-pub loop-y-preserved : goal.loop-y-preserved
-loop-y-preserved c =
-    let i = c.loop-y.invariant in
-    let y = c.loop-y-test.true in
-    let z = c.start_at.ensures in
-    ⊎_elim
-    (λ w. rw (w.2, w.3, w.4) (i.0, i.1, sow_skip i.2 y z w.1.given.1))
-    (λ w. rw (w.3, w.4, w.5) (simp length-set i.0, simp length-set i.1, sow_enter i.2 y z w.1.given.1))
-    c.match-start_at.branch-raw
