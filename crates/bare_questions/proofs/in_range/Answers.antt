@@ -1,0 +1,19 @@
+use Rattle.base.proofs.Decide.{decides_iff, yes_of, no_of}
+use Rattle.bare_questions.proofs.in_range.Goals as goal
+
+pub returns-then-not-in_range : goal.returns-then-not-in_range
+returns-then-not-in_range c = λ h. no_of c.in_range.result c.in_range.ensures c.if-not-in_range.true h.first
+
+pub returns-then-not-in_range-2 : goal.returns-then-not-in_range-2
+returns-then-not-in_range-2 c = λ h. no_of c.in_range-2.result c.in_range-2.ensures c.if-not-in_range-2.true h.second
+
+pub returns : goal.returns
+returns c =
+    decides_iff c.in_range-3.result
+    (λ h. record {
+      first = yes_of c.in_range.result c.in_range.ensures c.if-not-in_range.false;
+      second = yes_of c.in_range-2.result c.in_range-2.ensures c.if-not-in_range-2.false;
+      event = h;
+    })
+    (λ h. h.event)
+    c.in_range-3.ensures

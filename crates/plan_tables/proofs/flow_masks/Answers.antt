@@ -1,0 +1,10 @@
+use mathlib.Core.Path.{refl}
+use Rattle.plan_tables.proofs.MeaningLaws.{flow_means}
+use Rattle.plan_tables.proofs.SoundLaws.{gathers}
+use Rattle.plan_tables.proofs.flow_masks.Goals as goal
+
+pub gather-requires : goal.gather-requires
+gather-requires c = let S = c.requires in gathers _ S 3 31 32 refl (λ op. S.range.classes.high)
+
+pub returns : goal.returns
+returns c = flow_means _ _ 32 _ c.gather.ensures

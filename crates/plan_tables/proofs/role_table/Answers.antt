@@ -1,0 +1,16 @@
+use native.Mathlib.Omega.{arith}
+use borrow.Author.Tests.{lt-ltb}
+use lib.ListN.{length}
+use Rattle.plan_tables.proofs.MeaningLaws.{roles_mean}
+use Rattle.plan_tables.proofs.SoundLaws.{gathers}
+use Rattle.plan_tables.proofs.role_table.Goals as goal
+
+pub gather-requires : goal.gather-requires
+gather-requires c =
+    let S = c.requires in
+    let n = length c.object_roles-roles.result in
+    gathers _ S 5 255 n (lt-ltb 255 n (omega arith)) (λ op. S.range.types.high)
+
+pub returns : goal.returns
+returns c =
+    roles_mean _ _ _ _ _ c.domain_table-domains.ensures c.object_roles-roles.ensures c.gather.ensures
