@@ -3,20 +3,22 @@
 #![tactic(auto)]
 
 use report::ask;
+use std::io;
 
 const WORK: usize = 16384;
 
 const PATH: usize = 4097;
 
-fn main() {
+fn main(rt: HostRuntime) -> io::Result<()> {
     let mut work1 = [0u32; WORK];
     let mut work2 = [0u32; WORK];
     let mut path = [0u32; PATH];
     ask(
+        &rt,
         b"policy.img",
         b"goal.img",
         &mut work1,
         &mut work2,
         &mut path,
-    );
+    )
 }

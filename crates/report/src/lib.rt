@@ -2,120 +2,137 @@
 #![tactic(auto)]
 
 ghost use Rattle.std.specs.Prelude.{◌+◌, ◌*◌, ◌≤◌, length};
-ghost use Rattle.io.specs.Counts.{IsPrefixLen};
+ghost use Rattle.std.specs.Counts.{IsPrefixLen};
 ghost use Rattle.report.specs.Inner.Printing.{Printable};
 
 use context::{Context, Event};
 use goal_question::goal::{Outcome, goal_question};
-use libc::STDOUT_FILENO;
+use std::fs::{self, Files};
+use std::io::{self, Print, Read};
+use std::str;
 
 // One byte more than the largest images, so that a file that is longer is refused for its length.
 const POLICY_BYTES: usize = 49165;
 
 const GOAL_BYTES: usize = 2075;
 
-// Reads the file, as far as the buffer reaches. One that cannot be opened or read counts as 0 bytes.
-fn read_image(name: &[u8], buf: &mut [u8]) -> usize
+// Reads until the buffer is full, the input ends or a read fails, and says how many bytes it put at the buffer's start.
+fn read_full<F: Read>(input: &mut F, buf: &mut [u8]) -> usize
     ensures { IsPrefixLen result buf.new }
 {
-    let file = os::open_read(name);
-    if file < 0 {
-        return 0;
+    let mut done: usize = 0;
+    while done < buf.len() {
+        let n = match input.read(&mut buf[done..]) {
+            Ok(n) => n,
+            Err(_) => 0,
+        };
+        if n == 0 {
+            break;
+        }
+        done += n;
     }
-    let n = io::read_full(file, buf);
-    libc::close(file);
-    n
+    done
 }
 
-fn print_number(n: u32) {
-    io::print_decimal(STDOUT_FILENO, n as u64);
+// Reads the file, as far as the buffer reaches. One that cannot be opened or read counts as 0 bytes. By a name that is
+// not UTF-8 none can be opened.
+fn read_image<R: Files>(rt: &R, name: &[u8], buf: &mut [u8]) -> usize
+    ensures { IsPrefixLen result buf.new }
+{
+    let Ok(name) = str::from_utf8(name) else {
+        return 0;
+    };
+    match fs::open(rt, name) {
+        Ok(mut file) => read_full(&mut file, buf),
+        Err(_) => 0,
+    }
 }
 
-fn print_end() {
-    io::write_all(STDOUT_FILENO, b"\n");
+fn print_number(rt: &impl Print, n: u32) -> io::Result<()> {
+    rt.print(n)
 }
 
-fn print_space() {
-    io::write_all(STDOUT_FILENO, b" ");
+fn print_end(rt: &impl Print) -> io::Result<()> {
+    rt.write_all(b"\n")
+}
+
+fn print_space(rt: &impl Print) -> io::Result<()> {
+    rt.write_all(b" ")
 }
 
 // "t r u"
-fn print_context(x: Context) {
-    print_number(x.ty);
-    print_space();
-    print_number(x.role);
-    print_space();
-    print_number(x.user);
-    print_end();
+fn print_context(rt: &impl Print, x: Context) -> io::Result<()> {
+    print_number(rt, x.ty)?;
+    print_space(rt)?;
+    print_number(rt, x.role)?;
+    print_space(rt)?;
+    print_number(rt, x.user)?;
+    print_end(rt)
 }
 
 // "c p"
-fn print_event(e: Event) {
-    print_number(e.class);
-    print_space();
-    print_number(e.perm);
-    print_end();
+fn print_event(rt: &impl Print, e: Event) -> io::Result<()> {
+    print_number(rt, e.class)?;
+    print_space(rt)?;
+    print_number(rt, e.perm)?;
+    print_end(rt)
 }
 
 // The word, and a number after it, on a line.
-fn print_line(word: &[u8], n: u32) {
-    io::write_all(STDOUT_FILENO, word);
-    print_space();
-    print_number(n);
-    print_end();
+fn print_line(rt: &impl Print, word: &[u8], n: u32) -> io::Result<()> {
+    rt.write_all(word)?;
+    print_space(rt)?;
+    print_number(rt, n)?;
+    print_end(rt)
 }
 
 // The path of m steps, its contexts and events in turn.
-fn print_path(path: &[u32], m: u32)
+fn print_path(rt: &impl Print, path: &[u32], m: u32) -> io::Result<()>
     requires { 2 * m + 1 ≤ length path.now }
 {
     let last = m as usize;
     let mut j: usize = 0;
     while j < last {
-        print_context(Context::decode(path[2 * j]));
-        print_event(Event::decode(path[2 * j + 1]));
+        print_context(rt, Context::decode(path[2 * j]))?;
+        print_event(rt, Event::decode(path[2 * j + 1]))?;
         j += 1;
     }
-    print_context(Context::decode(path[2 * j]));
+    print_context(rt, Context::decode(path[2 * j]))
 }
 
 // The answer, and the path where one is shown.
-fn print_outcome(outcome: Outcome, path: &[u32])
+fn print_outcome(rt: &impl Print, outcome: Outcome, path: &[u32]) -> io::Result<()>
     requires { Printable outcome path.now }
 {
     match outcome {
-        Outcome::Holds => {
-            io::write_all(STDOUT_FILENO, b"holds\n");
-        }
+        Outcome::Holds => rt.write_all(b"holds\n"),
         Outcome::Order(m) => {
-            print_line(b"order", m);
-            print_path(path, m);
+            print_line(rt, b"order", m)?;
+            print_path(rt, path, m)
         }
         Outcome::Events(m) => {
-            print_line(b"events", m);
-            print_path(path, m);
+            print_line(rt, b"events", m)?;
+            print_path(rt, path, m)
         }
-        Outcome::Refused(k) => {
-            print_line(b"refused", k);
-        }
-        Outcome::NoRoom(m) => {
-            print_line(b"refused 12", m);
-        }
+        Outcome::Refused(k) => print_line(rt, b"refused", k),
+        Outcome::NoRoom(m) => print_line(rt, b"refused 12", m),
     }
 }
 
-// Asks whether the goal of one file holds of the policy of the other, in the slices, and prints the answer.
-pub fn ask(
+// Asks whether the goal of one file holds of the policy of the other, in the slices, and prints the answer. The error is
+// that of the first write that fails, and nothing is printed after it.
+pub fn ask<R: Files + Print>(
+    rt: &R,
     policy_name: &[u8],
     goal_name: &[u8],
     work1: &mut [u32],
     work2: &mut [u32],
     path: &mut [u32],
-) {
+) -> io::Result<()> {
     let mut policy = [0u8; POLICY_BYTES];
     let mut goal = [0u8; GOAL_BYTES];
-    let p = read_image(policy_name, &mut policy);
-    let g = read_image(goal_name, &mut goal);
+    let p = read_image(rt, policy_name, &mut policy);
+    let g = read_image(rt, goal_name, &mut goal);
     let outcome = goal_question(&policy[..p], &goal[..g], work1, work2, path);
-    print_outcome(outcome, path);
+    print_outcome(rt, outcome, path)
 }

@@ -1,0 +1,13 @@
+use Prim.Native.Nat.{◌-◌}
+use mathlib.Core.Path.{sym, subst}
+use mathlib.Core.Logic.{⊎_elim}
+use Rattle.plan.specs.Inner.Leads.{SameSets}
+use Rattle.plan.proofs.LeadLaws.{sets_begin, sets_next}
+use native.Mathlib.Omega.{arith}
+use Rattle.plan.proofs.alike.same_sets.Goals as goal
+
+pub loop-q-init : goal.loop-q-init
+loop-q-init c = (omega arith, sets_begin _ _ _)
+
+pub returns : goal.returns
+returns c = c.loop-q.invariant.1
