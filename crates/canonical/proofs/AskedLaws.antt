@@ -11,7 +11,7 @@ use Rattle.base.proofs.QuestionLaws.{refused_first, refused_then, passed_both}
 use Rattle.policy_image.specs.declared.counts.Counts.{Counts}
 use Rattle.policy_image.specs.declared.counts.Checked.{Checked}
 use Rattle.policy_image.specs.declared.counts.Checked.TheVariants as policy
-use Rattle.policy_image.specs.Policy.{Policy, policy_of}
+use Rattle.policy_image.specs.Policy.{policy_of}
 use Rattle.policy_image.specs.Inner.Sizes.{image_size, most_records}
 use Rattle.policy_image.proofs.EncodingLaws.{image_length}
 use Rattle.policy_check.specs.Questions.{policy_questions}

@@ -1,7 +1,7 @@
 -- Where the rows of the facts, and the constraints and nodes, stand in the canonical policy.
 use Prim.Native.Nat.{ℕ, zero, suc, ◌+◌, ◌-◌, ◌≤◌, ◌<◌}
 use mathlib.Core.Path.{◌≡◌, refl, sym, ap, ap₂, subst, ◌∙◌}
-use mathlib.Core.List.{List, map}
+use mathlib.Core.List.{List}
 use mathlib.Core.Logic.{⊎_elim}
 use native.Mathlib.Omega.{arith}
 use lib.ListN.{length, get_or, length-map, get_or-append, get_or-map}
@@ -14,7 +14,7 @@ use Rattle.policy_image.specs.Encoding.{record_bytes, image_of}
 use Rattle.policy_image.specs.Inner.Sizes.{header_size}
 use Rattle.policy_image.proofs.EncodingLaws.{record_at}
 use Rattle.policy_image.proofs.SizeLaws.{size_split}
-use Rattle.policy_lists.specs.Lists.{records_upto, of_kind_in, kind_list, no_record, record_in, link_in, with_next}
+use Rattle.policy_lists.specs.Lists.{records_upto, of_kind_in, kind_list, no_record, record_in, with_next}
 use Rattle.policy_lists.specs.Joined.{nodes_upto, kinds_upto, renumbered}
 use Rattle.policy_lists.specs.Inner.Places.{next_upto}
 use Rattle.policy_lists.proofs.NodeLaws.{place_length, other_length, place_at, upto_more_length}
@@ -25,7 +25,7 @@ use Rattle.policy_facts.proofs.FactTableLaws.{table_length, table_record_lem}
 use Rattle.policy_facts.proofs.StatedLaws.{canonical_own}
 use Rattle.policy_facts.proofs.CanonicalTurnLaws.{canonical_kept, constraints_end}
 use Rattle.policy_runs.specs.declared.Run.{Run}
-use Rattle.policy_runs.specs.Inner.Runs.{many_upto, run_place, run_record}
+use Rattle.policy_runs.specs.Inner.Runs.{many_upto, run_place}
 use Rattle.policy_runs.proofs.RunImageLaws.{RunIn, RecordsTo}
 use Rattle.policy_runs.proofs.ImageWriteLaws.{EndTable}
 use Rattle.canonical.specs.Inner.Rows.{fact_row, row_bytes}

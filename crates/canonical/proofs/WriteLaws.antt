@@ -3,28 +3,26 @@
 use Prim.Native.Nat.{ℕ, zero, suc, ◌+◌, ◌-◌, ◌≤◌, ◌<◌}
 use mathlib.Core.Path.{◌≡◌, refl, sym, ap, ap₂, subst, ◌∙◌}
 use mathlib.Core.Bool.{Bool, cond}
-use mathlib.Core.List.{List, ◌++◌}
+use mathlib.Core.List.{List}
 use mathlib.Core.Logic.{⊎_elim}
 use native.Mathlib.Omega.{arith}
 use borrow.Author.Tests.{le-leb, lt-leb}
-use lib.ListN.{length, get_or, drop}
+use lib.ListN.{length, get_or}
 use Rattle.base.specs.Bytes.{byte_at}
-use Rattle.base.specs.Ranges.{Within}
 use Rattle.base.specs.Inner.Fill.{Filled}
 use Rattle.base.proofs.Numbers.{split_le}
 use Rattle.policy_image.specs.declared.counts.Counts.{Counts}
 use Rattle.policy_image.specs.declared.records.Record.{Record}
-use Rattle.policy_image.specs.Layout.{record_count, counts_of}
+use Rattle.policy_image.specs.Layout.{counts_of}
 use Rattle.policy_image.specs.Policy.{Policy, policy_of}
-use Rattle.policy_image.specs.Encoding.{image_of}
 use Rattle.policy_image.specs.Inner.Sizes.{size_of, start_of, most_records}
 use Rattle.policy_image.specs.Inner.Writable.{WritableRecord}
 use Rattle.policy_image.proofs.EncodingLaws.{image_writable}
 use Rattle.policy_image.proofs.SizeLaws.{size_le}
-use Rattle.policy_lists.specs.Lists.{records_upto, of_kind_in, kind_list, with_records}
+use Rattle.policy_lists.specs.Lists.{kind_list, with_records}
 use Rattle.policy_lists.proofs.NodeLaws.{most_length, other_length}
 use Rattle.policy_lists.proofs.PlaceLaws.{ending, ending_next, endings_rise}
-use Rattle.policy_facts.specs.Canonical.{fact_kind, canonical_kind, canonical_of}
+use Rattle.policy_facts.specs.Canonical.{canonical_kind, canonical_of}
 use Rattle.policy_facts.specs.Inner.FactTable.{kind_in, table_record}
 use Rattle.policy_facts.proofs.FactTableLaws.{table_length, table_kinds}
 use Rattle.policy_facts.proofs.StatedLaws.{canonical_own, canonical_fact}
@@ -35,7 +33,7 @@ use Rattle.policy_runs.specs.Inner.Tables.{sum_upto, Summed, FewOfEach}
 use Rattle.policy_runs.proofs.TableLaws.{added_up}
 use Rattle.policy_runs.proofs.RunImageLaws.{RecordsTo, records_more}
 use Rattle.policy_runs.proofs.ImageWriteLaws.{WritableLists, EndTable, ends_most, run_fits}
-use Rattle.canonical.specs.Inner.Rows.{keys_of_kind, KeyCounts, FactKinds, fact_row, RowsFit}
+use Rattle.canonical.specs.Inner.Rows.{keys_of_kind, KeyCounts, FactKinds, RowsFit}
 use Rattle.canonical.specs.Inner.Parts.{KeptKinds, Canonizable}
 use Rattle.canonical.proofs.PlacedLaws.{kinds_count, row_is, kept_end, kept_run}
 

@@ -1,12 +1,11 @@
 -- A pass along the chain of a kind, from the head on: which records stand before the cursor, and that none of the kind is passed over.
 use Prim.Native.Nat.{ℕ, zero, suc, ◌≤◌, ◌<◌}
-use mathlib.Core.Path.{◌≡◌, sym, ap, subst, ◌∙◌}
+use mathlib.Core.Path.{◌≡◌, sym, subst, ◌∙◌}
 use mathlib.Core.Logic.{◌⊎◌, inl, inr, ⊎_elim}
 use native.Mathlib.Omega.{arith}
 use Rattle.base.specs.Chain.{Meets, OnChain}
 use Rattle.base.specs.Ranges.{Within}
 use Rattle.base.proofs.ChainLaws.{Visit, visit_start, visit_less, left, meets_zero, meets_step, meets_next, meets_range}
-use Rattle.base.proofs.Numbers.{split_eq}
 use Rattle.policy_image.specs.Policy.{Policy, policy_links}
 use Rattle.policy_links.specs.Chains.{LinksRise, ChainsByKind}
 use Rattle.policy_links.proofs.KindLaws.{OfKind, visit_kind, kind_chain}

@@ -1,5 +1,5 @@
 -- The pass that writes a run: what is written after n records.
-use Prim.Native.Nat.{ℕ, zero, suc, ◌+◌, ◌-◌, ◌≤◌, ◌<◌}
+use Prim.Native.Nat.{ℕ, zero, suc, ◌+◌, ◌≤◌, ◌<◌}
 use mathlib.Core.Path.{◌≡◌, refl, sym, ap, subst, ◌∙◌}
 use mathlib.Core.Bool.{Bool, true, false, cond}
 use mathlib.Core.List.{List, [], ◌++◌}
@@ -12,7 +12,7 @@ use lib.Seq.{get_or-append-add}
 use Rattle.base.specs.Bytes.{byte_at}
 use Rattle.base.specs.Ranges.{Within}
 use Rattle.base.specs.Inner.Fill.{Filled}
-use Rattle.base.proofs.BoolLaws.{true_or_false, clash}
+use Rattle.base.proofs.BoolLaws.{true_or_false}
 use Rattle.base.proofs.FillLaws.{fill_begin, fill_map, fill_then, fill_end}
 use Rattle.base.proofs.Numbers.{split_eq}
 use Rattle.policy_image.specs.declared.records.Record.{Record}
@@ -21,12 +21,10 @@ use Rattle.policy_image.specs.Policy.{Policy, policy_of}
 use Rattle.policy_image.specs.Encoding.{record_bytes}
 use Rattle.policy_image.specs.Inner.Reading.{Bytes}
 use Rattle.policy_image.specs.Inner.Sizes.{stride, size_of, start_of}
-use Rattle.policy_image.specs.Inner.Writable.{WritableRecord}
 use Rattle.policy_image.proofs.EncodingLaws.{record_length}
 use Rattle.policy_image.proofs.SizeLaws.{size_none, size_more, start_add}
-use Rattle.policy_expressions.specs.declared.Use.TheVariants.{Node}
-use Rattle.policy_expressions.specs.Nodes.{has_root, has_left, has_right, use_of, Uses}
-use Rattle.policy_lists.specs.Lists.{kind_list, with_next}
+use Rattle.policy_expressions.specs.Nodes.{has_root, has_left, has_right, Uses}
+use Rattle.policy_lists.specs.Lists.{kind_list}
 use Rattle.policy_lists.specs.Joined.{nodes_upto, renumbered}
 use Rattle.policy_lists.proofs.NodeLaws.{place_length, other_length, upto_more_length}
 use Rattle.policy_lists.proofs.RenumberUseLaws.{use_first, use_second, no_root_left, renumbered_agrees}

@@ -1,0 +1,13 @@
+use Prim.Native.Nat.{◌-◌, ◌≤◌}
+use mathlib.Core.Path.{◌≡◌}
+use Rattle.policy_image.specs.Layout.{record_count}
+use Rattle.policy_image.specs.Policy.{policy_of}
+use Rattle.policy_runs.proofs.CountingLaws.{CountedTo}
+use Rattle.policy_runs.proofs.count_kinds.Given as goal
+
+abbrev pub invariant-loop-done : goal.invariant-loop-done
+invariant-loop-done l =
+    (l.done ≤ l.records) × (l.records ≡ record_count l.policy) × CountedTo (policy_of l.policy).rec l.done l.table
+
+abbrev pub decreases-loop-done : goal.decreases-loop-done
+decreases-loop-done l = l.records - l.done
