@@ -1,7 +1,7 @@
 /* The flow goal checker, for C and C++.
  *
- * Link with the static library that `rt staticlib flowgoal` writes to target/staticlib/libflowgoal.a (x86-64). It needs nothing
- * else but memcpy and memset.
+ * Link with the static library that `tools/library` writes to target/staticlib/libflowgoal.a (x86-64). It needs nothing else
+ * but memcpy and memset.
  *
  * An example, which the tests compile and run as it stands here:
  *

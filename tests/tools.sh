@@ -6,7 +6,7 @@ export LC_ALL
 CARGO_TARGET_DIR=$root/target/cargo
 CARGO_NET_OFFLINE=true
 export CARGO_TARGET_DIR CARGO_NET_OFFLINE
-# where rt writes what it has proved: the static library, and the goal program
+# where what rt has proved is kept: the static library, and the goal program. rt makes them in the out/ of their crates, which it empties.
 PROVED_LIBRARY=$root/target/staticlib
 PROVED_PROGRAM=$root/target/bin/goal_program
 # the requests that have landed, by their letters: the second search answers them where it is told to
@@ -52,11 +52,47 @@ rust() {
     exit 1
 }
 
+# contents FILE..: what files and folders hold, as one line; but for what rt keeps in the out/ of a crate
+contents() { (cd "$root" && find "$@" -name out -prune -o -type f -exec cksum {} + | sort | cksum); }
+
+# proved_of: what the static library and the goal program are made of
+proved_of() { echo "$(rt version 2>/dev/null) $(contents crates crates.txt)"; }
+
+# stamp FILE: the file that says of what it was last made, and what was made
+stamp() { echo "$root/target/$(basename "$1").made"; }
+
+# stands FILE SOURCES: is it what was last made, and made of just these sources?
+stands() { [ -f "$1" ] && [ "$(cat "$(stamp "$1")" 2>/dev/null)" = "$2 $(cksum <"$1")" ]; }
+made() { mkdir -p "$root/target" && echo "$2 $(cksum <"$1")" >"$(stamp "$1")"; }
+
+# ensure FILE SOURCES COMMAND..: makes the file by the command, unless what was last made of just these sources stands there still. The
+# sources are looked at before they are used: one that is changed meanwhile is used the next time.
+ensure() {
+    ensured=$1 sources=$2
+    shift 2
+    stands "$ensured" "$sources" && return
+    "$@" && made "$ensured" "$sources"
+}
+
+# make_library: proves the crate flowgoal and what it stands on, as far as that has changed, and makes the static library
+make_library() {
+    (cd "$root/crates/flowgoal" && rt lib) && mkdir -p "$PROVED_LIBRARY" &&
+        cp "$root/crates/flowgoal/out/libflowgoal.a" "$PROVED_LIBRARY"
+}
+
+# make_program: likewise the goal program. rt runs it, too, in the folder of its crate, where it finds no images.
+make_program() {
+    (cd "$root/crates/goal_program" && rt run </dev/null) && kept_program
+}
+kept_program() {
+    mkdir -p "$(dirname "$PROVED_PROGRAM")" && cp "$root/crates/goal_program/out/goal_program" "$PROVED_PROGRAM"
+}
+
 # library: sees that FLOWGOAL_LIBRARY names the folder of a libflowgoal.a, whole from the root. Where it names none yet, the
 # proved one is made and named.
 library() {
     if [ -z "${FLOWGOAL_LIBRARY-}" ]; then
-        (cd "$root" && rt staticlib flowgoal) || exit 1
+        ensure "$PROVED_LIBRARY/libflowgoal.a" "$(proved_of)" make_library || exit 1
         FLOWGOAL_LIBRARY=$PROVED_LIBRARY
     fi
     FLOWGOAL_LIBRARY=$(cd "$FLOWGOAL_LIBRARY" && pwd) || exit 1
@@ -66,7 +102,7 @@ library() {
 # goal_program: sees that GOAL_PROGRAM names a goal program; the proved one where it names none yet, which is made then.
 goal_program() {
     if [ -z "${GOAL_PROGRAM-}" ]; then
-        (cd "$root" && rt check goal_program) || exit 1
+        ensure "$PROVED_PROGRAM" "$(proved_of)" make_program || exit 1
         GOAL_PROGRAM=$PROVED_PROGRAM
     fi
     export GOAL_PROGRAM

@@ -11,23 +11,24 @@ AGAIN=30
 
 say() { echo "$me: $*" >&2; }
 
-# crates_of CRATE: what it is proved over and itself, in the order in which rt proves them: a level after the other, where each crate stands
-# above those that it depends on, and within a level as crates.txt lists them.
+# crates_of CRATE: what it is proved over and itself, in the order in which rt proves them: each after those that it depends on, and else as
+# the line of the crate in crates.txt lists them.
 crates_of() {
     awk -v crate="$1" '
+        function below(name,    i, n, of) {
+            if (seen[name]++) return
+            n = split(needs[name], of, " ")
+            for (i = 1; i <= n; i++) if (of[i] in needs) below(of[i])
+            print name
+        }
         { sub(/#.*/, "") }
         /:/ {
             name = $1
             sub(/:$/, "", name)
-            level[name] = 0
-            for (i = 2; i <= NF; i++) if ($i in level && level[$i] >= level[name]) level[name] = level[$i] + 1
-            place[name] = ++count
-            if (name != crate) next
-            for (i = 2; i <= NF; i++) if ($i in level) wanted[$i]
-            wanted[name]
+            sub(/^[^:]*:/, "")
+            needs[name] = $0
         }
-        END { for (name in wanted) print level[name], place[name], name }' "$root/crates.txt" |
-        sort -n -k 1,1 -k 2,2 | sed 's/.* //'
+        END { below(crate) }' "$root/crates.txt"
 }
 
 # time_so_far: since the command was called
@@ -36,20 +37,19 @@ time_so_far() {
     if [ "$seconds" -lt 60 ]; then echo "$seconds s"; else echo "$((seconds / 60)) min $((seconds % 60)) s"; fi
 }
 
-# watch LOG CRATES: says which crate is being proved, of how many, and how long it has taken so far, while the command is there. By rt's
-# lines the crates before it are done; one that was proved before passes in no time, and is not told of.
+# watch LOG CRATES: says which crate is being proved, of how many, and how long it has taken so far, while the command is there. rt says of
+# each crate when it begins with it; one that was proved before it passes over in no time, and says nothing.
 watch() {
     last='' next=0
     while kill -0 $$ 2>/dev/null; do
         sleep 1
-        proved=$(grep -c '^rt: [a-z_0-9]* proved' "$1")
-        crate=$(sed -n "$((proved + 1))p" "$2")
+        crate=$(sed -n 's/^rt: chose --jobs [0-9]* for \([a-z_0-9]*\)$/\1/p' "$1" | tail -n 1)
         now=$(date +%s)
         if [ "$crate" != "$last" ]; then
             last=$crate next=$((now + SOON))
         elif [ -n "$crate" ] && [ "$now" -ge "$next" ]; then
             next=$((now + AGAIN))
-            say "proving $crate, crate $((proved + 1)) of $(grep -c . "$2"); $(time_so_far) so far"
+            say "proving $crate, crate $(grep -nx "$crate" "$2" | cut -d: -f1) of $(grep -c . "$2"); $(time_so_far) so far"
         fi
     done
 }

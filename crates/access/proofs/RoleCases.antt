@@ -1,4 +1,4 @@
--- The role rule on a policy of our own (specs/cases/Roles.antt), from the definitions alone: a transition with equal roles and no kind 7 record, and near
+-- The role rule on a policy of our own (specs/Cases/Roles.antt), from the definitions alone: a transition with equal roles and no kind 7 record, and near
 -- cases in which one clause alone forbids it; then each misreading, on an action of which it says something else.
 use mathlib.Core.Bool.{true, false, not}
 use mathlib.Core.Path.{◌≡◌, refl}

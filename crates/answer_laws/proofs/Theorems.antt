@@ -1,4 +1,4 @@
--- What fixes each answer (specs/cases/Theorems.antt says what that is).
+-- What fixes each answer (specs/Cases/Theorems.antt says what that is).
 use Prim.Native.Nat.{ℕ}
 use mathlib.Core.List.{List}
 use mathlib.Core.Path.{◌≡◌, sym, ap, ◌∙◌}

@@ -1,4 +1,4 @@
--- The claims of request e, for all policies whose canonical image is written (specs/cases/Theorems.antt says what each of them is).
+-- The claims of request e, for all policies whose canonical image is written (specs/Cases/Theorems.antt says what each of them is).
 use Prim.Native.Nat.{ℕ, ◌≤◌}
 use mathlib.Core.Path.{◌≡◌, refl, sym, ap, subst}
 use mathlib.Core.List.{List, [], ◌∷◌}

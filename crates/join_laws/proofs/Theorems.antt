@@ -1,4 +1,4 @@
--- The claims of request c, for all images that are joined (specs/cases/Theorems.antt says what each of them is).
+-- The claims of request c, for all images that are joined (specs/Cases/Theorems.antt says what each of them is).
 use Prim.Native.Nat.{ℕ, ◌+◌, ◌≤◌}
 use mathlib.Core.Path.{sym, ap}
 use mathlib.Core.List.{List, [], ◌∷◌, ◌++◌}

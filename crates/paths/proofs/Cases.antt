@@ -1,6 +1,6 @@
 -- Ways to misread the path definitions, each with a small goal that the definitions answer otherwise. A goal has one right answer
 -- (`right_unique`), so each theorem rules out what the misreading would answer.
--- specs/cases/Drawings.antt has the drawings.
+-- specs/Cases/Drawings.antt has the drawings.
 use mathlib.Core.List.{[]}
 use Prim.Native.Nat.{ℕ, ◌+◌, ◌-◌, ◌%◌, ◌^◌, ◌<◌}
 use native.Mathlib.Omega.{arith}

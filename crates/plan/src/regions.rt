@@ -1,6 +1,6 @@
 // Where each region of a plan starts: the sum of the start and the size of the region before it. The twins of these constants are in
-// specs/inner/Regions.antt, with the functions that read an entry in specs/inner/Entries.antt. What the entries mean is said in
-// specs/inner/Plan.antt, and in specs/inner/Ends.antt where a question has two contexts and no goal.
+// specs/Inner/Regions.antt, with the functions that read an entry in specs/Inner/Entries.antt. What the entries mean is said in
+// specs/Inner/Plan.antt, and in specs/Inner/Ends.antt where a question has two contexts and no goal.
 use plan_tables::groups::EVENTS as EVENT_CODES;
 use plan_tables::{CLASSES, ROLES as ROLE_NUMBERS, TYPES};
 

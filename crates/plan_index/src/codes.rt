@@ -1,4 +1,4 @@
-// The numbers of the index. Their twins are in specs/inner/Codes.antt.
+// The numbers of the index. Their twins are in specs/Inner/Codes.antt.
 ghost use Rattle.std.specs.Prelude.{◌≡◌, ◌<◌};
 ghost use Rattle.plan_index.specs.Inner.Codes.{type_codes, key_code, item_code};
 

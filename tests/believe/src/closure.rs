@@ -24,9 +24,9 @@ pub struct Closure {
     left: Vec<(Name, String)>,
 }
 
-/// Whether a word in a text is this name: the operator `_≡_` is written `≡` between what it joins.
+/// Whether a word in a text is this name: the operator `◌≡◌` is written `≡` between what it joins.
 fn spells(name: &str, word: &str) -> bool {
-    name == word || name.contains('_') && name.split('_').any(|part| part == word)
+    name == word || name.contains('◌') && name.split('◌').any(|part| part == word)
 }
 
 /// What the first name of a path stands for, where the file defines it or a `use` line brings it.

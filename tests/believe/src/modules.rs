@@ -1,8 +1,11 @@
 //! Modules as a `use` line names them, and the files that they stand for.
 
+/// The libraries of the toolchain whose modules are named as those of a crate are.
+const OF_TOOLCHAIN: [&str; 2] = ["core", "std"];
+
 #[derive(Clone, Debug, PartialEq, Eq, PartialOrd, Ord)]
 pub enum Module {
-    /// a file of a crate's `specs/`, by its path there without the ending: `Bits`, `inner/Fill`
+    /// a file of a crate's `specs/`, by its path there without the ending: `Bits`, `Inner/Fill`
     Specs { of: String, path: String },
     /// what is made of a struct or an enum of a crate's `src/`
     Declared(Type),
@@ -42,23 +45,27 @@ pub enum Place {
 }
 
 impl Module {
-    /// From the parts of a path: `Rattle·base.specs.Bits`, `Rattle·base·specs.specs.Bits`, `lib.Dec`.
+    /// From the parts of a path: `Rattle.base.specs.Bits`, `Rattle.std.specs.Prelude`.
     pub fn named(parts: &[String]) -> Module {
-        let parts = if parts.first().is_some_and(|first| first == "package") { &parts[1..] } else { parts };
         let whole = || Module::Library(parts.join("."));
-        let Some(library) = parts.first().and_then(|first| first.strip_prefix("Rattle·")) else { return whole() };
-        let of = library.trim_end_matches("·specs").trim_end_matches("·proofs").to_string();
-        match (parts.get(1).map(String::as_str), parts.get(2).map(String::as_str)) {
-            (Some("specs"), Some("declared")) => Module::declared(of, &parts[3..]),
-            (Some("specs"), _) => Module::Specs { of, path: parts[2..].join("/") },
-            (Some("proofs"), _) => Module::Proofs { of, path: parts[2..].join("/") },
+        let Some(("Rattle", [of, kind, rest @ ..])) = parts.split_first().map(|(first, rest)| (first.as_str(), rest)) else {
+            return whole();
+        };
+        if OF_TOOLCHAIN.contains(&of.as_str()) {
+            return whole();
+        }
+        let (of, first) = (of.clone(), rest.first().map(String::as_str));
+        match (kind.as_str(), first) {
+            ("specs", Some("declared")) => Module::declared(of, &rest[1..]),
+            ("specs", _) => Module::Specs { of, path: rest.join("/") },
+            ("proofs", _) => Module::Proofs { of, path: rest.join("/") },
             _ => whole(),
         }
     }
 
-    /// `counts.Counts`, or `counts.Checked.the-variants` for the names of an enum's cases.
+    /// `counts.Counts`, or `counts.Checked.TheVariants` for the names of an enum's cases.
     fn declared(of: String, parts: &[String]) -> Module {
-        let parts = if parts.last().is_some_and(|last| last == "the-variants") { &parts[..parts.len() - 1] } else { parts };
+        let parts = if parts.last().is_some_and(|last| last == "TheVariants") { &parts[..parts.len() - 1] } else { parts };
         let (name, path) = parts.split_last().map_or((String::new(), &parts[..0]), |(name, path)| (name.clone(), path));
         Module::Declared(Type { of, path: path.join("/"), name })
     }
@@ -80,8 +87,8 @@ impl Module {
         match self {
             Module::Specs { path, .. } => match path.split_once('/') {
                 None => Place::Believed,
-                Some(("inner", _)) => Place::Inner,
-                Some(("cases", _)) => Place::Cases,
+                Some(("Inner", _)) => Place::Inner,
+                Some(("Cases", _)) => Place::Cases,
                 Some(_) => Place::Elsewhere,
             },
             Module::Proofs { .. } => Place::Proofs,
@@ -91,7 +98,7 @@ impl Module {
 
     /// Whether it is a node file: one that declares the modules of a folder.
     pub fn is_node(&self) -> bool {
-        matches!(self, Module::Specs { path, .. } if ["", "Lib", "inner", "cases"].contains(&path.as_str()))
+        matches!(self, Module::Specs { path, .. } if ["", "Lib", "Inner", "Cases"].contains(&path.as_str()))
     }
 
     /// The file, from the root of the repository on; a module of the toolchain is named as it is.

@@ -8,8 +8,19 @@ pub struct Function {
     pub public: bool,
     /// on one line
     pub signature: String,
-    pub requires: Vec<String>,
-    pub ensures: Vec<String>,
+    pub requires: Vec<Clause>,
+    pub ensures: Vec<Clause>,
+}
+
+/// A clause of a contract.
+#[derive(Clone, Debug)]
+pub struct Clause {
+    /// `requires` or `ensures`, with a star where it speaks of memory
+    kind: String,
+    /// the name that the clause has beside others of its kind; empty where it is alone
+    name: String,
+    /// what stands in its braces, on one line
+    pub text: String,
 }
 
 /// A struct or an enum.
@@ -38,7 +49,7 @@ pub struct RattleFile {
 /// A piece of code at the top level: what stands before its braces, its clauses, and what the braces hold.
 struct Item {
     head: String,
-    clauses: Vec<(String, String)>,
+    clauses: Vec<Clause>,
     body: String,
 }
 
@@ -73,9 +84,24 @@ fn inside(bracketed: &str) -> String {
     inner.strip_suffix(['}', ')']).unwrap_or(inner).to_string()
 }
 
-/// The clause that a brace opens, by the word before it.
-fn clause(head: &str) -> Option<&'static str> {
-    ["requires", "ensures"].into_iter().find(|word| head.trim_end().ends_with(word))
+const KINDS: [&str; 4] = ["requires", "requires*", "ensures", "ensures*"];
+
+/// The clause that a brace opens, by the word before it or the word and a name, and where the head ends without these.
+fn clause(head: &str) -> Option<(Clause, usize)> {
+    let (before, last) = last_word(head)?;
+    let (before, kind, name) = match last_word(before) {
+        _ if KINDS.contains(&last) => (before, last, ""),
+        Some((before, kind)) if KINDS.contains(&kind) => (before, kind, last),
+        _ => return None,
+    };
+    Some((Clause { kind: kind.to_string(), name: name.to_string(), text: String::new() }, before.len()))
+}
+
+/// A text cut before its last word.
+fn last_word(text: &str) -> Option<(&str, &str)> {
+    let text = text.trim_end();
+    let at = text.rfind(char::is_whitespace).map_or(0, |at| at + 1);
+    (at < text.len()).then(|| text.split_at(at))
 }
 
 fn items(text: &str) -> Vec<Item> {
@@ -90,9 +116,9 @@ fn items(text: &str) -> Vec<Item> {
         rest = after;
         let mut ended = c == ';';
         match clause(&item.head) {
-            Some(word) if c == '{' => {
-                item.head.truncate(item.head.trim_end().len() - word.len());
-                item.clauses.push((word.to_string(), one_line(&inside(taken))));
+            Some((clause, length)) if c == '{' => {
+                item.head.truncate(length);
+                item.clauses.push(Clause { text: one_line(&inside(taken)), ..clause });
             }
             _ if c == '{' && !is_use => (item.body, ended) = (inside(taken), true),
             _ => item.head.push_str(taken),
@@ -104,10 +130,10 @@ fn items(text: &str) -> Vec<Item> {
     items
 }
 
-/// The head without attributes such as `#[no_mangle]`, and on one line.
+/// The head without attributes such as `#[unsafe(no_mangle)]` and `#![tactic(auto)]`, and on one line.
 fn plain_head(head: &str) -> String {
     let mut head = head.trim_start();
-    while let Some(attribute) = head.strip_prefix('#') {
+    while let Some(attribute) = head.strip_prefix("#!").or(head.strip_prefix('#')) {
         head = attribute[balanced(attribute)..].trim_start();
     }
     one_line(head)
@@ -169,8 +195,8 @@ impl RattleFile {
         self.declarations.push(Declaration { kind: kind.to_string(), name, parts });
     }
 
-    fn function(&mut self, name: &str, public: bool, head: String, clauses: Vec<(String, String)>) {
-        let of = |kind: &str| clauses.iter().filter(|(k, _)| k == kind).map(|(_, text)| text.clone()).collect();
+    fn function(&mut self, name: &str, public: bool, head: String, clauses: Vec<Clause>) {
+        let of = |kind: &str| clauses.iter().filter(|c| c.kind.trim_end_matches('*') == kind).cloned().collect();
         let signature = head.replace("( ", "(").replace(", )", ")");
         self.functions.push(Function {
             name: name.to_string(),
@@ -226,7 +252,7 @@ impl Function {
 
     /// As the page quotes it: the signature, and each `ensures`.
     pub fn quoted(&self) -> String {
-        let ensures = self.ensures.iter().map(|text| format!("    ensures {{ {text} }}"));
+        let ensures = self.ensures.iter().map(|clause| format!("    {}", clause.written()));
         [self.signature.clone()].into_iter().chain(ensures).collect::<Vec<_>>().join("\n")
     }
 
@@ -237,6 +263,14 @@ impl Function {
 
     /// What is promised, as tokens of antt.
     pub fn promised(&self) -> Vec<Token> {
-        self.ensures.iter().flat_map(|text| tokens(text)).collect()
+        self.ensures.iter().flat_map(|clause| tokens(&clause.text)).collect()
+    }
+}
+
+impl Clause {
+    /// As it stands in the code.
+    pub fn written(&self) -> String {
+        let words = [self.kind.as_str(), &self.name, "{", &self.text, "}"];
+        words.into_iter().filter(|word| !word.is_empty()).collect::<Vec<_>>().join(" ")
     }
 }

@@ -16,10 +16,10 @@ pub struct Rule {
 /// In words, where a module stands.
 fn place_of(module: &Module) -> &'static str {
     match module.place() {
-        Place::Inner => "specs/inner",
-        Place::Cases => "specs/cases",
+        Place::Inner => "specs/Inner",
+        Place::Cases => "specs/Cases",
         Place::Proofs => "proofs",
-        Place::Elsewhere => "a folder of specs that is neither inner nor cases",
+        Place::Elsewhere => "a folder of specs that is neither Inner nor Cases",
         Place::Believed | Place::Given => "specs",
     }
 }
@@ -69,13 +69,13 @@ fn all_believed(tree: &Tree, closure: &Closure) -> Vec<String> {
         let at = file.module.file();
         if believed.is_empty() {
             wrong.push(format!(
-                "{at}: no promise rests on any definition of this file: it belongs into specs/inner or specs/cases"
+                "{at}: no promise rests on any definition of this file: it belongs into specs/Inner or specs/Cases"
             ));
             continue;
         }
         let spare = file.definitions.iter().filter(|d| !believed.contains(d.name.as_str()));
         wrong.extend(
-            spare.map(|d| format!("{at}:{}: no promise rests on {}: it belongs into specs/inner or specs/cases", d.line, d.name)),
+            spare.map(|d| format!("{at}:{}: no promise rests on {}: it belongs into specs/Inner or specs/Cases", d.line, d.name)),
         );
     }
     wrong
@@ -100,7 +100,7 @@ fn no_duties(tree: &Tree) -> Vec<String> {
     for (path, code) in tree.outward() {
         for function in code.functions.iter().filter(|f| f.public) {
             let name = &function.name;
-            wrong.extend(function.requires.iter().map(|text| format!("{path}: {name} asks its caller for {text}")));
+            wrong.extend(function.requires.iter().map(|clause| format!("{path}: {name} asks its caller for {}", clause.text)));
             if function.ensures.is_empty() {
                 wrong.push(format!("{path}: {name} has no `ensures`"));
             }
@@ -163,12 +163,12 @@ pub fn all(tree: &Tree, closure: &Closure, stated: &Closure) -> Vec<Rule> {
     vec![
         rule("all that the promises rest on can be found", followed(tree, closure)),
         rule("what the promises rest on stands directly in specs", in_specs(closure)),
-        rule("a file of specs uses nothing of inner, cases or proofs", believed_uses(tree)),
+        rule("a file of specs uses nothing of Inner, Cases or proofs", believed_uses(tree)),
         rule("the promises rest on every definition that stands directly in specs", all_believed(tree, closure)),
-        rule("Lib, inner and cases declare modules alone, and specs has no other folders", nodes_and_folders(tree)),
+        rule("Lib, Inner and Cases declare modules alone, and specs has no other folders", nodes_and_folders(tree)),
         rule("an outward call asks nothing of its caller, and promises something", no_duties(tree)),
         rule("a name of what is believed has one meaning", one_meaning(closure)),
-        rule("a file of cases uses nothing of inner or proofs", cases_use(tree)),
+        rule("a file of Cases uses nothing of Inner or proofs", cases_use(tree)),
         rule("the page lists the files with their lines", page_rules::files(tree, closure)),
         rule("the page quotes the outward calls", page_rules::calls(tree)),
         rule("a theorem has the type of one closed record", theorems::unclosed(tree)),

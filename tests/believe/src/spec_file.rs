@@ -236,7 +236,7 @@ impl Block {
 
 /// Whether a path begins at a crate's library, and so needs no `use` line.
 pub fn is_whole(path: &[String]) -> bool {
-    path.first().is_some_and(|first| first.starts_with("Rattle·") || first == "package")
+    path.first().is_some_and(|first| first == "Rattle")
 }
 
 /// The lines as they stand, without comments, each with its end.

@@ -9,10 +9,10 @@ use std::collections::BTreeMap;
 
 /// Each by its crate, its file of `proofs/` and its name, in the order of the page.
 const THEOREMS: [[&str; 3]; 4] = [
-    ["weir", "Theorem", "weir-cases"],
-    ["answer_laws", "Theorems", "one-result"],
-    ["join_laws", "Theorems", "join-claims"],
-    ["canonical_laws", "Theorems", "canonical-claims"],
+    ["weir", "Theorem", "weir_cases"],
+    ["answer_laws", "Theorems", "one_result"],
+    ["join_laws", "Theorems", "join_claims"],
+    ["canonical_laws", "Theorems", "canonical_claims"],
 ];
 
 pub struct Theorem {
@@ -48,12 +48,12 @@ fn read(tree: &Tree, [of, path, name]: [&'static str; 3]) -> Result<Theorem, Str
     Ok(Theorem { name, file, statement })
 }
 
-/// What is wrong with the record that a theorem has for its type: it must stand in `specs/cases` and depend on nothing.
+/// What is wrong with the record that a theorem has for its type: it must stand in `specs/Cases` and depend on nothing.
 fn misstated(tree: &Tree, theorem: &Theorem) -> Option<String> {
     let (module, name) = &theorem.statement;
     let at = format!("{} has the type {name} of {}", theorem.name, module.file());
     if module.place() != Place::Cases {
-        return Some(format!("{at}, which does not stand in specs/cases"));
+        return Some(format!("{at}, which does not stand in specs/Cases"));
     }
     let Some(statement) = definition(tree, &theorem.statement) else { return Some(format!("{at}, which does not define it")) };
     let header = statement.stretches.first().map_or(&[][..], |first| &first.tokens);

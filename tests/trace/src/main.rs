@@ -88,7 +88,7 @@ fn check_edits(pages: &[Page], named: &BTreeSet<String>, repository: &Repository
     wrong
 }
 
-/// All checks but that of the logs.
+/// All checks but that of the log.
 fn check(texts: &[(String, String)], repository: &Repository) -> Vec<Checked> {
     let pages = texts.iter().map(|(name, text)| Page::read(name, text));
     let (prose, pages): (Vec<Page>, Vec<Page>) = pages.partition(|page| prose::PAGES.contains(&page.name.as_str()));
@@ -144,7 +144,7 @@ fn try_damage(texts: &[(String, String)], repository: &Repository) -> Vec<Checke
     trials.chain(prose).chain(EDIT_TRIALS.map(edit)).chain([twice]).collect()
 }
 
-/// The page of the edits against their logs, and whether quotes of errors that no log has are noticed.
+/// The page of the edits against their log, and whether quotes of errors that it does not have are noticed.
 fn check_logs(repository: &Repository) -> Vec<Checked> {
     let page = fs::read_to_string(repository.root.join(edits::PAGE)).unwrap_or_default();
     let wrong = edits::stale(repository, &page);
@@ -155,18 +155,21 @@ fn check_logs(repository: &Repository) -> Vec<Checked> {
     };
     let trials = [
         ("a quote of another file", page.replacen("\n> proofs/", "\n> proofs/Stale/", 1)),
-        ("a quote with a word that no log has", page.replacen(" the two types ", " the three types ", 1)),
+        ("a quote with a word that the log does not have", page.replacen("\n> ", "\n> stale ", 1)),
     ];
     let mut checked: Vec<Checked> = trials.map(tried).into();
-    checked.insert(0, Checked { what: format!("{} is what the edits and their logs say", edits::PAGE), wrong });
+    checked.insert(0, Checked { what: format!("{} is what the edits and their log say", edits::PAGE), wrong });
     checked
 }
 
 /// Whether an error is quoted alike in whichever order the prover has put its sentences.
 fn check_orders() -> Checked {
-    let sentences = ["expected type `A`, but this has type `B`", "computed as far as they go, the two types are `C` (expected) and `D` (found)"];
+    let sentences = [
+        "expected type `A`, but this has type `B`",
+        "computed as far as they go, the two types are `C` (expected) and `D` (found)",
+    ];
     let log = |first: &str, second: &str| format!("/far/a/b/proofs/F.antt:1:2: error: `f`: {first}\n  {second}\n");
-    let quotes = [[0, 1], [1, 0]].map(|[k, l]| quote::errors(&log(sentences[k], sentences[l]), "a/b"));
+    let quotes = [[0, 1], [1, 0]].map(|[k, l]| quote::errors(&log(sentences[k], sentences[l])));
     let wrong = if quotes[0] == quotes[1] && quotes[0].len() == 1 { Vec::new() } else { vec![format!("{quotes:?}")] };
     Checked { what: "an error is quoted alike whatever the order of its sentences".to_string(), wrong }
 }

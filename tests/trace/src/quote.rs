@@ -40,22 +40,24 @@ fn said_in(log: &str, line_of: impl Fn(&str) -> Option<(&str, &str)>) -> Vec<Sai
     said
 }
 
-/// A file within the copy of the crate, without line and column, so that a proof can be moved; never a place of the machine.
-fn file<'a>(place: &'a str, label: &str) -> &'a str {
+/// A file within its crate, without line and column, so that a proof can be moved; never a place of the machine.
+fn file(place: &str) -> &str {
     let path = place.trim_end_matches(|c: char| c.is_ascii_digit() || c == ':');
-    match path.split_once(&format!("/{label}/")) {
-        Some((_, within)) => within,
-        None => path.rsplit('/').next().unwrap_or(path),
+    let is_here = !path.starts_with('/');
+    if is_here {
+        path.trim_start_matches("./")
+    } else {
+        path.rsplit('/').next().unwrap_or(path)
     }
 }
 
 /// The words of an error, with a file in place of each path of the machine.
-fn homely(text: &str, label: &str) -> String {
+fn homely(text: &str) -> String {
     let word = |word: &str| {
         let start = word.find(|c| !"`(".contains(c)).unwrap_or(0);
         let (before, path) = word.split_at(start);
         let is_path = path.starts_with('/') && path.matches('/').count() > 1;
-        format!("{before}{}", if is_path { file(path, label) } else { path })
+        format!("{before}{}", if is_path { file(path) } else { path })
     };
     text.split(' ').map(word).collect::<Vec<_>>().join(" ")
 }
@@ -123,13 +125,14 @@ fn elided(term: &str) -> String {
     text
 }
 
-/// A term with the modules cut off its names: `Prim.Native.Nat.max` is `max`. A field, `.args`, stays.
+/// A term with the modules cut off its names: `Prim.Native.Nat.max` is `max`. Fields stay, as in `l.next`: modules have capital letters.
 fn unqualified(term: &str) -> String {
     let mut text = String::new();
     for piece in term.split_inclusive(ends_name) {
         let name = piece.trim_end_matches(ends_name);
-        let after = if name.starts_with('.') || name.ends_with('.') { None } else { name.rfind('.') };
-        text += &piece[after.map_or(0, |dot| dot + 1)..];
+        let dots = name.match_indices('.').map(|(dot, _)| dot).filter(|dot| dot + 1 < name.len());
+        let is_module = |dot: &usize| name[..*dot].rsplit('.').next().is_some_and(|part| part.starts_with(char::is_uppercase));
+        text += &piece[dots.filter(is_module).last().map_or(0, |dot| dot + 1)..];
     }
     text
 }
@@ -158,7 +161,7 @@ fn readable(text: &str, longest: usize) -> String {
     let written = |term: &str| {
         let brief = unqualified(&elided(term));
         let is_own = short.get(&brief).is_some_and(|sharing| sharing.len() == 1);
-        cut(&if is_own { brief } else { elided(term).replace("Rattle·", "") }, longest)
+        cut(&if is_own { brief } else { elided(term).replace("Rattle.", "") }, longest)
     };
     let pieces = text.split('`').enumerate();
     pieces.map(|(k, piece)| if k % 2 == 0 { piece.to_string() } else { format!("`{}`", written(piece)) }).collect()
@@ -181,10 +184,10 @@ fn theorem(text: &str) -> (&str, &str) {
 }
 
 /// The errors of the log of an edit, or its notes where there is no error, each as a quote.
-pub fn errors(log: &str, label: &str) -> Vec<String> {
+pub fn errors(log: &str) -> Vec<String> {
     let errors = said_in(log, error_in);
     let said = if errors.is_empty() { said_in(log, note_in) } else { errors };
-    said.iter().map(|said| quote(said, label)).collect()
+    said.iter().map(quote).collect()
 }
 
 /// A quote without the numbers at which a goal fails: the prover finds some, and may find others.
@@ -192,12 +195,12 @@ pub fn without_numbers(quote: &str) -> &str {
     quote.split("All of that holds, and the goal fails, at").next().unwrap_or(quote)
 }
 
-fn quote(said: &Said, label: &str) -> String {
-    let text = homely(&joined(said), label);
+fn quote(said: &Said) -> String {
+    let text = homely(&joined(said));
     let (name, rest) = theorem(&text);
     let (part, types) = telling(rest);
     let left_out = if rest.starts_with(part) { "" } else { "… " };
-    let head = format!("{}: {name}{left_out}", file(&said.place, label));
+    let head = format!("{}: {name}{left_out}", file(&said.place));
     // the types themselves only where they are short enough to be read
     let expected = types.find(" but this has type").map_or(types, |at| types[..at].trim_end_matches(','));
     let whole = |types: &str| format!("{head}{}", readable(&format!("{part}{types}"), usize::MAX));

@@ -50,7 +50,7 @@ fn code_of(path: &Path) -> Option<String> {
 
 /// Whether a character can be part of a name; `-` and primes can, in a definition's.
 fn in_name(c: char) -> bool {
-    c.is_alphanumeric() || "_-'′·".contains(c)
+    c.is_alphanumeric() || "_-'".contains(c)
 }
 
 /// Whether the name stands in the text, and not as a part of a longer one.
@@ -61,12 +61,12 @@ fn has_word(text: &str, name: &str) -> bool {
     })
 }
 
-/// The files below a folder, those of the pages and of what is built aside.
+/// The files below a folder: those of the pages aside, of what is built, and of what names things as they were called before or will be.
 fn files_below(folder: &Path) -> Vec<PathBuf> {
-    const ASIDE: [&str; 3] = ["target", "docs", ".git"];
-    let (folders, files): (Vec<PathBuf>, Vec<PathBuf>) = listed(folder).into_iter().partition(|path| path.is_dir());
-    let folders = folders.iter().filter(|path| !ASIDE.contains(&name_of(path).as_str()));
-    files.into_iter().chain(folders.flat_map(|path| files_below(path))).collect()
+    const ASIDE: [&str; 8] = ["target", "out", "docs", "next", ".git", "answers.py", "respell.py", "respelled.tsv"];
+    let left = listed(folder).into_iter().filter(|path| !ASIDE.contains(&name_of(path).as_str()));
+    let (folders, files): (Vec<PathBuf>, Vec<PathBuf>) = left.partition(|path| path.is_dir());
+    files.into_iter().chain(folders.iter().flat_map(|path| files_below(path))).collect()
 }
 
 /// The names that stand in the files below a folder, with those of the files and of the folders that they are in.
@@ -91,7 +91,7 @@ fn functions_of(path: &Path) -> Vec<String> {
 /// The files of definitions in a folder and the folders in it, those of cases aside.
 fn definition_files(folder: &Path) -> Vec<PathBuf> {
     let (folders, files): (Vec<PathBuf>, Vec<PathBuf>) = listed(folder).into_iter().partition(|path| path.is_dir());
-    let inner = folders.iter().filter(|path| name_of(path) != "cases").flat_map(|path| definition_files(path));
+    let inner = folders.iter().filter(|path| name_of(path) != "Cases").flat_map(|path| definition_files(path));
     files.iter().filter(|path| path.extension().is_some_and(|ending| ending == "antt")).cloned().chain(inner).collect()
 }
 
@@ -173,7 +173,9 @@ impl Repository {
     /// Whether each name of a piece of code stands in some file; `plan_` is what names begin with.
     pub fn knows(&self, code: &str) -> bool {
         let is_number = |word: &str| word.chars().all(|c| c.is_ascii_digit() || c == '-');
-        let begins = |word: &str| word.ends_with('_') && self.words.range(word.to_string()..).next().is_some_and(|next| next.starts_with(word));
+        let begins = |word: &str| {
+            word.ends_with('_') && self.words.range(word.to_string()..).next().is_some_and(|next| next.starts_with(word))
+        };
         let is_known = |word: &str| is_number(word) || self.words.contains(word) || begins(word);
         self.words.contains(code) || code.split(|c| !in_name(c)).all(is_known)
     }
