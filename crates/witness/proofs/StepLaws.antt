@@ -35,7 +35,7 @@ use Rattle.search_steps.specs.declared.nearest.Offer.{Offer}
 use Rattle.search_steps.specs.Inner.Nearest.{closed, PassedOver}
 use Rattle.search_steps.specs.Inner.Steps.{Offering, ResumesFrom, Facing, NextOffer}
 use Rattle.search_steps.proofs.FlowLaws.{flow_held}
-use Rattle.search_steps.proofs.FlowLaws as flow-laws
+use Rattle.search_steps.proofs.FlowLaws as flow_laws
 use Rattle.plan.proofs.MeetsLaws.{held_is}
 use Rattle.search_graph.specs.declared.arrival.Arrival.{Arrival}
 use Rattle.search_graph.specs.declared.arrival.Arrival.TheVariants.{Enter, Dropped, Broken}

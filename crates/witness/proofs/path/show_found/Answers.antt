@@ -5,16 +5,7 @@ use Rattle.paths.specs.Inner.Least.{at}
 use Rattle.search_graph.specs.Inner.Tasks.{graph_of}
 use Rattle.search.specs.Inner.Found.{reached_by, FoundBy}
 use Rattle.witness.proofs.PathLaws.{start_found, step_found, shown_start}
-use Rattle.witness.proofs.path.show_found.Goals.{In-At-2}
 use Rattle.witness.proofs.path.show_found.Goals as goal
-
--- a step into an end was found
-module _ (K : In-At-2) where
-  last : FoundBy (graph_of K.args.policy.now K.args.plan.now K.args.task) K.args.back.now K.in-At.last
-  last = step_found K.requires.1 K.in-At.is
-
-  steps : reached_by K.args.found ≡ at (K.in-At.last.depth + 1)
-  steps = ap reached_by K.in-At.is ∙ ap at (omega arith)
 
 pub returns-then-path-eq0 : goal.returns-then-path-eq0
 returns-then-path-eq0 c = (ap reached_by c.in-Start.is, omega arith, refl)
@@ -28,13 +19,13 @@ returns-else-path-eq0 c =
     (ap reached_by q, shown_start _ c.args.task.mode c.args.path.now c.requires.0.readable.some_leg (omega (arith, c.if-path-eq0.false)) (start_found c.requires.1 q))
 
 pub overflow_add-m : goal.overflow_add-m
-overflow_add-m c = omega (arith, (last (goal.at.overflow_add-m c).In-At-2).short, c.requires.0.readable.nodes)
+overflow_add-m c = omega (arith, (step_found c.requires.1 c.in-At.is).short, c.requires.0.readable.nodes)
 
 pub returns-then-path-m : goal.returns-then-path-m
-returns-then-path-m c = (steps (goal.at.returns-then-path-m c).In-At-2, c.if-path-m.true, refl)
+returns-then-path-m c = (ap reached_by c.in-At.is ∙ ap at (omega arith), c.if-path-m.true, refl)
 
 pub write_path-requires : goal.write_path-requires
-write_path-requires c = let p = c.requires in (p.0, last (goal.at.write_path-requires c).In-At-2, p.2, c.if-path-m.false)
+write_path-requires c = let p = c.requires in (p.0, step_found c.requires.1 c.in-At.is, p.2, c.if-path-m.false)
 
 pub returns-else-path-m : goal.returns-else-path-m
-returns-else-path-m c = (steps (goal.at.returns-else-path-m c).In-At-2, c.write_path.ensures)
+returns-else-path-m c = (ap reached_by c.in-At.is ∙ ap at (omega arith), c.write_path.ensures)

@@ -1,4 +1,5 @@
-use mathlib.Core.Path.{refl, sym, ◌∙◌}
+use mathlib.Core.Bool.{not}
+use mathlib.Core.Path.{ap, refl, sym, ◌∙◌}
 use native.Mathlib.Omega.{arith}
 use Rattle.search_graph.proofs.ArrivalLaws.{place_room}
 use Rattle.plan.proofs.MeetsLaws.{held_is}
@@ -73,12 +74,12 @@ returns-in-Broken c =
 
 pub returns-then-not-is_held : goal.returns-then-not-is_held
 returns-then-not-is_held c =
-    no_held c.requires.0 c.requires.1 c.states_in-states.ensures c.at-x.ensures c.args.e refl (to_type c.requires.0 c.requires.1 c.states_in-states.ensures c.at-ty.ensures) c.is_held.ensures c.if-not-is_held.true
+    no_held c.requires.0 c.requires.1 c.states_in-states.ensures c.at-x.ensures c.args.e refl (to_type c.requires.0 c.requires.1 c.states_in-states.ensures c.at-ty.ensures) c.is_held.ensures (ap not c.if-not-is_held.true)
 
 pub returns-then-not-is_target : goal.returns-then-not-is_target
 returns-then-not-is_target c =
-    no_flow_lem c.requires.0 c.requires.1 c.states_in-states.ensures c.at-x.ensures c.args.e refl refl c.is_target.ensures c.if-not-is_target.true
+    no_flow_lem c.requires.0 c.requires.1 c.states_in-states.ensures c.at-x.ensures c.args.e refl refl c.is_target.ensures (ap not c.if-not-is_target.true)
 
 pub returns-in-Enter : goal.returns-in-Enter
 returns-in-Enter c =
-    decided c.requires.0 c.requires.1 c.states_in-states.ensures c.at-x.ensures c.args.e refl c.sets_at-into.ensures c.step_state.ensures c.land.result c.land.ensures c.has_bit.ensures c.if-has_bit.false refl c.is_target.ensures c.if-not-is_target.false _ c.in-Enter.is
+    decided c.requires.0 c.requires.1 c.states_in-states.ensures c.at-x.ensures c.args.e refl c.sets_at-into.ensures c.step_state.ensures c.land.result c.land.ensures c.has_bit.ensures c.if-has_bit.false refl c.is_target.ensures (ap not c.if-not-is_target.false) _ c.in-Enter.is
