@@ -1,10 +1,9 @@
 -- Which allow records count is nothing to a constraint.
 use Prim.Native.Nat.{ℕ, zero, suc}
-use mathlib.Core.Path.{◌≡◌, refl, ap}
+use mathlib.Core.Path.{◌≡◌, refl}
 use mathlib.Core.Bool.{Bool, not, ◌||◌}
 use Rattle.base.specs.Upto.{all_upto}
 use lib.Dec.{eqb}
-use Rattle.policy_image.specs.declared.records.Record.{Record}
 use Rattle.policy_image.specs.Layout.{root_of, left_of, right_of}
 use Rattle.policy_image.specs.Policy.{Policy}
 use Rattle.policy_image.specs.Inner.Counting.{counting}

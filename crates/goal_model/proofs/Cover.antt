@@ -6,7 +6,7 @@ use mathlib.Core.Logic.{◌⊎◌, inl, inr}
 use Prim.Native.Nat.{ℕ, suc, ◌+◌, ◌-◌, ◌*◌, ◌/◌, ◌%◌, ◌≤◌}
 use native.Mathlib.Omega.{arith}
 use borrow.Author.Tests.{eq-eqb, eqb-true}
-use lib.Dec.{T, leb, eqb, leb→le, eqb→eq, eqb_refl, T_not, not_T}
+use lib.Dec.{T, eqb, leb→le, eqb→eq, eqb_refl, T_not, not_T}
 use Rattle.base.specs.Bits.{bit}
 use Rattle.base.specs.Upto.{any_upto}
 use Rattle.base.proofs.BoolLaws.{and_true, and_first, to_true, of_true}

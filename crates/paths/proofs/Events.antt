@@ -6,7 +6,7 @@ use Prim.Native.Nat.{ℕ, zero, suc, ◌≤◌, ◌<◌}
 use native.Mathlib.Nat.{not-suc-le-zero, le_refl}
 use native.Mathlib.Omega.{arith}
 use native.Mathlib.Decide.{dec_le}
-use lib.Dec.{T, ltb, eqb, eqb→eq, eqb_refl, ltb→lt, lt→ltb}
+use lib.Dec.{T, eqb, eqb→eq, eqb_refl, ltb→lt, lt→ltb}
 use Rattle.paths.specs.Model.{Model}
 use Rattle.paths.specs.Paths.{FollowsEvents}
 use Rattle.paths.specs.Inner.Monitors.{goes, enters, opens}

@@ -17,7 +17,7 @@ use Rattle.base.proofs.BitLaws.{bit_and_lem, bit_pow, bit_zero}
 use Rattle.base.proofs.Numbers.{split_eq}
 use Rattle.base.proofs.BoolLaws.{clash, and_yes, and_no, true_or_false}
 use Rattle.policy_image.specs.declared.counts.Counts.{Counts}
-use Rattle.policy_image.specs.Policy.{Policy, policy_of}
+use Rattle.policy_image.specs.Policy.{Policy}
 use Rattle.context.specs.declared.Context.{Context}
 use Rattle.context.specs.Inner.Places.{context_at_index, first_place, pair_count, role_at, user_at, OfType}
 use Rattle.relations.specs.Relations.{ρ, μ}

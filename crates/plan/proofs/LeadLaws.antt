@@ -22,7 +22,7 @@ use Rattle.context.specs.Codes.{event_at, event_of, is_transition}
 use Rattle.context.specs.Inner.Coding.{transition_code}
 use Rattle.constraints.specs.Constraints.{constrains}
 use Rattle.plan.specs.Inner.Entries.{first_at, key_at, writes_at, reads_at, groups_at, event_sets_at, alike_at, leads_at}
-use Rattle.plan.specs.Inner.Regions.{event_entries, block_entries, groups_start, roles_start, event_sets_start, alike_start, counted_start, first_start, keys_start, writes_start, reads_start, leads_start}
+use Rattle.plan.specs.Inner.Regions.{event_entries, block_entries, groups_start, roles_start, event_sets_start, alike_start, counted_start, keys_start, writes_start, reads_start, leads_start}
 use Rattle.plan.specs.Inner.Plan.{Grouped, OfferBlocks, Alike, AlikePlan, Leader, Leads}
 use Rattle.plan.specs.Inner.Put.{Kept, AlikePut, LeadsPut}
 use Rattle.plan.specs.Inner.Leads.{NotTransition, SameSets, AllAlike, AlikeCopy, AlikeTable, Shared, Led, Leading, EntryLeads}

@@ -1,6 +1,6 @@
 -- The three parts of a plan, from what was put into it.
 use Prim.Native.Nat.{ℕ, ◌+◌, ◌*◌, ◌/◌, ◌%◌, ◌≤◌, ◌<◌}
-use mathlib.Core.Path.{◌≡◌, refl, sym, subst, ap, ◌∙◌}
+use mathlib.Core.Path.{◌≡◌, sym, subst, ap, ◌∙◌}
 use mathlib.Core.Bool.{Bool, true, not, ◌||◌}
 use mathlib.Core.List.{List}
 use mathlib.Core.Logic.{⊎_elim}
@@ -24,7 +24,7 @@ use Rattle.plan_tables.specs.Inner.Groups.{ConstraintGroups}
 use Rattle.plan.specs.Inner.Regions.{event_entries, changes_start, groups_start, event_sets_start, counted_start, first_start, keys_start, type_special_start, plan_entries}
 use Rattle.plan.specs.Inner.Entries.{counted_at, first_at, key_at, type_special_at}
 use Rattle.plan.specs.Inner.Sets.{Falls}
-use Rattle.plan.specs.Inner.Plan.{Ready, special, Tabled, Grouped, Holding, PolicyPlan, AlikePlan, Prepared, ruled, OfferBlocks, SpecialOf, Planned}
+use Rattle.plan.specs.Inner.Plan.{Ready, special, Tabled, Grouped, Holding, PolicyPlan, AlikePlan, Prepared, ruled, OfferBlocks, SpecialOf}
 use Rattle.plan.specs.Inner.Put.{Kept, GroupsPut, HeldPut, BlocksPut, TypeSpecialPut, LeadsPut, RulesPut}
 use Rattle.plan.proofs.ContextLaws.{plan_counts, held_kept}
 use Rattle.plan.proofs.NamedLaws.{falls_kept}

@@ -1,7 +1,7 @@
 -- The promise of a call that writes fixes the answer and the output: any two results that it allows for one input are the same.
 use Prim.Native.Nat.{ℕ}
 use mathlib.Core.List.{List, ◌++◌}
-use mathlib.Core.Path.{◌≡◌, refl, sym, ap, ap₂, ◌∙◌}
+use mathlib.Core.Path.{◌≡◌, sym, ap, ◌∙◌}
 use lib.ListN.{drop}
 use Rattle.base.specs.Questions.{Question}
 use Rattle.base.proofs.QuestionLaws.{passed_not_refused, one_number}

@@ -6,7 +6,7 @@ use Prim.Native.Nat.{ℕ, suc, ◌*◌, ◌/◌, ◌%◌, ◌^◌, ◌≤◌, �
 use native.Mathlib.Nat.{mul-one}
 use native.Mathlib.Omega.{arith}
 use lib.Pow.{pow_pos, pow_mono}
-use lib.Dec.{T, leb, leb→le, T_not}
+use lib.Dec.{T, leb→le, T_not}
 use Rattle.base.specs.Bits.{bit}
 use Rattle.base.proofs.BoolLaws.{to_true}
 use Rattle.policy_image.specs.declared.counts.Counts.{Counts}

@@ -1,20 +1,20 @@
 -- Types that have no context to start from.
 use mathlib.Core.Path.{◌≡◌, refl, sym, ◌∙◌, ap}
-use mathlib.Core.Bool.{Bool, true, false, not}
+use mathlib.Core.Bool.{Bool, false, not}
 use mathlib.Core.List.{List}
 use mathlib.Core.Logic.{inl, inr}
 use Prim.Native.Nat.{ℕ, ◌-◌}
-use lib.Bits.{bit_and, bit_or, and_zero_l}
+use lib.Bits.{bit_and}
 use lib.Dec.{eqb}
 use Rattle.base.specs.Bits.{bit}
 use Rattle.base.proofs.BitLaws.{bit_or_lem}
 use Rattle.base.proofs.BoolLaws.{or_false}
 use Rattle.policy_image.specs.declared.counts.Counts.{Counts}
-use Rattle.context.specs.Inner.Places.{context_at_index, first_place, OfType}
+use Rattle.context.specs.Inner.Places.{first_place}
 use Rattle.context.proofs.TypeLaws.{of_pair}
 use Rattle.plan.specs.Inner.Entries.{roles_at, holders_at, named_at, type_sets_at, pair_sets_at}
 use Rattle.plan.specs.Inner.Plan.{PlanCounts}
-use Rattle.plan.specs.Inner.Sets.{Falls, sets_of}
+use Rattle.plan.specs.Inner.Sets.{Falls}
 use Rattle.plan.proofs.SetLaws.{sets_few}
 use Rattle.search_graph.specs.Inner.Starts.{PairsStart, NoStart}
 

@@ -1,5 +1,5 @@
 -- Truth values of up to 64 pairs of contexts at once: bit j of a word is for pair j, in which one context acts on the other.
-use Rattle.std.specs.Prelude.{ℕ, ◌+◌, ◌*◌, ◌≤◌, ◌<◌, ◌≡◌, Bool, false, not, ◌||◌, List, ◌⊎◌, eqb, length, get_or}
+use Rattle.std.specs.Prelude.{ℕ, ◌+◌, ◌*◌, ◌≤◌, ◌<◌, ◌≡◌, Bool, false, not, ◌||◌, List, ◌⊎◌, eqb, get_or}
 use Rattle.base.specs.Bits.{bit}
 use Rattle.policy_image.specs.declared.records.Record.{Record}
 use Rattle.policy_image.specs.Layout.{root_of}

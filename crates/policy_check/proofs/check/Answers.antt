@@ -41,7 +41,8 @@ returns-then-not-chains_by_kind c =
     refused_then (count_questions s) (rest s) 4 c.in-Accepted.ensures.1
     (inr (
       yes_of c.links_rise.result c.links_rise.ensures c.if-not-links_rise.false,
-      inl (no_of c.chains_by_kind.result c.chains_by_kind.ensures c.if-not-chains_by_kind.true, refl)))
+      inl (no_of c.chains_by_kind.result c.chains_by_kind.ensures c.if-not-chains_by_kind.true, refl),
+    ))
 
 pub returns-then-not-fields_in_range : goal.returns-then-not-fields_in_range
 returns-then-not-fields_in_range c =
@@ -50,8 +51,10 @@ returns-then-not-fields_in_range c =
     (inr (
       yes_of c.links_rise.result c.links_rise.ensures c.if-not-links_rise.false,
       inr (
-      yes_of c.chains_by_kind.result c.chains_by_kind.ensures c.if-not-chains_by_kind.false,
-      inl (no_of c.fields_in_range.result c.fields_in_range.ensures c.if-not-fields_in_range.true, refl))))
+        yes_of c.chains_by_kind.result c.chains_by_kind.ensures c.if-not-chains_by_kind.false,
+        inl (no_of c.fields_in_range.result c.fields_in_range.ensures c.if-not-fields_in_range.true, refl),
+      ),
+    ))
 
 pub returns-then-not-nodes_in_order : goal.returns-then-not-nodes_in_order
 returns-then-not-nodes_in_order c =
@@ -60,10 +63,13 @@ returns-then-not-nodes_in_order c =
     (inr (
       yes_of c.links_rise.result c.links_rise.ensures c.if-not-links_rise.false,
       inr (
-      yes_of c.chains_by_kind.result c.chains_by_kind.ensures c.if-not-chains_by_kind.false,
-      inr (
-      yes_of c.fields_in_range.result c.fields_in_range.ensures c.if-not-fields_in_range.false,
-      inl (no_of c.nodes_in_order.result c.nodes_in_order.ensures c.if-not-nodes_in_order.true, refl)))))
+        yes_of c.chains_by_kind.result c.chains_by_kind.ensures c.if-not-chains_by_kind.false,
+        inr (
+          yes_of c.fields_in_range.result c.fields_in_range.ensures c.if-not-fields_in_range.false,
+          inl (no_of c.nodes_in_order.result c.nodes_in_order.ensures c.if-not-nodes_in_order.true, refl),
+        ),
+      ),
+    ))
 
 pub returns-then-not-allows_from_domains : goal.returns-then-not-allows_from_domains
 returns-then-not-allows_from_domains c =
@@ -72,12 +78,16 @@ returns-then-not-allows_from_domains c =
     (inr (
       yes_of c.links_rise.result c.links_rise.ensures c.if-not-links_rise.false,
       inr (
-      yes_of c.chains_by_kind.result c.chains_by_kind.ensures c.if-not-chains_by_kind.false,
-      inr (
-      yes_of c.fields_in_range.result c.fields_in_range.ensures c.if-not-fields_in_range.false,
-      inr (
-      yes_of c.nodes_in_order.result c.nodes_in_order.ensures c.if-not-nodes_in_order.false,
-      inl (no_of c.allows_from_domains.result c.allows_from_domains.ensures c.if-not-allows_from_domains.true, refl))))))
+        yes_of c.chains_by_kind.result c.chains_by_kind.ensures c.if-not-chains_by_kind.false,
+        inr (
+          yes_of c.fields_in_range.result c.fields_in_range.ensures c.if-not-fields_in_range.false,
+          inr (
+            yes_of c.nodes_in_order.result c.nodes_in_order.ensures c.if-not-nodes_in_order.false,
+            inl (no_of c.allows_from_domains.result c.allows_from_domains.ensures c.if-not-allows_from_domains.true, refl),
+          ),
+        ),
+      ),
+    ))
 
 pub returns : goal.returns
 returns c =

@@ -1,6 +1,5 @@
-use Prim.Native.Nat.{ℕ, ◌+◌, ◌*◌, ◌/◌, ◌%◌, ◌<◌, ◌-◌}
+use Prim.Native.Nat.{ℕ, ◌+◌, ◌*◌, ◌/◌, ◌%◌, ◌<◌}
 use mathlib.Core.List.{List}
-use mathlib.Core.Logic.{⊎_elim}
 use mathlib.Core.Path.{◌≡◌, sym, ◌∙◌, ap, subst}
 use native.Mathlib.Omega.{arith}
 use lib.ListN.{length, get_or, set, length-set}
@@ -82,26 +81,28 @@ pub loop-q-preserved : goal.loop-q-preserved
 loop-q-preserved c =
     let K = (goal.at.loop-q-preserved c).After-use_at-t in
     let l = c.loop-q in
-    elim c.match-t.branch [ in-Node+else-not-used_well+else-used-m-ne0 w ↦
-    let m : ℕ = w.in-Node.m in
-    let h = yes_of w.used_well.result w.used_well.ensures w.if-not-used_well.false in
-    let b = h.node.high in
-    let i : m < length l.used = omega arith in
-    let free : get_or l.used m 0 ≡ 0 = omega arith in (
-      omega arith,
-      omega arith,
-      omega arith,
-      ap length w.used-is ∙ length-set l.used m 1 ∙ l.invariant.3,
-      subst (λ (u : List ℕ). Marks (p K) (q K + 1) (λ j. get_or u j 0)) (sym w.used-is)
-          (marks_node (p K) (q K) _ (marks K) (omega arith) (λ j. get_or (set l.used m 1) j 0) m (here_used K (Node m) w.in-Node.is) (child_to K m h) free
-          (λ z. let e = get_or-set_same l.used m 1 0 i in omega arith)
-          (λ j d. get_or-set_other l.used m j 1 0 d)),
-    )
-    | in_default w ↦ (
-      omega arith,
-      omega arith,
-      omega arith,
-      ap length w.used-is ∙ l.invariant.3,
-      subst (λ (u : List ℕ). Marks (p K) (q K + 1) (λ j. get_or u j 0)) (sym w.used-is)
-          (marks_nothing (p K) (q K) _ (marks K) (omega arith) (here_used K Nothing w.in_default.is)),
-    ) ]
+    elim c.match-t.branch [
+      | in-Node+else-not-used_well+else-used-m-ne0 w ↦
+          let m : ℕ = w.in-Node.m in
+          let h = yes_of w.used_well.result w.used_well.ensures w.if-not-used_well.false in
+          let b = h.node.high in
+          let i : m < length l.used = omega arith in
+          let free : get_or l.used m 0 ≡ 0 = omega arith in (
+            omega arith,
+            omega arith,
+            omega arith,
+            ap length w.used-is ∙ length-set l.used m 1 ∙ l.invariant.3,
+            subst (λ (u : List ℕ). Marks (p K) (q K + 1) (λ j. get_or u j 0)) (sym w.used-is)
+                (marks_node (p K) (q K) _ (marks K) (omega arith) (λ j. get_or (set l.used m 1) j 0) m (here_used K (Node m) w.in-Node.is) (child_to K m h) free
+                (λ z. let e = get_or-set_same l.used m 1 0 i in omega arith)
+                (λ j d. get_or-set_other l.used m j 1 0 d)),
+          )
+      | in_default w ↦ (
+        omega arith,
+        omega arith,
+        omega arith,
+        ap length w.used-is ∙ l.invariant.3,
+        subst (λ (u : List ℕ). Marks (p K) (q K + 1) (λ j. get_or u j 0)) (sym w.used-is)
+            (marks_nothing (p K) (q K) _ (marks K) (omega arith) (here_used K Nothing w.in_default.is)),
+      )
+    ]

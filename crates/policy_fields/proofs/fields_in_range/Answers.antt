@@ -1,4 +1,4 @@
-use Prim.Native.Nat.{ℕ, ◌-◌}
+use Prim.Native.Nat.{ℕ}
 use mathlib.Core.Path.{◌≡◌, sym, ap, ◌∙◌, transport}
 use native.Mathlib.Omega.{arith}
 use Rattle.base.proofs.Decide.{yes_of, no_of}

@@ -1,5 +1,4 @@
 use Rattle.base.proofs.Numbers.{upto_none, upto_more}
-use Prim.Native.Nat.{◌-◌}
 use native.Mathlib.Omega.{arith}
 use Rattle.policy_links.proofs.all_zero.Goals as goal
 

@@ -1,4 +1,4 @@
-use mathlib.Core.Path.{refl, ◌∙◌}
+use mathlib.Core.Path.{refl}
 use lib.ListN.{length-set}
 use Rattle.policy_image.specs.Encoding.{count_bytes}
 use Rattle.policy_writing.proofs.PutLaws.{put_four, counts_put}

@@ -1,7 +1,7 @@
 use Prim.Native.Nat.{ℕ, ◌+◌, ◌≤◌, ◌<◌}
 use mathlib.Core.Path.{◌≡◌}
 use native.Mathlib.Omega.{arith}
-use Rattle.constraints.proofs.LeafLaws.{leaf_by, leaf_same_type, leaf_same_role, leaf_same_user, leaf_type_1, leaf_type_2, leaf_role_1, leaf_role_2, leaf_user_1, leaf_user_2, leaf_other}
+use Rattle.constraints.proofs.LeafLaws.{leaf_other}
 use Rattle.constraints.proofs.leaves.leaf.Goals.{Start}
 use Rattle.constraints.proofs.leaves.leaf.Goals as goal
 

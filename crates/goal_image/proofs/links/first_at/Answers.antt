@@ -1,4 +1,3 @@
-use Prim.Native.Nat.{◌-◌}
 use native.Mathlib.Omega.{arith}
 use Rattle.base.proofs.Numbers.{from_none, from_more}
 use Rattle.goal_image.proofs.links.first_at.Goals as goal

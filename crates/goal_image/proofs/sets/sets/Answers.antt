@@ -1,4 +1,3 @@
-use Prim.Native.Nat.{◌-◌}
 use mathlib.Core.Path.{sym, ◌∙◌}
 use native.Mathlib.Omega.{arith}
 use Rattle.base.proofs.BoolLaws.{and_first}
@@ -22,6 +21,7 @@ loop-h-preserved c =
     let v = l.invariant.1 in (
       omega arith,
       elim c.if-is_in.branch [
-        then-is_in w ↦ gathered_join _ l.h l.mask v _ (omega arith) (sym c.is_in.ensures ∙ w.if-is_in.true) w.mask-is
-      | else-is_in w ↦ gathered_pass _ l.h l.mask v _ (sym c.is_in.ensures ∙ w.if-is_in.false) w.mask-is ],
+        | then-is_in w ↦ gathered_join _ l.h l.mask v _ (omega arith) (sym c.is_in.ensures ∙ w.if-is_in.true) w.mask-is
+        | else-is_in w ↦ gathered_pass _ l.h l.mask v _ (sym c.is_in.ensures ∙ w.if-is_in.false) w.mask-is
+      ],
     )

@@ -1,4 +1,3 @@
-use Prim.Native.Nat.{◌-◌}
 use Rattle.plan.proofs.LeadLaws.{table_begin}
 use native.Mathlib.Omega.{arith}
 use Rattle.plan.proofs.alike.alike_table.Goals as goal

@@ -1,8 +1,4 @@
-use Prim.Native.Nat.{◌-◌}
-use mathlib.Core.Path.{sym, subst}
-use mathlib.Core.Logic.{⊎_elim}
-use Rattle.plan.specs.Inner.Leads.{SameSets}
-use Rattle.plan.proofs.LeadLaws.{sets_begin, sets_next}
+use Rattle.plan.proofs.LeadLaws.{sets_begin}
 use native.Mathlib.Omega.{arith}
 use Rattle.plan.proofs.alike.same_sets.Goals as goal
 

@@ -1,5 +1,4 @@
 use Rattle.base.proofs.FillLaws.{fill_begin, fill_more, fill_end}
-use Prim.Native.Nat.{◌-◌}
 use mathlib.Core.Path.{refl}
 use lib.ListN.{length-set}
 use native.Mathlib.Omega.{arith}

@@ -1,4 +1,3 @@
-use Prim.Native.Nat.{◌-◌}
 use lib.ListN.{length-set}
 use mathlib.Core.Path.{refl}
 use Rattle.base.proofs.FillLaws.{fill_begin, fill_more, fill_end}

@@ -1,4 +1,3 @@
-use Prim.Native.Nat.{◌-◌}
 use native.Mathlib.Omega.{arith}
 use Rattle.plan.proofs.LeadLaws.{copy_begin, copy_more, copy_end}
 use Rattle.plan.proofs.leads.alike_in.Goals as goal

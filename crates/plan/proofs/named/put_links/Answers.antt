@@ -1,4 +1,3 @@
-use Prim.Native.Nat.{◌-◌}
 use mathlib.Core.Path.{refl}
 use Rattle.plan.proofs.NamedLaws.{links_begin, links_join, links_end}
 use native.Mathlib.Omega.{arith}

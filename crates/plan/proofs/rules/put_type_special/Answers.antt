@@ -2,7 +2,7 @@ use Rattle.plan.specs.Inner.Regions.{first_start}
 use Rattle.plan.proofs.BlockLaws.{special_below_begin, special_below_top, special_below_more, special_below_end, place_next, special_to}
 use lib.ListN.{length-set}
 use mathlib.Core.Path.{refl}
-use Prim.Native.Nat.{◌+◌, ◌-◌}
+use Prim.Native.Nat.{◌+◌}
 use native.Mathlib.Omega.{arith}
 use Rattle.plan.proofs.rules.put_type_special.Goals as goal
 

@@ -4,7 +4,7 @@ use Rattle.plan.specs.Inner.Entries.{writes_at, reads_at}
 use lib.ListN.{get_or}
 use lib.Bits.{bit_and, bit_or}
 use mathlib.Core.Path.{ap}
-use Prim.Native.Nat.{ℕ, ◌-◌}
+use Prim.Native.Nat.{ℕ}
 use native.Mathlib.Omega.{arith}
 use Rattle.plan.proofs.rules.special_of.Goals as goal
 

@@ -2,7 +2,6 @@ use Prim.Native.Nat.{ℕ}
 use mathlib.Core.Path.{◌≡◌, refl, sym, ap, ap₂, ◌∙◌}
 use mathlib.Core.Bool.{Bool, cond, ◌&&◌}
 use mathlib.Core.List.{List}
-use mathlib.Core.Logic.{⊎_elim}
 use lib.Bits.{bit_or}
 use Rattle.context.specs.declared.Context.{Context}
 use Rattle.plan.specs.Inner.Entries.{link_at, marks_at}
@@ -40,7 +39,12 @@ loop-k-preserved c =
     let fit = ap₂ ◌&&◌ c.fits_field-role.ensures c.fits_field-user.ensures in
     let at : ℕ → ℕ = listed plan x (link_at plan k) (link_at plan k) in
     let by : Bool → ℕ = λ b. at (cond b (bit_or c.loop-k.sets (marks_at plan k)) c.loop-k.sets) in
-    let step : by (record_fits plan x k) ≡ listed_for plan x = sym (listed_step v.0 x k c.loop-k.sets v.2 n) ∙ v.3 in
-    (v.0, v.1, omega arith, elim c.if-role-user.branch [
-      then-role-user w ↦ ap at w.sets-is ∙ ap by (sym (sym fit ∙ w.if-role-user.true)) ∙ step
-    | else-role-user w ↦ ap at w.sets-is ∙ ap by (sym (sym fit ∙ w.if-role-user.false)) ∙ step ])
+    let step : by (record_fits plan x k) ≡ listed_for plan x = sym (listed_step v.0 x k c.loop-k.sets v.2 n) ∙ v.3 in (
+      v.0,
+      v.1,
+      omega arith,
+      elim c.if-role-user.branch [
+        | then-role-user w ↦ ap at w.sets-is ∙ ap by (sym (sym fit ∙ w.if-role-user.true)) ∙ step
+        | else-role-user w ↦ ap at w.sets-is ∙ ap by (sym (sym fit ∙ w.if-role-user.false)) ∙ step
+      ],
+    )

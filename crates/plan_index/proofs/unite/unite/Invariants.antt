@@ -3,7 +3,6 @@ use mathlib.Core.Path.{◌≡◌}
 use mathlib.Core.List.{List}
 use Prim.Native.Nat.{ℕ, ◌-◌, ◌≤◌}
 use lib.ListN.{length, get_or}
-use Rattle.plan_index.specs.Inner.Codes.{items}
 use Rattle.plan_index.specs.Inner.Items.{code_in, side_mask}
 use Rattle.plan_index.specs.Inner.Unite.{UnitedItems}
 use Rattle.plan_index.proofs.unite.unite.Given as goal

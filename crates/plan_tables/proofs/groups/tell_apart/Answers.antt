@@ -1,4 +1,3 @@
-use Prim.Native.Nat.{◌-◌}
 use mathlib.Core.Path.{refl, sym}
 use lib.ListN.{length-set}
 use Rattle.base.proofs.FillLaws.{fill_begin, fill_more, fill_end}

@@ -3,7 +3,6 @@ use Rattle.search_graph.proofs.SeedLaws.{sow_begin, sow_skip, sow_pass, sow_with
 use Rattle.context.specs.Inner.Places.{OfType}
 use Rattle.context.proofs.TypeLaws.{own_place}
 use lib.ListN.{length-set}
-use Prim.Native.Nat.{◌-◌}
 use mathlib.Core.Path.{refl}
 use native.Mathlib.Omega.{arith}
 use Rattle.search_graph.proofs.seed.seed.Goals.{After-at-ty}

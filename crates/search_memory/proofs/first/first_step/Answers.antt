@@ -1,6 +1,5 @@
 use mathlib.Core.Path.{refl, sym, ◌∙◌}
-use Rattle.base.proofs.BoolLaws.{clash}
-use Rattle.search_memory.proofs.ShutLaws.{recall_same, recall_more, no_open}
+use Rattle.search_memory.proofs.ShutLaws.{recall_same, no_open}
 use Rattle.search_memory.proofs.first.first_step.Goals as goal
 
 pub returns-then-has_member : goal.returns-then-has_member

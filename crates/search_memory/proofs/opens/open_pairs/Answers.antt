@@ -1,8 +1,5 @@
-use mathlib.Core.Logic.{⊎_elim}
-use mathlib.Core.Path.{◌∙◌}
 use native.Mathlib.Omega.{arith}
 use lib.ListN.{length-set}
-use Rattle.search_memory.proofs.SlotLaws.{opened_same, opened_new}
 use Rattle.search_memory.proofs.opens.open_pairs.Goals as goal
 
 pub put_held-requires : goal.put_held-requires

@@ -1,5 +1,4 @@
 use Rattle.search_steps.proofs.NearestLaws.{look_begin, look_small, look_other, look_nearer, look_on, look_end, look_stop}
-use Prim.Native.Nat.{◌-◌}
 use native.Mathlib.Omega.{arith}
 use Rattle.search_steps.proofs.nearest.nearest.Goals.{else-open-step, then-open-step}
 use Rattle.search_steps.proofs.nearest.nearest.Goals as goal

@@ -1,11 +1,6 @@
-use Rattle.search_steps.proofs.NearestLaws.{pass_begin, pass_other, pass_on, pass_stop, pass_end, pass_class}
-use Prim.Native.Nat.{◌-◌}
-use mathlib.Core.Logic.{⊎_elim}
+use Rattle.search_steps.proofs.NearestLaws.{pass_begin, pass_other, pass_stop, pass_end, pass_class}
 use mathlib.Core.Path.{sym, ◌∙◌}
 use native.Mathlib.Omega.{arith}
-use Rattle.base.proofs.BoolLaws.{clash}
-use Rattle.search_steps.proofs.nearest.same_event.Reads as reads
-use Rattle.search_steps.proofs.nearest.same_event.Lts as lts
 use Rattle.search_steps.proofs.nearest.same_event.Goals as goal
 
 pub bounds-plan-e : goal.bounds-plan-e

@@ -1,7 +1,5 @@
 use Rattle.search_steps.proofs.NearestLaws.{Passing}
 use Prim.Native.Nat.{◌-◌}
-use Rattle.search_steps.proofs.nearest.same_event.Reads as reads
-use Rattle.search_steps.proofs.nearest.same_event.Lts as lts
 use Rattle.search_steps.proofs.nearest.same_event.Given as goal
 
 abbrev pub invariant-loop-j : goal.invariant-loop-j

@@ -1,4 +1,3 @@
-use Prim.Native.Nat.{◌-◌}
 use Rattle.search_steps.proofs.NearestLaws.{skip_begin, skip_more}
 use Rattle.search_steps.proofs.nearest.skip.Goals as goal
 

@@ -1,4 +1,3 @@
-use Prim.Native.Nat.{◌-◌}
 use native.Mathlib.Omega.{arith}
 use Rattle.search_steps.proofs.PairLaws.{none_begin, none_more, none_end, next_found}
 use Rattle.search_steps.proofs.pairs.next_pair.Goals as goal

@@ -1,6 +1,5 @@
-use Prim.Native.Nat.{ℕ, ◌+◌, ◌-◌}
+use Prim.Native.Nat.{ℕ, ◌+◌}
 use mathlib.Core.List.{List}
-use mathlib.Core.Logic.{⊎_elim}
 use mathlib.Core.Path.{◌≡◌, sym, subst}
 use native.Mathlib.Omega.{arith}
 use Rattle.policy_image.specs.Policy.{policy_of}
@@ -32,8 +31,8 @@ loop-w-preserved c =
     let to : List ℕ → Type 0 = λ r. PairsTo (ruled a.policy.now a.plan.now) a.x a.sweep.event a.sweep.ty a.among.now r (l.w + 1) in
     let asked : List ℕ → Type 0 = AskedBefore (policy_of a.policy.now) a.marks.now in
     elim c.if-left-ne0.branch [
-      then-left-ne0 t ↦
-        (omega arith, subst to (sym t.pairs-is) (pairs_more l.invariant.1 c.loop-w-test.true t.step_word-to.ensures.0), subst asked (sym t.memo-is) t.step_word-to.ensures.1)
-    | else-left-ne0 t ↦
-        (omega arith, subst to (sym t.pairs-is) (pairs_skip l.invariant.1 t.if-left-ne0.false), subst asked (sym t.memo-is) l.invariant.2)
+      | then-left-ne0 t ↦
+          (omega arith, subst to (sym t.pairs-is) (pairs_more l.invariant.1 c.loop-w-test.true t.step_word-to.ensures.0), subst asked (sym t.memo-is) t.step_word-to.ensures.1)
+      | else-left-ne0 t ↦
+          (omega arith, subst to (sym t.pairs-is) (pairs_skip l.invariant.1 t.if-left-ne0.false), subst asked (sym t.memo-is) l.invariant.2)
     ]

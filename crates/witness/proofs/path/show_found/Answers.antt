@@ -1,9 +1,7 @@
-use mathlib.Core.Path.{◌≡◌, refl, ap, ◌∙◌}
-use Prim.Native.Nat.{◌+◌}
+use mathlib.Core.Path.{refl, ap, ◌∙◌}
 use native.Mathlib.Omega.{arith}
 use Rattle.paths.specs.Inner.Least.{at}
-use Rattle.search_graph.specs.Inner.Tasks.{graph_of}
-use Rattle.search.specs.Inner.Found.{reached_by, FoundBy}
+use Rattle.search.specs.Inner.Found.{reached_by}
 use Rattle.witness.proofs.PathLaws.{start_found, step_found, shown_start}
 use Rattle.witness.proofs.path.show_found.Goals as goal
 
