@@ -3,7 +3,6 @@ use Prim.Native.Nat.{ℕ}
 use mathlib.Core.List.{List}
 use mathlib.Core.Path.{◌≡◌, sym, ap, ◌∙◌}
 use lib.ListN.{length}
-use Rattle.base.specs.Numbers.{Numbered}
 use Rattle.policy_image.specs.Policy.{policy_of}
 use Rattle.access.specs.Authorization.{authorized, flow}
 use Rattle.policy_writing.proofs.WritingLaws.{one_writing}

@@ -11,7 +11,6 @@ use Rattle.base.specs.Questions.{AllYes, RefusedWith}
 use Rattle.base.proofs.QuestionLaws.{passed_not_refused}
 use Rattle.policy_image.specs.Policy.{policy_of}
 use Rattle.policy_image.specs.Cases.Weir.{weir}
-use Rattle.policy_check.proofs.Tests.{accepted}
 use Rattle.policy_check.proofs.Cases.{weir_accepted, w9_refused, w9_domain_accepted, w10_short, w10_empty, w11}
 use Rattle.access.proofs.NoDomain.{w9_nothing, w9_authorized, w9_flow}
 use Rattle.goal_image.specs.Cases.WeirGoal.{goal_g}

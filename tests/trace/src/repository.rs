@@ -63,7 +63,7 @@ fn has_word(text: &str, name: &str) -> bool {
 
 /// The files below a folder: those of the pages aside, of what is built, and of what names things as they were called before or will be.
 fn files_below(folder: &Path) -> Vec<PathBuf> {
-    const ASIDE: [&str; 8] = ["target", "out", "docs", "next", ".git", "answers.py", "respell.py", "respelled.tsv"];
+    const ASIDE: [&str; 8] = ["target", "out", "docs", "next", ".git", "port", "respell.py", "respelled.tsv"];
     let left = listed(folder).into_iter().filter(|path| !ASIDE.contains(&name_of(path).as_str()));
     let (folders, files): (Vec<PathBuf>, Vec<PathBuf>) = left.partition(|path| path.is_dir());
     files.into_iter().chain(folders.iter().flat_map(|path| files_below(path))).collect()

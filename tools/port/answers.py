@@ -64,7 +64,7 @@ class Function:
             self.index.setdefault(norm(p[0]), i)
         self.parent = [None if p[1] is None else self.index_of(p[1]) for p in self.places]
         self.placefns = {}   # name -> (param, body tokens, from place)
-        self.klemmas = set()
+        self.klemmas = {}
         self.renamed = set()
         self.steps = set()
         self.secenv = {}
@@ -105,15 +105,31 @@ class Function:
             n += 1
         return n
 
-    # ---- expressions
+    # ---- expressions: a place is a number of steps above the root of the text that is read
     def rewrite(self, code, env, root, rootplace, goalname=None):
-        toks = TOK.findall(code)
+        saved = getattr(self, "path", None)
+        self.path = [rootplace]
+        while self.parent[self.path[-1]] is not None:
+            self.path.append(self.parent[self.path[-1]])
+        # a variable's place as a number of steps above the root
+        env = {k: (0 if v == rootplace else v if isinstance(v, tuple) else self.depth(v)) for k, v in env.items()}
+        env = {k: (v[0] if isinstance(v, tuple) else v) for k, v in env.items()}
+        try:
+            return self.rewritten(TOK.findall(code), env, root, goalname)
+        finally:
+            self.path = saved
+
+    def depth(self, place):
+        if place not in self.path:
+            raise Bad(f"place {self.places[place][0]} is not above {self.places[self.path[0]][0]}")
+        return self.path.index(place)
+
+    def rewritten(self, toks, env, root, goalname):
         out = []
         i = 0
         env = dict(env)
         while i < len(toks):
             t = toks[i]
-            # let x = PLACE in
             if t == "let":
                 j = self.skip(toks, i + 1)
                 x = toks[j] if j < len(toks) else ""
@@ -126,113 +142,192 @@ class Function:
                             env[x] = r[0]
                             i = self.skip(toks, end + 1)
                             continue
+                        env.pop(x, None)
                         if end < len(toks) and toks[end] == ".":
-                            env.pop(x, None)
                             e3 = end + 2
                             while toks[e3 : e3 + 1] == ["."]:
                                 e3 += 2
                             f = toks[end + 1]
                             path = toks[end + 3 : e3 : 2]
-                            if toks[self.skip(toks, e3)] == "in" and self.info["arms"][r[0]] and any(
-                                norm(o) == norm(re.sub(r"\d+$", "", f)) and q[: len(path)] == path and len(q) > len(path) for _, o, q in self.info["arms"][r[0]][2]
-                            ) and not self.of_arm(r[0], f, toks, end + 2):
-                                self.parts[x] = (r[0], f, path)
-                                i = self.skip(toks, self.skip(toks, e3) + 1)
-                                continue
-                            e2 = self.skip(toks, end + 2)
-                            if e2 < len(toks) and toks[e2] == "in":
-                                self.steps.add(x)
+                            if toks[self.skip(toks, e3)] == "in":
+                                if self.arm_begins(f, path) and not self.of_arm(r[0], f, toks, end + 2):
+                                    self.parts[x] = (r[0], f, path)
+                                    i = self.skip(toks, self.skip(toks, e3) + 1)
+                                    continue
+                                if not path:
+                                    self.steps.add(x)
                     else:
                         env.pop(x, None)
-                out.append(t); i += 1
+                out.append(t)
+                i += 1
                 continue
-            r = self.place(toks, i, env) if (t in env or t == "(") and not (out and out[-1] == ".") else None
+            behind_dot = bool(out) and out[-1] == "."
+            r = self.place(toks, i, env) if (t in env or t == "(" or t in self.placefns) and not behind_dot else None
             if r:
-                p, j = r
-                if j < len(toks) and toks[j] == "." and j + 1 < len(toks):
+                d, j = r
+                if j + 1 < len(toks) and toks[j] == "." and not toks[j + 1].isspace():
                     f = toks[j + 1]
-                    hit = self.of_arm(p, f, toks, j + 2)
+                    hit = self.of_arm(d, f, toks, j + 2)
                     if hit:
                         out.append(f"{root}.{hit[0]}")
                         i = hit[1]
                         continue
-                    out.append(self.field(p, f, root))
+                    at, text = self.field(d, f, root)
+                    out.append(text)
                     i = j + 2
-                    if toks[i : i + 2] == [".", "inv"] and re.match("At", self.places[p][0]):
-                        out.append(".invariant")
-                        i += 2
-                        continue
-                    if toks[i : i + 2] == [".", "post"] and re.match("After", self.places[p][0]):
-                        out.append(".ensures")
-                        i += 2
-                        continue
-                    arm = self.info["arms"][p]
-                    if arm:
-                        for new, old, path in arm[2]:
-                            want = [x for w in path for x in (".", w)]
-                            got = toks[i : i + len(want)]
-                            if want and [norm(x) for x in got] == [norm(x) for x in want]:
-                                out.append("." + new)
-                                i += len(want)
-                                break
-                            if not want and toks[i : i + 1] == ["."]:
-                                out.append("." + new)
-                                break
-                    if (self.places[p][0].startswith("Joined") or self.places[p][0].endswith("-branch")) and toks[i : i + 2] == [".", "branch"]:
-                        out.append(".branch-raw")
-                        i += 2
+                    i = self.after_field(toks, i, at, out)
                     continue
-                n = self.depth_between(rootplace, p)
-                if n is None:
-                    raise Bad(f"place {self.places[p][0]} is not above {self.places[rootplace][0]}")
-                if goalname is None:
-                    if n and not self.inside:
-                        raise Bad(f"a place above {root} is handed on")
-                    out.append(root + ".before" * n)
-                else:
-                    out.append(f"(goal.at.{goalname} {root}).{self.names[p]}")
+                out.append(self.handed(d, root, goalname, out))
                 i = j
                 continue
-            if t in self.parts and not (out and out[-1] == ".") and toks[i + 1 : i + 2] == ["."]:
-                p, f, path = self.parts[t]
+            if t in self.parts and not behind_dot and toks[i + 1 : i + 2] == ["."]:
+                d, f, path = self.parts[t]
                 more = [x for w in path for x in (".", w)]
-                hit = self.of_arm(p, f, more + toks[i + 1 :], 0)
+                hit = self.of_arm(d, f, more + toks[i + 1 :], 0)
                 if hit:
                     out.append(f"{root}.{hit[0]}")
                     i = i + 1 + hit[1] - len(more)
                     continue
-            if "-" in t and len(out) > 1 and out[-1] == "." and re.search(r"(?:^|\.)(args|initial|new|auto|ranges|fn)$", out[-2]):
+            if "-" in t and len(out) > 1 and behind_dot and re.search(r"(?:^|\.)(args|initial|new|auto|ranges|fn)$", out[-2]):
                 t = t.replace("-", "_")
-            if t in self.steps and toks[i + 1 : i + 2] == ["."] and toks[i + 2] in ("inv", "post", "pre") and not (out and out[-1] == "."):
+            if t in self.steps and toks[i + 1 : i + 2] == ["."] and toks[i + 2] in ("inv", "post", "pre") and not behind_dot:
                 out += [t, ".", {"inv": "invariant", "post": "ensures", "pre": "requires"}[toks[i + 2]]]
                 i += 3
                 continue
-            if t in ("not-true", "not-false") and not (out and out[-1] == "."):
+            if t in ("not-true", "not-false") and not behind_dot:
                 a = self.arg(toks, i + 1)
                 b = self.arg(toks, a[1]) if a else None
                 if b:
-                    inner = "".join(toks[self.skip(toks, a[1]) : b[1]])
-                    out.append(self.rewrite(inner, env, root, rootplace, goalname))
+                    out.append(self.rewritten(toks[self.skip(toks, a[1]) : b[1]], env, root, goalname))
                     i = b[1]
                     continue
-            if t in ("not_no", "not_yes") and not (out and out[-1] == "."):
+            if t in ("not_no", "not_yes") and not behind_dot:
                 t = {"not_no": "no_of", "not_yes": "yes_of"}[t]
                 self.renamed.add(t)
             out.append(t)
             i += 1
         return "".join(out)
 
-    def of_arm(self, p, f, toks, j):
-        """A field of a match's step, as its arm has it: (its path, the index behind it)."""
+    def after_field(self, toks, i, p, out):
+        """What follows a step: its older short names."""
+        if toks[i : i + 1] != ["."] or p is None:
+            return i
+        f, name, step = toks[i + 1], self.places[p][0], self.places[p][2][0]
+        if f == "inv" and name.startswith("At"):
+            out.append(".invariant")
+            return i + 2
+        if f in ("taken", "left") and re.match(r"if\d*$|.*test\d*$", step):
+            out.append(".true" if f == "taken" else ".false")
+            return i + 2
+        if f == "post" and name.startswith("After"):
+            out.append(".ensures")
+            return i + 2
+        if f == "branch" and (name.startswith("Joined") or name.endswith("-branch")):
+            out.append(".branch-raw")
+            return i + 2
         arm = self.info["arms"][p]
-        if not arm:
+        if arm:
+            for new, old, path in arm[2]:
+                if not path and norm(old) == norm(step):
+                    out.append("." + new)
+                    return i
+        return i
+
+    def handed(self, d, root, goalname, out):
+        """A place that is handed to a lemma over a place."""
+        k = len(out) - 1
+        while k >= 0 and out[k].isspace():
+            k -= 1
+        fn = out[k] if k >= 0 else ""
+        target = self.klemmas.get(fn)
+        if target is None:
+            target = self.path[min(d, len(self.path) - 1)]
+        if target == self.path[0] and root != "c":
+            return root
+        if goalname is None:
+            goalname = self.names[self.path[0]]
+        if target not in self.path:
+            raise Bad(f"{fn}: {self.places[target][0]} is not above")
+        return f"(goal.at.{goalname} {root}).{self.names[target]}"
+
+    def skip(self, toks, i):
+        while i < len(toks) and toks[i].isspace():
+            i += 1
+        return i
+
+    def place(self, toks, i, env):
+        """A place expression at i: (steps above the root, index behind it)."""
+        if i >= len(toks):
             return None
-        for new, old, path in arm[2]:
-            if norm(old) not in (norm(f), norm(re.sub(r"\d+$", "", f))) or not path:
+        t = toks[i]
+        if t in env and env[t] is not None:
+            d, j = env[t], i + 1
+        elif t == "(":
+            r = self.place(toks, self.skip(toks, i + 1), env)
+            if not r:
+                return None
+            d, j = r
+            j = self.skip(toks, j)
+            if j >= len(toks) or toks[j] != ")":
+                return None
+            j += 1
+        elif t in self.placefns:
+            r = self.place(toks, self.skip(toks, i + 1), env)
+            if not r:
+                return None
+            return self.apply(t, r[0]), r[1]
+        else:
+            return None
+        while j + 1 < len(toks) and toks[j] == "." and toks[j + 1] == "before":
+            d += 1
+            j += 2
+        return d, j
+
+    def apply(self, fn, d):
+        target = self.placefns[fn]
+        if target in self.path:
+            return self.path.index(target)
+        raise Bad(f"{fn} leads to {self.places[target][0]}, which is not above")
+
+    def closest(self, d, fits):
+        """The place of the path that fits and is closest to the d-th."""
+        hits = [k for k, p in enumerate(self.path) if fits(p)]
+        return self.path[min(hits, key=lambda k: (abs(k - d), k))] if hits else None
+
+    def field(self, d, f, root):
+        if f in START:
+            return None, f"{root}.{START[f]}"
+        g = re.sub(r"_lem\d?$", "", f)
+        for fit in (
+            lambda p: norm(self.places[p][2][0]) in (norm(f), norm(g)),
+            lambda p: norm(self.places[p][2][0]) == norm(re.sub(r"\d+$", "", g)),
+            lambda p: norm(re.sub(r"\d+$", "", self.places[p][2][0])) == norm(re.sub(r"\d+$", "", g)),
+        ):
+            p = self.closest(d, lambda q: self.parent[q] is not None and fit(q))
+            if p is not None:
+                return p, f"{root}.{self.places[p][2][1]}"
+        self.warn.append(f"no field {f} above {self.places[self.path[0]][0]}")
+        return None, f"{root}.{f}"
+
+    def arm_begins(self, f, path):
+        for p in self.path:
+            arm = self.info["arms"][p]
+            if arm and any(norm(o) == norm(re.sub(r"\d+$", "", f)) and q[: len(path)] == path and len(q) > len(path) for _, o, q in arm[2]):
+                return True
+        return False
+
+    def of_arm(self, d, f, toks, j):
+        """A field of a match's step, as its arm has it: (its path, the index behind it)."""
+        for k in sorted(range(len(self.path)), key=lambda k: (abs(k - d), k)):
+            arm = self.info["arms"][self.path[k]]
+            if not arm:
                 continue
-            want = [x for w in path for x in (".", w)]
-            if toks[j : j + len(want)] == want:
-                return f"{arm[0]}.{new}", j + len(want)
+            for new, old, path in arm[2]:
+                if norm(old) not in (norm(f), norm(re.sub(r"\d+$", "", f))) or not path:
+                    continue
+                want = [x for w in path for x in (".", w)]
+                if toks[j : j + len(want)] == want:
+                    return f"{arm[0]}.{new}", j + len(want)
         return None
 
     def arg(self, toks, i):
@@ -261,99 +356,20 @@ class Function:
     def in_section(self, section, notes, lines, out):
         """A declaration of a section over the place K."""
         K, P, _ = section
-        # a comment may stand between declarations of one block
         text = "\n".join(lines)
-        m = re.match(r"  (?:abbrev )?(" + NAME + r")((?: [^\n]*?)?) : (.*?)\n  \1 ?([^\n=]*)= ?(.*)$", text, re.S)
-        if m and re.match(r"tie\.", m[3]):
-            r = self.place(TOK.findall(m[5]), 0, {K: P} | {f: self.apply(f, P) for f in self.placefns})
-            if not r:
-                raise Bad(f"place function {m[1]}")
-            self.placefns[m[1]] = (K, m[5])
-            self.secenv[m[1]] = r[0]
+        m = re.match(r"  (?:abbrev )?(" + NAME + r") : tie\.(" + NAME + r")[^\n]*\n  \1 ?[^\n=]*= ?(.*)$", text, re.S)
+        if m:
+            self.placefns[m[1]] = self.index_of(m[2])
+            self.secenv[m[1]] = self.placefns[m[1]]
             return
+        name = re.match(r"\s*(?:abbrev |unfoldable |pub )*(" + NAME + ")", text)[1]
         if "tie." in text:
-            raise Bad(f"{text.split()[0]}: of another form in a section")
+            raise Bad(f"{name}: of another form in a section")
         body = self.rewrite(text, {K: P, **self.secenv}, K, P)
+        self.klemmas[name] = P
         if out and len(out) > 1:
             out.append("")
         out += notes + [body]
-
-    def skip(self, toks, i):
-        while i < len(toks) and toks[i].isspace():
-            i += 1
-        return i
-
-    def place(self, toks, i, env):
-        """A place expression at i: (place, index behind it)."""
-        if i >= len(toks):
-            return None
-        t = toks[i]
-        if t in env and env[t] is not None:
-            p, j = env[t], i + 1
-        elif t == "(":
-            k = self.skip(toks, i + 1)
-            if k < len(toks) and toks[k] in self.placefns:
-                r = self.place(toks, self.skip(toks, k + 1), env)
-                if not r:
-                    return None
-                p = self.apply(toks[k], r[0])
-                j = self.skip(toks, r[1])
-            else:
-                r = self.place(toks, k, env)
-                if not r:
-                    return None
-                p, j = r
-                j = self.skip(toks, j)
-            if j >= len(toks) or toks[j] != ")":
-                return None
-            j += 1
-        elif t in self.placefns:
-            r = self.place(toks, self.skip(toks, i + 1), env)
-            if not r:
-                return None
-            return self.apply(t, r[0]), r[1]
-        else:
-            return None
-        while j + 1 < len(toks) and toks[j] == "." and toks[j + 1] == "before":
-            p = self.parent[p]
-            if p is None:
-                raise Bad("before the start")
-            j += 2
-        return p, j
-
-    def apply(self, fn, p):
-        param, body = self.placefns[fn]
-        toks = TOK.findall(body)
-        env = {param: p}
-        for f in self.secenv:
-            if f != fn and f in toks and toks.index(f) == self.skip(toks, 0):
-                env[f] = self.apply(f, p)
-        r = self.place(toks, self.skip(toks, 0), env)
-        if not r:
-            raise Bad(f"cannot apply {fn}")
-        return r[0]
-
-    def field(self, p, f, root):
-        old, new = self.places[p][2]
-        if self.parent[p] is None:
-            if f in START:
-                return f"{root}.{START[f]}"
-        for g in (f, re.sub(r"_lem\d?$", "", f)):
-            if norm(g) == norm(old) or norm(g) == norm(old) + "1":
-                return f"{root}.{new}"
-        if f in START:
-            return f"{root}.{START[f]}"
-        # a field that an earlier place has
-        q = self.parent[p]
-        while q is not None:
-            o, n = self.places[q][2]
-            for g in (f, re.sub(r"_lem\d?$", "", f)):
-                if norm(g) == norm(o):
-                    self.warn.append(f"{f} taken from an earlier place")
-                    return f"{root}.{n}"
-            q = self.parent[q]
-        self.warn.append(f"field {f} at {self.places[p][0]} ({old} -> {new})")
-        return f"{root}.{new or f}"
 
     def need(self, name):
         """The goal of a tie.Need-NAME."""
@@ -464,6 +480,7 @@ class Function:
                 m2 = re.search(r"\n" + re.escape(name) + r"((?: [^\s=]+)*) =(.*)$", t, re.S)
                 params = m2[1].split()
                 unf = re.search(r"\n\s*(unfolding[^\n]*)", t[: m2.start() + 1])
+                more = "".join(" " + x for x in params[1:] if x != "κs")
                 res = []
                 for kk in ks:
                     goal = needs[kk][1]
@@ -476,19 +493,19 @@ class Function:
                             break
                         one = sorted(many)[0]
                         body = f"\n    let {name} = {one} in" + (body if body.startswith("\n") else "\n   " + body).replace(one, name)
-                    res.append(f"pub {goal} : goal.{goal}\n" + (unf[1] + "\n" if unf else "") + f"{goal} c =" + body)
+                    res.append(f"pub {goal} : goal.{goal}\n" + (unf[1] + "\n" if unf else "") + f"{goal} c{more} =" + body)
                 return ("ans", notes, "\n\n".join(res))
             # place function
             mfn = re.match(r"abbrev (" + NAME + r") : tie\.[^→]*→ tie\.[^\n]*\n\1 (" + NAME + r") = (.*)$", t, re.S)
             if mfn:
-                self.placefns[mfn[1]] = (mfn[2], mfn[3])
+                self.placefns[mfn[1]] = self.index_of(re.search(r"→ tie\.(" + NAME + ")", t)[1])
                 return ("none", [], "")
             mk = re.search(r"\((" + NAME + r") : tie\.(" + NAME + r")[^()]*\)", t[: t.find("\n" + name + " ")] if ("\n" + name + " ") in t else t)
             if mk:
                 K, P = mk[1], self.index_of(mk[2])
                 if P == 0:
                     raise Bad(f"{name}: a lemma over the start")
-                self.klemmas.add(name)
+                self.klemmas[name] = P
                 typ = f"({K} : {self.named(P)})"
                 cut = t.index("\n" + name + " ")
                 head, body = t[:cut], t[cut:]
@@ -505,7 +522,7 @@ class Function:
         for notes, lines in decls:
             t = "\n".join(lines)
             if "tie.close" in t:
-                if section is not None:
+                if section is not None and section[1] >= 0 and len(seclines) > 1:
                     outs_plain.append("\n".join(secnotes + seclines))
                     section = None
                 continue
@@ -513,10 +530,15 @@ class Function:
                 m = re.match(r"module _ \((" + NAME + r") : tie\.(" + NAME + r")[^()]*\)((?: |\n)*(?:[({][^\n]*)?) where$", lines[0])
                 if not m:
                     raise Bad("a section of another form")
-                section = (m[1], self.index_of(m[2]), m[3])
-                if self.index_of(m[2]) == 0:
-                    raise Bad("a section over the start")
-                seclines = [f"module _ ({m[1]} : {self.named(section[1])}){m[3]} where"]
+                try:
+                    section = (m[1], self.index_of(m[2]), m[3])
+                except Bad as e:
+                    section = (m[1], -1, m[3])
+                    self.warn.append(f"a section left out: {e}")
+                if section[1] == 0:
+                    self.warn.append("a section left out: over the start")
+                    section = (m[1], -1, m[3])
+                seclines = [f"module _ ({m[1]} : {self.named(section[1])}){m[3]} where" if section[1] >= 0 else ""]
                 lines = lines[1:]
                 if not lines:
                     secnotes = notes
@@ -525,15 +547,24 @@ class Function:
                 notes = []
             if section is not None:
                 if lines and lines[0].startswith("  "):
-                    self.in_section(section, notes, lines, seclines)
+                    if section[1] >= 0:
+                        try:
+                            self.in_section(section, notes, lines, seclines)
+                        except Bad as e:
+                            self.warn.append(f"left out of a section: {lines[0].strip()[:80]}: {e}")
                     continue
                 if not lines and notes:
                     pass
-                outs_plain.append("\n".join(secnotes + seclines))
+                if section[1] >= 0 and len(seclines) > 1:
+                    outs_plain.append("\n".join(secnotes + seclines))
                 section = None
                 if t.startswith("module _"):
                     raise Bad("a second section")
-            kind, n, text = do_decl(notes, lines, {}, "c", None, 0)
+            try:
+                kind, n, text = do_decl(notes, lines, {}, "c", None, 0)
+            except Bad as e:
+                self.warn.append(f"left out: {lines[0].strip()[:80]}: {e}")
+                continue
             if kind == "none":
                 continue
             piece = "\n".join(n + ([text] if text else []))
@@ -547,6 +578,11 @@ class Function:
                 continue
             goal = needs[k][1]
             place = self.index_of(self.info["asked_at"][k][0])
+            try:
+                self.rewrite(m3[3], {m3[1]: place}, "c", place, goal)
+            except Bad as e:
+                self.warn.append(f"left out: {goal}: {e}")
+                continue
             outs_ans.append(f"pub {goal} : goal.{goal}\n{goal} c = " + self.rewrite(m3[3], {m3[1]: place}, "c", place, goal))
         return uses, outs_inv, outs_plain, outs_ans
 
@@ -555,7 +591,9 @@ def substitute(body, sub):
     toks = TOK.findall(body)
     out = []
     for i, t in enumerate(toks):
-        if t in sub and not (i and toks[i - 1] == "."):
+        after = next((x for x in toks[i + 1 :] if not x.isspace()), "")
+        before = next((x for x in reversed(toks[:i]) if not x.isspace()), "")
+        if t in sub and not (i and toks[i - 1] == ".") and not (after == "=" and before in "{;"):
             out.append(sub[t])
         else:
             out.append(t)
