@@ -3,13 +3,12 @@
 #![tactic(auto)]
 
 use report::ask;
-use std::io;
 
 const WORK: usize = 16384;
 
 const PATH: usize = 4097;
 
-fn main(rt: HostRuntime) -> io::Result<()> {
+fn main(rt: HostRuntime) {
     let mut work1 = [0u32; WORK];
     let mut work2 = [0u32; WORK];
     let mut path = [0u32; PATH];
@@ -20,5 +19,5 @@ fn main(rt: HostRuntime) -> io::Result<()> {
         &mut work1,
         &mut work2,
         &mut path,
-    )
+    );
 }

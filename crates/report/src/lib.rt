@@ -8,7 +8,7 @@ ghost use Rattle.report.specs.Inner.Printing.{Printable};
 use context::{Context, Event};
 use goal_question::goal::{Outcome, goal_question};
 use std::fs::{self, Files};
-use std::io::{self, Print, Read};
+use std::io::{Print, Read};
 use std::str;
 
 // One byte more than the largest images, so that a file that is longer is refused for its length.
@@ -48,79 +48,80 @@ fn read_image<R: Files>(rt: &R, name: &[u8], buf: &mut [u8]) -> usize
     }
 }
 
-fn print_number(rt: &impl Print, n: u32) -> io::Result<()> {
-    rt.print(n)
+fn print_number(rt: &impl Print, n: u32) {
+    let _ = rt.print(n);
 }
 
-fn print_end(rt: &impl Print) -> io::Result<()> {
-    rt.write_all(b"\n")
+fn print_end(rt: &impl Print) {
+    let _ = rt.write_all(b"\n");
 }
 
-fn print_space(rt: &impl Print) -> io::Result<()> {
-    rt.write_all(b" ")
+fn print_space(rt: &impl Print) {
+    let _ = rt.write_all(b" ");
 }
 
 // "t r u"
-fn print_context(rt: &impl Print, x: Context) -> io::Result<()> {
-    print_number(rt, x.ty)?;
-    print_space(rt)?;
-    print_number(rt, x.role)?;
-    print_space(rt)?;
-    print_number(rt, x.user)?;
-    print_end(rt)
+fn print_context(rt: &impl Print, x: Context) {
+    print_number(rt, x.ty);
+    print_space(rt);
+    print_number(rt, x.role);
+    print_space(rt);
+    print_number(rt, x.user);
+    print_end(rt);
 }
 
 // "c p"
-fn print_event(rt: &impl Print, e: Event) -> io::Result<()> {
-    print_number(rt, e.class)?;
-    print_space(rt)?;
-    print_number(rt, e.perm)?;
-    print_end(rt)
+fn print_event(rt: &impl Print, e: Event) {
+    print_number(rt, e.class);
+    print_space(rt);
+    print_number(rt, e.perm);
+    print_end(rt);
 }
 
 // The word, and a number after it, on a line.
-fn print_line(rt: &impl Print, word: &[u8], n: u32) -> io::Result<()> {
-    rt.write_all(word)?;
-    print_space(rt)?;
-    print_number(rt, n)?;
-    print_end(rt)
+fn print_line(rt: &impl Print, word: &[u8], n: u32) {
+    let _ = rt.write_all(word);
+    print_space(rt);
+    print_number(rt, n);
+    print_end(rt);
 }
 
 // The path of m steps, its contexts and events in turn.
-fn print_path(rt: &impl Print, path: &[u32], m: u32) -> io::Result<()>
+fn print_path(rt: &impl Print, path: &[u32], m: u32)
     requires { 2 * m + 1 ≤ length path.now }
 {
     let last = m as usize;
     let mut j: usize = 0;
     while j < last {
-        print_context(rt, Context::decode(path[2 * j]))?;
-        print_event(rt, Event::decode(path[2 * j + 1]))?;
+        print_context(rt, Context::decode(path[2 * j]));
+        print_event(rt, Event::decode(path[2 * j + 1]));
         j += 1;
     }
-    print_context(rt, Context::decode(path[2 * j]))
+    print_context(rt, Context::decode(path[2 * j]));
 }
 
 // The answer, and the path where one is shown.
-fn print_outcome(rt: &impl Print, outcome: Outcome, path: &[u32]) -> io::Result<()>
+fn print_outcome(rt: &impl Print, outcome: Outcome, path: &[u32])
     requires { Printable outcome path.now }
 {
     match outcome {
-        Outcome::Holds => rt.write_all(b"holds\n"),
+        Outcome::Holds => {
+            let _ = rt.write_all(b"holds\n");
+        }
         Outcome::Order(m) => {
-            print_line(rt, b"order", m)?;
-            print_path(rt, path, m)
+            print_line(rt, b"order", m);
+            print_path(rt, path, m);
         }
         Outcome::Events(m) => {
-            print_line(rt, b"events", m)?;
-            print_path(rt, path, m)
+            print_line(rt, b"events", m);
+            print_path(rt, path, m);
         }
         Outcome::Refused(k) => print_line(rt, b"refused", k),
         Outcome::NoRoom(m) => print_line(rt, b"refused 12", m),
     }
 }
 
-// Asks whether the goal of one file holds of the policy of the other, in the slices, and prints the answer. The error is
-// that of the first write that fails, and nothing is printed after it.
+// Asks whether the goal of one file holds of the policy of the other, in the slices, and prints the answer.
 pub fn ask<R: Files + Print>(
     rt: &R,
     policy_name: &[u8],
@@ -128,11 +129,11 @@ pub fn ask<R: Files + Print>(
     work1: &mut [u32],
     work2: &mut [u32],
     path: &mut [u32],
-) -> io::Result<()> {
+) {
     let mut policy = [0u8; POLICY_BYTES];
     let mut goal = [0u8; GOAL_BYTES];
     let p = read_image(rt, policy_name, &mut policy);
     let g = read_image(rt, goal_name, &mut goal);
     let outcome = goal_question(&policy[..p], &goal[..g], work1, work2, path);
-    print_outcome(rt, outcome, path)
+    print_outcome(rt, outcome, path);
 }
