@@ -159,7 +159,7 @@ number_refused = refl
 pub number_no_room : outcome_number (outcome.NoRoom 3) ≡ 819
 number_no_room = refl
 
--- a refusal of the list of questions has a number up to 14, and never 12, so a promised outcome is one of those of number-tells
+-- a refusal of the list of questions has a number up to 14, and never 12, so a promised outcome is one of those of number_tells
 abbrev pub But12 : ℕ → Type 0
 But12 k = (k ≤ 14) × (k ≡ 12 → ⊥)
 
