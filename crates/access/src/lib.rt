@@ -30,7 +30,7 @@ pub struct Clauses {
 pub fn decide(k: Clauses) -> bool
     ensures { result ≡ all_hold k }
 {
-    k.alpha & (k.rho1 & (k.rho2 & (k.mu1 & (k.mu2 & (k.chi & k.rule)))))
+    k.alpha && k.rho1 && k.rho2 && k.mu1 && k.mu2 && k.chi && k.rule
 }
 
 // Whether the event is in Γ and every constraint on it is true.
@@ -38,10 +38,7 @@ fn chi(policy: &[u8], e: Event, x: Context, y: Context) -> bool
     requires { Sound policy.now × (e.perm < 32) }
     ensures { result ≡ χ (policy_of policy.now) e x y }
 {
-    if !gamma(policy, e) {
-        return false;
-    }
-    constraints_hold(policy, e, x, y)
+    gamma(policy, e) && constraints_hold(policy, e, x, y)
 }
 
 // Whether the role stays or may change, where the event is process transition.
@@ -52,10 +49,7 @@ fn role_rule(policy: &[u8], e: Event, x: Context, y: Context) -> bool
     if !e.is_transition() {
         return true;
     }
-    if x.role == y.role {
-        return true;
-    }
-    role_change(policy, x.role, y.role)
+    x.role == y.role || role_change(policy, x.role, y.role)
 }
 
 // The value of each clause for the action e of x on y.
@@ -87,10 +81,7 @@ fn acts(policy: &[u8], way: u32, event: u32, x: Context, y: Context) -> bool
     requires { Sound policy.now × (event < 2097152) }
     ensures { result ≡ (flows_as (policy_of policy.now) way (event_of event) && authorizedOf (policy_of policy.now) (event_of event) x y) }
 {
-    if !flows_as(policy, way, Event::decode(event)) {
-        return false;
-    }
-    authorized(policy, event, x, y)
+    flows_as(policy, way, Event::decode(event)) && authorized(policy, event, x, y)
 }
 
 // Whether there is flow from x to y by the event.
@@ -98,8 +89,5 @@ pub fn flows(policy: &[u8], event: u32, x: Context, y: Context) -> bool
     requires { Sound policy.now × (event < 2097152) }
     ensures { result ≡ flow (policy_of policy.now) (event_of event) x y }
 {
-    if acts(policy, WRITE_LIKE, event, x, y) {
-        return true;
-    }
-    acts(policy, READ_LIKE, event, y, x)
+    acts(policy, WRITE_LIKE, event, x, y) || acts(policy, READ_LIKE, event, y, x)
 }

@@ -3,6 +3,8 @@ use Prim.Native.Nat.{ℕ}
 use mathlib.Core.List.{List}
 use mathlib.Core.Path.{◌≡◌, sym, ap, ◌∙◌}
 use lib.ListN.{length}
+use Rattle.std.proofs.Common.{Result}
+use Rattle.base.specs.declared.refusals.Refusal.{Refusal}
 use Rattle.policy_image.specs.Policy.{policy_of}
 use Rattle.access.specs.Authorization.{authorized, flow}
 use Rattle.policy_writing.proofs.WritingLaws.{one_writing}
@@ -11,7 +13,6 @@ use Rattle.goal_question.proofs.GoalLaws.{one_outcome}
 use Rattle.least_steps.proofs.StepsLaws.{one_steps}
 use Rattle.join.specs.Join.{joined_image, join_questions, JoinPromise}
 use Rattle.canonical.specs.Canonical.{canonical_image, canonical_questions, CanonicalPromise}
-use Rattle.policy_writing.specs.declared.answer.Writing.{Writing}
 use Rattle.answer_laws.specs.Cases.Theorems.{One, OneResult}
 
 -- where the answer is one, its number is
@@ -22,11 +23,11 @@ one {A} {told} o =
       number = λ n k N K. N.number ∙ ap told (o N.answer K.answer N.promised K.promised) ∙ sym K.number;
     }
 
-module _ (s t before after last : List ℕ) (q r : Writing) (p : JoinPromise s t before after q) (o : JoinPromise s t before last r) where
+module _ (s t before after last : List ℕ) (q r : Result ℕ Refusal) (p : JoinPromise s t before after q) (o : JoinPromise s t before last r) where
   one_join : (q ≡ r) × (after ≡ last)
   one_join = one_writing (join_questions s t (length before)) (joined_image s t) before after last q r p o
 
-module _ (s before after last : List ℕ) (q r : Writing) (p : CanonicalPromise s before after q) (o : CanonicalPromise s before last r) where
+module _ (s before after last : List ℕ) (q r : Result ℕ Refusal) (p : CanonicalPromise s before after q) (o : CanonicalPromise s before last r) where
   one_canonical : (q ≡ r) × (after ≡ last)
   one_canonical = one_writing (canonical_questions s (length before)) (canonical_image s) before after last q r p o
 

@@ -5,7 +5,6 @@ use mathlib.Core.Bool.{Bool, true, false, ◌&&◌}
 use mathlib.Core.List.{List, [], ◌∷◌}
 use mathlib.Core.Logic.{inl}
 use mathlib.Core.Path.{◌≡◌, refl}
-use native.Mathlib.Omega.{arith}
 use Rattle.base.specs.Questions.{AllYes, RefusedWith}
 use Rattle.base.proofs.Decide.{Says, says_yes, says_no, says_iff, ◌both◌, within_b, dec_within}
 use Rattle.base.proofs.QuestionLaws.{refused_first, refused_then, passed_both}
@@ -20,7 +19,8 @@ use Rattle.context.specs.declared.Event.{Event}
 use Rattle.context.specs.Codes.{context_at as at, event_at as event}
 use Rattle.context.specs.Ranges.{ContextInRange, EventInRange}
 use Rattle.access.proofs.Cases.{weir_2_reads_1, weir_4_reads_no_1, weir_read_flows_in, weir_read_no_flow_out}
-use Rattle.bare_questions.specs.declared.Answer.TheVariants.{Yes, No, Refused}
+use Rattle.std.proofs.Common.{Ok, Err}
+use Rattle.base.specs.declared.refusals.Refusal.{Refusal}
 use Rattle.bare_questions.specs.Bare.{AskedInRange, bare_questions, AuthorizationAnswer, FlowAnswer}
 use Rattle.bare_questions.proofs.BareLaws.{last, one_answer}
 
@@ -57,40 +57,37 @@ module _ (x y : Context) (e : Event) where
   refused_13 h = refused_then (policy_questions weir) (last weir x y e) 13 weir_accepted.it (inl (says_no (dec_asked (counts_of weir) x y e) h, refl))
 
 -- ---- yes and no
-pub reads : AuthorizationAnswer weir (at 2 2 1) (at 1 1 1) (event 2 0) Yes
+pub reads : AuthorizationAnswer weir (at 2 2 1) (at 1 1 1) (event 2 0) (Ok true)
 unfolding counts_of record_count
 reads = (passes (at 2 2 1) (at 1 1 1) (event 2 0) refl, weir_2_reads_1)
 
-pub reads_not : AuthorizationAnswer weir (at 4 2 1) (at 1 1 1) (event 2 0) No
+pub reads_not : AuthorizationAnswer weir (at 4 2 1) (at 1 1 1) (event 2 0) (Ok false)
 unfolding counts_of record_count
 reads_not = (passes (at 4 2 1) (at 1 1 1) (event 2 0) refl, weir_4_reads_no_1)
 
-pub flows_in : FlowAnswer weir (at 1 1 1) (at 2 2 1) (event 2 0) Yes
+pub flows_in : FlowAnswer weir (at 1 1 1) (at 2 2 1) (event 2 0) (Ok true)
 unfolding counts_of record_count
 flows_in = (passes (at 1 1 1) (at 2 2 1) (event 2 0) refl, weir_read_flows_in)
 
-pub flows_not_out : FlowAnswer weir (at 2 2 1) (at 1 1 1) (event 2 0) No
+pub flows_not_out : FlowAnswer weir (at 2 2 1) (at 1 1 1) (event 2 0) (Ok false)
 unfolding counts_of record_count
 flows_not_out = (passes (at 2 2 1) (at 1 1 1) (event 2 0) refl, weir_read_no_flow_out)
 
 -- ---- a program that always says yes, always no, or refuses all does not keep the promise
-pub not_always_yes : AuthorizationAnswer weir (at 4 2 1) (at 1 1 1) (event 2 0) Yes → ⊥
+pub not_always_yes : AuthorizationAnswer weir (at 4 2 1) (at 1 1 1) (event 2 0) (Ok true) → ⊥
 not_always_yes h =
-    let q = one_answer weir (at 4 2 1) (at 1 1 1) (event 2 0) _ Yes No h reads_not in
-    let z : ◌≡◌ {A = ℕ} 0 1 = cc in
-    omega arith
+    let q = one_answer weir (at 4 2 1) (at 1 1 1) (event 2 0) _ (Ok true) (Ok false) h reads_not in
+    cc
 
-pub not_always_no : AuthorizationAnswer weir (at 2 2 1) (at 1 1 1) (event 2 0) No → ⊥
+pub not_always_no : AuthorizationAnswer weir (at 2 2 1) (at 1 1 1) (event 2 0) (Ok false) → ⊥
 not_always_no h =
-    let q = one_answer weir (at 2 2 1) (at 1 1 1) (event 2 0) _ No Yes h reads in
-    let z : ◌≡◌ {A = ℕ} 0 1 = cc in
-    omega arith
+    let q = one_answer weir (at 2 2 1) (at 1 1 1) (event 2 0) _ (Ok false) (Ok true) h reads in
+    cc
 
-pub not_refusing : (n : ℕ) → AuthorizationAnswer weir (at 2 2 1) (at 1 1 1) (event 2 0) (Refused n) → ⊥
-not_refusing n h =
-    let q = one_answer weir (at 2 2 1) (at 1 1 1) (event 2 0) _ (Refused n) Yes h reads in
-    let z : ◌≡◌ {A = ℕ} 0 1 = cc in
-    omega arith
+pub not_refusing : (r : Refusal) → AuthorizationAnswer weir (at 2 2 1) (at 1 1 1) (event 2 0) (Err r) → ⊥
+not_refusing r h =
+    let q = one_answer weir (at 2 2 1) (at 1 1 1) (event 2 0) _ (Err r) (Ok true) h reads in
+    cc
 
 -- ---- question 13
 -- type 257 is not type 1

@@ -4,6 +4,7 @@ use mathlib.Core.Path.{◌≡◌, sym, subst, ◌∙◌, refl}
 use mathlib.Core.Logic.{◌⊎◌, inl, inr, ⊎_elim}
 use native.Mathlib.Omega.{arith}
 use Rattle.base.specs.Chain.{Linked, Rises, Meets, OnChain}
+use Rattle.base.specs.Inner.Left.{left}
 use Rattle.base.specs.Chain.Meets.{here, later}
 
 module _ (l : Linked) where
@@ -43,14 +44,17 @@ pub visit_map : (l : Linked) (k i : ℕ) (Q R : ℕ → Type 0) → ((j : ℕ) �
 visit_map l k i Q R f v =
     record { most = v.most; on = v.on; rest = λ j r. ⊎_elim (λ q. inl (f j q)) (λ m. inr m) (v.rest j r) }
 
--- how far the loop has to go: 0 at the chain's end
-abbrev pub left : ℕ → ℕ → ℕ
-left n zero = 0
-left n (suc i) = n + 1 - suc i
-
+-- ---- a loop along a chain ends: from a record's next on there are fewer records left
 left_at : (n i : ℕ) → 1 ≤ i → left n i ≡ n + 1 - i
 left_at n zero h = let z : ⊥ = omega arith in absurd z
-left_at n (suc i) h = refl
+left_at n (suc i) h = omega arith
+
+pub left_less : (l : Linked) (i i' : ℕ) → 1 ≤ i → i ≤ l.size → Rises l i → i' ≡ l.next i → left l.size i' < left l.size i
+left_less l i i' low high up e =
+    let a = left_at l.size i low in
+    ⊎_elim
+    (λ z. subst (λ (x : ℕ). left l.size x < left l.size i) (sym (e ∙ z)) (let t : 0 < left l.size i = omega arith in t))
+    (λ g. let b = left_at l.size i' (let t : 1 ≤ i' = omega arith in t) in omega arith) up
 
 module _ (l : Linked) (k : ℕ) (low : l.head k ≤ l.size) (up : (i : ℕ) → 1 ≤ i → i ≤ l.size → Rises l i) where
   pub visit_start : (Q : ℕ → Type 0) (i : ℕ) → i ≡ l.head k → Visit l k Q i
@@ -72,16 +76,6 @@ module _ (l : Linked) (k : ℕ) (low : l.head k ≤ l.size) (up : (i : ℕ) → 
               (λ s. ⊎_elim (λ h. inl (subst Q (sym h) q)) (λ t. inr (subst (λ (x : ℕ). Meets l x j) (sym e) t)) (meets_step l s))
               (v.rest j r);
         }
-
-    pub visit_less : (i' : ℕ) → i' ≡ l.next i → left l.size i' < left l.size i
-    visit_less i' e =
-        let m = v.most in
-        let o : 1 ≤ i = omega arith in
-        let a = left_at l.size i o in
-        ⊎_elim
-        (λ z. subst (λ (x : ℕ). left l.size x < left l.size i) (sym (e ∙ z)) (let t : 0 < left l.size i = omega arith in t))
-        (λ g. let b = left_at l.size i' (let t : 1 ≤ i' = omega arith in t) in omega arith)
-        (up i o m)
 
   -- at the end Q holds of every record of the chain
   pub visit_end : (Q : ℕ → Type 0) → Visit l k Q 0 → (j : ℕ) → OnChain l k j → Q j

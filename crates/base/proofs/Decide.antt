@@ -27,6 +27,9 @@ pub not_yes : {P : Type 0} (b : Bool) → Decides b P → not b ≡ false → P
 not_yes true h e = h
 not_yes false h e = let z : ◌≡◌ {A = ℕ} 0 1 = cc in absurd (omega arith)
 
+pub decides_no : {P : Type 0} (b : Bool) → b ≡ false → (P → ⊥) → Decides b P
+decides_no {P} b e n = subst (λ (x : Bool). Decides x P) (sym e) n
+
 -- what decides a statement decides one that follows from it and that it follows from
 pub decides_iff : {P Q : Type 0} (b : Bool) → (P → Q) → (Q → P) → Decides b P → Decides b Q
 decides_iff true f g h = f h

@@ -2,6 +2,7 @@ pub mod Numbers
 pub mod UptoLaws
 pub mod Decide
 pub mod QuestionLaws
+pub mod RefusalLaws
 pub mod ChainLaws
 pub mod BitLaws
 pub mod BoolLaws

@@ -1,6 +1,6 @@
 -- The lowest bit of a mask.
 use mathlib.Core.Path.{◌≡◌, refl, sym, ◌∙◌, ap, ap₂, subst}
-use mathlib.Core.Bool.{Bool, true, false, not, ◌&&◌}
+use mathlib.Core.Bool.{Bool, true, false, not, ◌&&◌, ◌||◌}
 use mathlib.Core.Logic.{⊎_elim}
 use Prim.Native.Nat.{ℕ, zero, suc, ◌*◌, ◌/◌, ◌%◌, ◌^◌, ◌<◌}
 use native.Mathlib.Nat.{pow-suc, pow-succ', div-lt_iff_lt-mul, zero-lt-suc, div-div-eq-div-mul, div-one, mul-one, mul_left_comm}
@@ -10,8 +10,8 @@ use lib.Count.{count_trailing_zeros, under}
 use lib.Dec.{eqb}
 use borrow.Author.Tests.{eq-eqb}
 use Rattle.base.specs.Bits.{bit}
-use Rattle.base.specs.Inner.Masks.{Lowest, With, Without}
-use Rattle.base.proofs.BitLaws.{bit_above, bit_shl_low}
+use Rattle.base.specs.Inner.Masks.{Lowest, Taken, With, Without}
+use Rattle.base.proofs.BitLaws.{bit_above, bit_shl_low, bit_zero}
 use Rattle.base.proofs.BoolLaws.{or_true, clash}
 use Rattle.base.proofs.Numbers.{split_eq}
 
@@ -66,3 +66,8 @@ pub less_without : {m p x one rest : ℕ} → Lowest m p → With x p one → Wi
 less_without {m} {p} {x} {rest = rest} L I W =
     let off : bit rest p ≡ false = W.at p ∙ ap₂ (λ (u v : Bool). u && not v) L.has (I.at p ∙ or_true (bit x p) (eqb p p) (eq-eqb p p refl)) in
     ⊎_elim (λ (e : rest ≡ m). absurd (clash (ap (λ (v : ℕ). bit v p) e ∙ L.has) off)) (λ (d : rest ≡ m → ⊥). omega (arith, d, W.most)) (split_eq rest m)
+
+-- a mask without its lowest bit
+pub taken : {m p one rest : ℕ} → Lowest m p → With 0 p one → Without m one rest → Taken m p rest
+taken {m} {p} L I W =
+    record { least = L; at = λ q. W.at q ∙ ap (λ (v : Bool). bit m q && not v) (I.at q ∙ ap (λ (u : Bool). u || eqb p q) (bit_zero q)) }

@@ -3,3 +3,4 @@ pub mod Decides
 pub mod Fill
 pub mod Masks
 pub mod AllBytes
+pub mod Left

@@ -4,6 +4,7 @@ pub mod Bits
 pub mod Ranges
 pub mod Upto
 pub mod Questions
+pub mod Refusals
 pub mod Numbers
 pub mod Chain
 pub mod Inner

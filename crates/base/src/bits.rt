@@ -1,7 +1,8 @@
 // Bits of a mask, and single bits of a set of 64.
 ghost use Rattle.std.specs.Prelude.{◌≡◌, ◌<◌};
 ghost use Rattle.base.specs.Bits.{bit};
-ghost use Rattle.base.specs.Inner.Masks.{Lowest, With, Without};
+ghost use Rattle.base.specs.Inner.Masks.{Lowest, NextBit, With, Without};
+ghost use Rattle.std.specs.Iterator.{at_most};
 
 // Whether bit p of the mask is set.
 pub fn has_bit(mask: u32, p: u32) -> bool
@@ -40,4 +41,34 @@ pub fn without(a: u32, b: u32) -> u32
     ensures { Without a b result }
 {
     a & (a ^ b)
+}
+
+// The bits that a mask has, the least first.
+#[derive(Drop)]
+pub struct Bits {
+    pub left: u32,
+}
+
+pub fn bits_of(mask: u32) -> Bits
+    ensures { result.left ≡ mask }
+{
+    Bits { left: mask }
+}
+
+impl Iterator for Bits {
+    type Item = u32;
+
+    ghost next_gives = { λ s r t. NextBit s.left r t.left };
+
+    ghost remaining = { λ s. at_most s.left };
+
+    #[inline]
+    fn next(&mut self) -> Option<u32> {
+        if self.left == 0 {
+            return None;
+        }
+        let p = lowest(self.left);
+        self.left = without(self.left, with_bit(0, p));
+        Some(p)
+    }
 }

@@ -4,3 +4,4 @@
 pub mod bits;
 pub mod bytes;
 pub mod ranges;
+pub mod refusals;

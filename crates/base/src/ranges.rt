@@ -6,11 +6,5 @@ ghost use Rattle.base.specs.Ranges.{Within};
 pub fn within(low: u32, high: u32, n: u32) -> bool
     ensures { Decides result (Within low high n) }
 {
-    if n < low {
-        return false;
-    }
-    if high < n {
-        return false;
-    }
-    true
+    (low..=high).contains(&n)
 }

@@ -5,18 +5,19 @@ use mathlib.Core.Logic.{inl, inr}
 use mathlib.Core.Path.{◌≡◌, refl, sym, ap, subst, ◌∙◌}
 use native.Mathlib.Omega.{arith}
 use lib.ListN.{length, get_or, drop}
-use Rattle.base.specs.Questions.{Question, ask, AllYes, RefusedWith}
+use Rattle.std.proofs.Common.{Ok}
+use Rattle.base.specs.Questions.{Question, ask, AllYes}
+use Rattle.base.specs.declared.refusals.Refusal.TheVariants.{TooManyRecords, OutputSlice}
+use Rattle.base.specs.Refusals.{RefusedFor}
 use Rattle.base.specs.Inner.AllBytes.{AllBytes}
-use Rattle.base.proofs.QuestionLaws.{refused_first, refused_then, passed_both}
+use Rattle.base.proofs.QuestionLaws.{refused_then, passed_both}
 use Rattle.policy_image.specs.declared.counts.Counts.{Counts}
-use Rattle.policy_image.specs.declared.counts.Checked.{Checked}
-use Rattle.policy_image.specs.declared.counts.Checked.TheVariants as policy
 use Rattle.policy_image.specs.Policy.{policy_of}
 use Rattle.policy_image.specs.Inner.Sizes.{image_size, most_records}
 use Rattle.policy_image.proofs.EncodingLaws.{image_length}
 use Rattle.policy_check.specs.Questions.{policy_questions}
-use Rattle.policy_check.specs.Inner.Answer.{PolicyAnswer, refusal_of}
-use Rattle.policy_check.proofs.AnswerLaws.{refused, sound}
+use Rattle.policy_check.specs.Inner.Answer.{PolicyAnswer}
+use Rattle.policy_check.proofs.AnswerLaws.{sound}
 use Rattle.policy_facts.specs.Canonical.{canonical_of}
 use Rattle.policy_facts.specs.Inner.FactTable.{FactTable}
 use Rattle.policy_facts.proofs.FactTableLaws.{table_length}
@@ -31,10 +32,7 @@ module _ (s : List ℕ) (output : ℕ) where
   abbrev last : List Question
   last = ask 15 ((canonical_of (policy_of s)).size ≤ most_records) ∷ ask 16 (length (canonical_image s) ≤ output) ∷ []
 
-  pub policy_refused : (r : Checked) {k n : ℕ} → PolicyAnswer s r → r ≡ policy.Refused k → n ≡ refusal_of r → RefusedWith (canonical_questions s output) n
-  policy_refused r {k} {n} a q e = refused_first (policy_questions s) last n (refused s r a q e)
-
-  module _ {c : Counts} (a : PolicyAnswer s (policy.Accepted c)) {keys masks : List ℕ} {m : ℕ} (T : FactTable (policy_of s) keys masks m) (of : List ℕ) (O : KindTable (policy_of s) of) where
+  module _ {c : Counts} (a : PolicyAnswer s (Ok c)) {keys masks : List ℕ} {m : ℕ} (T : FactTable (policy_of s) keys masks m) (of : List ℕ) (O : KindTable (policy_of s) of) where
     -- how many records the result has
     abbrev records : ℕ
     records = m + (get_or of 8 0 + get_or of 9 0)
@@ -47,7 +45,7 @@ module _ (s : List ℕ) (output : ℕ) where
         let z = canonical_size (policy_of s) in
         omega arith
 
-    pub too_many : most_records < records → RefusedWith (canonical_questions s output) 15
+    pub too_many : most_records < records → RefusedFor (canonical_questions s output) TooManyRecords
     too_many h = let e = result_records in refused_then (policy_questions s) last 15 a.1 (inl ((λ few. omega arith), refl))
 
     module _ (few : records ≤ most_records) where
@@ -57,7 +55,7 @@ module _ (s : List ℕ) (output : ℕ) where
       pub result_length : length (canonical_image s) ≡ image_size records
       result_length = image_length (canonical_of (policy_of s)) ∙ ap image_size (sym result_records)
 
-      pub too_short : output < image_size records → RefusedWith (canonical_questions s output) 16
+      pub too_short : output < image_size records → RefusedFor (canonical_questions s output) OutputSlice
       too_short h = let l = result_length in refused_then (policy_questions s) last 16 a.1 (inr (fewer, inl ((λ fits. omega arith), refl)))
 
       module _ (fits : image_size records ≤ output) where

@@ -8,6 +8,7 @@ use lib.ListN.{length, get_or, length-map, get_or-append, get_or-map}
 use Rattle.base.specs.Bytes.{byte_at}
 use Rattle.base.proofs.FillLaws.{fill_map}
 use Rattle.base.proofs.Numbers.{split_eq}
+use Rattle.policy_image.specs.Inner.Kinds.{kind_number}
 use Rattle.policy_image.specs.declared.records.Record.{Record}
 use Rattle.policy_image.specs.Policy.{Policy}
 use Rattle.policy_image.specs.Encoding.{record_bytes, image_of}
@@ -120,11 +121,11 @@ module _ (p : Policy) where
           ∙ get_or-map (renumbered (canonical_node p)) (kind_list p (suc k)) place no_record
           ∙ ap (renumbered (canonical_node p)) (place_at p.rec (suc k) n p.size there kind)
 
-    module _ (run : Run) (kind : run.kind ≡ suc k) (last : run.last ≡ ending lists (suc k)) (from : run.before ≡ ending lists k) (shift : run.shift ≡ ending lists 8) where
+    module _ (run : Run) (kind : kind_number run.kind ≡ suc k) (last : run.last ≡ ending lists (suc k)) (from : run.before ≡ ending lists k) (shift : run.shift ≡ ending lists 8) where
       place_is : (n : ℕ) → run_place p run n ≡ suc (ending lists k + many_upto p (suc k) n)
       place_is n = ap₂ (λ (a b : ℕ). suc (a + many_upto p b n)) from kind
 
-      run_stands : (n : ℕ) → suc n ≤ p.size → (p.rec (suc n)).kind ≡ run.kind → stands k (run_place p run n)
+      run_stands : (n : ℕ) → suc n ≤ p.size → (p.rec (suc n)).kind ≡ kind_number run.kind → stands k (run_place p run n)
       run_stands n l e = subst (stands k) (sym (place_is n)) (kept_stands n (e ∙ kind) l)
 
       pub kept_run : RunIn (canonical_of p) p run

@@ -11,6 +11,7 @@ use lib.ListN.{length, get_or}
 use Rattle.base.specs.Bytes.{byte_at}
 use Rattle.base.specs.Inner.Fill.{Filled}
 use Rattle.base.proofs.Numbers.{split_le}
+use Rattle.policy_image.specs.Inner.Kinds.{kind_number}
 use Rattle.policy_image.specs.declared.counts.Counts.{Counts}
 use Rattle.policy_image.specs.declared.records.Record.{Record}
 use Rattle.policy_image.specs.Layout.{counts_of}
@@ -146,7 +147,7 @@ module _ {s : List ℕ} {c : Counts} {keys masks : List ℕ} {m room : ℕ} (G :
       }
 
   -- ---- the runs: constraints, then nodes
-  module _ (k : ℕ) (low : 7 ≤ k) (high : suc k ≤ 9) (run : Run) (kind : run.kind ≡ suc k) (last : run.last ≡ ends (suc k)) (before : run.before ≡ ends k) (shift : run.shift ≡ ends 8) where
+  module _ (k : ℕ) (low : 7 ≤ k) (high : suc k ≤ 9) (run : Run) (kind : kind_number run.kind ≡ suc k) (last : run.last ≡ ends (suc k)) (before : run.before ≡ ends k) (shift : run.shift ≡ ends 8) where
     pub kept_fits : (output : ℕ) (nodes : List ℕ) → room ≤ output → NodeTable p nodes → RunFits s nodes run output
     kept_fits output nodes long =
         let S = G.sound in
@@ -155,14 +156,14 @@ module _ {s : List ℕ} {c : Counts} {keys masks : List ℕ} {m room : ℕ} (G :
         let n = kept_end p 8 (omega arith) (omega arith) in
         let r = endings_rise lists (suc k) 9 high in
         run_fits writable_lists.writable S.exact S.links S.chains S.nodes run (kept_run p k low high run kind last before shift)
-        (record { low = omega arith; high = omega arith }) (omega (arith, y, e, r, before)) (omega (arith, shift, n)) output nodes (omega (arith, G.room, long))
+        (omega (arith, y, e, r, before)) (omega (arith, shift, n)) output nodes (omega (arith, G.room, long))
 
     pub kept_put : {old mid new : List ℕ} → RecordsTo j (ends k) old mid
-        → Filled (λ i v. v ≡ byte_at (run_bytes p run p.size) i) mid new (start_of (suc run.before)) 0 (size_of (length (kind_list p run.kind)))
+        → Filled (λ i v. v ≡ byte_at (run_bytes p run p.size) i) mid new (start_of (suc run.before)) 0 (size_of (length (kind_list p (kind_number run.kind))))
         → RecordsTo j (ends (suc k)) old new
     kept_put {old} {mid} {new} F R =
         subst (λ (x : ℕ). RecordsTo j x old new) (ap₂ (λ (x y : ℕ). x + length (kind_list p y)) before kind ∙ sym (kept_end p k low high))
         (records_more j p run (kept_run p k low high run kind last before shift) (subst (λ (x : ℕ). RecordsTo j x old mid) (sym before) F) R)
 
-    pub behind : run.before + length (kind_list p run.kind) ≡ ends (suc k)
+    pub behind : run.before + length (kind_list p (kind_number run.kind)) ≡ ends (suc k)
     behind = ap₂ (λ (x y : ℕ). x + length (kind_list p y)) before kind ∙ sym (kept_end p k low high)

@@ -13,14 +13,14 @@ ghost use Rattle.canonical.specs.Canonical.{canonical_image, CanonicalPromise};
 ghost use Rattle.canonical.specs.Inner.Parts.{KeptKinds, Canonizable};
 
 use crate::rows::{count_keys, put_rows};
+use base::refusals::Refusal;
 use fact_table::make_table;
-use policy_check::{check, refusal};
-use policy_image::counts::{Checked, Counts, MOST_RECORDS};
-use policy_image::kinds::{CONSTRAINT, CONSTRAINTS, NODE};
+use policy_check::check;
+use policy_image::counts::{Counts, MOST_RECORDS};
+use policy_image::kinds::Kind;
 use policy_image::sizes::image_size;
-use policy_runs::tables::{NODES, ends_of, heads_of};
+use policy_runs::tables::{CONSTRAINTS, NODES, ends_of, heads_of};
 use policy_runs::{KINDS, Run, count_kinds, count_nodes, put_run};
-use policy_writing::answer::Writing;
 use policy_writing::put_header;
 use sorting::ITEMS;
 
@@ -38,13 +38,7 @@ fn kept_kinds(of: &[usize; KINDS]) -> [usize; KINDS]
 fn with_records(c: Counts, records: usize) -> Counts
     ensures { result ≡ with_records records c }
 {
-    Counts {
-        types: c.types,
-        roles: c.roles,
-        users: c.users,
-        classes: c.classes,
-        records,
-    }
+    Counts { records, ..c }
 }
 
 // Writes the canonical image: the header, the facts, then constraints and nodes as they stand, renumbered.
@@ -66,14 +60,14 @@ fn write(
     put_header(output, with_records(counts, ends[NODES]), &heads);
     put_rows(output, keys, masks, facts, &ends);
     let constraints = Run {
-        kind: CONSTRAINT,
+        kind: Kind::Constraint,
         before: facts,
         last: ends[CONSTRAINTS],
         shift: ends[CONSTRAINTS],
     };
     let behind = put_run(output, policy, &nodes, constraints);
     let expressions = Run {
-        kind: NODE,
+        kind: Kind::Node,
         before: behind,
         last: ends[NODES],
         shift: ends[CONSTRAINTS],
@@ -81,26 +75,24 @@ fn write(
     put_run(output, policy, &nodes, expressions);
 }
 
-// The canonical image of a policy: the output's first bytes are the image, and its later bytes are as they were. A refusal writes nothing.
-pub fn canonical(policy: &[u8], output: &mut [u8]) -> Writing
+// The canonical image of a policy: the output's first bytes are the image, whose length is the answer, and its later bytes are as they
+// were. A refusal writes nothing.
+pub fn canonical(policy: &[u8], output: &mut [u8]) -> Result<u32, Refusal>
     ensures { CanonicalPromise policy.now output.old output.new result }
 {
-    let answer = check(policy);
-    let Checked::Accepted(counts) = answer else {
-        return Writing::Refused(refusal(answer));
-    };
+    let counts = check(policy)?;
     let mut keys = [0u32; ITEMS];
     let mut masks = [0u32; ITEMS];
     let facts = make_table(policy, counts.records, &mut keys, &mut masks);
     let of = count_kinds(policy, counts.records);
     let records = facts + (of[CONSTRAINTS] + of[NODES]);
     if MOST_RECORDS < records {
-        return Writing::Refused(15);
+        return Err(Refusal::TooManyRecords);
     }
     let bytes = image_size(records);
     if output.len() < bytes {
-        return Writing::Refused(16);
+        return Err(Refusal::OutputSlice);
     }
     write(output, policy, counts, &keys, &masks, facts);
-    Writing::Written(bytes as u32)
+    Ok(bytes as u32)
 }

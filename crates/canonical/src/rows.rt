@@ -40,11 +40,8 @@ pub fn count_keys(keys: &[u32], m: usize) -> [usize; KINDS]
     ensures { KeyCounts keys.now m result }
 {
     let mut table = [0usize; KINDS];
-    let mut done: usize = 0;
-    while done < m {
-        let kind = kind_in(keys[done]);
-        table[kind] += 1;
-        done += 1;
+    for key in &keys[..m] {
+        table[kind_in(*key)] += 1;
     }
     table
 }
@@ -54,12 +51,10 @@ pub fn put_rows(output: &mut [u8], keys: &[u32], masks: &[u32], m: usize, ends: 
     requires { RowsFit keys.now masks.now ends.now m (length output.old) }
     ensures { Filled (λ j v. v ≡ byte_at (row_bytes (fact_row keys.now masks.now ends.now) m) j) output.old output.new header_size 0 (size_of m) }
 {
-    let mut done: usize = 0;
-    while done < m {
-        let key = keys[done];
-        let row = record_of(key, masks[done]);
+    for i in 0..m {
+        let key = keys[i];
+        let row = record_of(key, masks[i]);
         let last = ends[kind_in(key)];
-        done += 1;
-        put_record(output, done, with_next(row, next_upto(last, done)));
+        put_record(output, i + 1, with_next(row, next_upto(last, i + 1)));
     }
 }

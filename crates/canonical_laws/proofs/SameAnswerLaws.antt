@@ -6,6 +6,9 @@ use mathlib.Core.List.{List, [], ◌∷◌, ◌++◌}
 use mathlib.Core.Logic.Iff
 use mathlib.Core.Logic.{inl, inr, ⊎_elim, ◌↔◌}
 use lib.Dec.{T}
+use Rattle.std.proofs.Common.{Result, Ok, Err}
+use Rattle.base.specs.declared.refusals.Refusal.{Refusal}
+use Rattle.base.specs.Refusals.{question_number}
 use Rattle.base.specs.Bits.{bit}
 use Rattle.base.specs.Questions.{Question, ask, AllYes}
 use Rattle.policy_image.specs.Layout.{counts_of}
@@ -16,9 +19,6 @@ use Rattle.context.specs.declared.Event.{Event}
 use Rattle.context.specs.Codes.{context_of, event_of}
 use Rattle.relations.specs.Relations.{ρ, μ}
 use Rattle.access.specs.Authorization.{authorized, flow}
-use Rattle.bare_questions.specs.declared.Answer.{Answer}
-use Rattle.bare_questions.specs.declared.Answer.TheVariants.{Yes, No}
-use Rattle.bare_questions.specs.declared.Answer.TheVariants as answer
 use Rattle.bare_questions.specs.Bare.{AskedInRange, bare_questions, BareAnswer}
 use Rattle.paths.specs.Model.{Model}
 use Rattle.paths.specs.Paths.{IsPath, BreaksOrder, BreaksEvents, Holds, OrderAt, EventsAt}
@@ -28,11 +28,12 @@ use Rattle.goal_image.specs.Goal.{goal_of, σChain, γChain, σeChain, γeChain}
 use Rattle.goal_image.specs.Sets.{context_in, event_in}
 use Rattle.goal_image.specs.Questions.{FieldsFit, goal_questions}
 use Rattle.goal_model.specs.Images.{meetsρμ, model}
+use Rattle.std.specs.Prelude.{Option, Some, None}
+use Rattle.witness.specs.declared.unanswered.Unanswered.{Unanswered}
+use Rattle.witness.specs.declared.unanswered.Unanswered.TheVariants as unanswered
 use Rattle.goal_question.specs.declared.goal.Outcome.{Outcome}
 use Rattle.goal_question.specs.declared.goal.Outcome.TheVariants as outcome
 use Rattle.goal_question.specs.GoalQuestion.{WorkFits, all_questions, GoalSort, GoalPromise}
-use Rattle.least_steps.specs.declared.Steps.{Steps}
-use Rattle.least_steps.specs.declared.Steps.TheVariants as steps
 use Rattle.least_steps.specs.LeastSteps.{FlowPath, SomeFlowPath, BothInRange, steps_length, StepsFit, steps_questions, StepsPromise}
 use Rattle.canonical_laws.specs.Cases.Theorems.{SameAnswers}
 use Rattle.canonical_laws.proofs.AlikeLaws.{Alike, AnsweredAlike, behind_passed}
@@ -143,16 +144,15 @@ module _ {s t : List ℕ} (A : AnswersBy s t) where
 
 -- ---- the answers
 module _ {s t : List ℕ} (A : AnswersBy s t) where
-  bare_same : (x y : Context) (e : Event) (b c : Bool) → b ≡ c → (r : Answer) → BareAnswer s x y e b r → BareAnswer t x y e c r
-  bare_same x y e b c q Yes h = ((bare_asked A x y e).yes h.0, sym q ∙ h.1)
-  bare_same x y e b c q No h = ((bare_asked A x y e).yes h.0, sym q ∙ h.1)
-  bare_same x y e b c q (answer.Refused n) h = (bare_asked A x y e).no n h
+  bare_same : (x y : Context) (e : Event) (b c : Bool) → b ≡ c → (r : Result Bool Refusal) → BareAnswer s x y e b r → BareAnswer t x y e c r
+  bare_same x y e b c q (Ok z) h = ((bare_asked A x y e).yes h.0, sym q ∙ h.1)
+  bare_same x y e b c q (Err r) h = (bare_asked A x y e).no (question_number r) h
 
-  steps_same : (x y : Context) (work1 work2 : ℕ) (before after : List ℕ) (r : Steps)
+  steps_same : (x y : Context) (work1 work2 : ℕ) (before after : List ℕ) (r : Result (Option ℕ) Unanswered)
       → StepsPromise s x y work1 work2 before after r → StepsPromise t x y work1 work2 before after r
-  steps_same x y work1 work2 before after steps.None h =
+  steps_same x y work1 work2 before after (Ok None) h =
       ((steps_asked A x y work1 work2).yes h.0, λ m P. h.1 m (some_same (answers_back A) x y m P), h.2)
-  steps_same x y work1 work2 before after (steps.Shown m) h = (
+  steps_same x y work1 work2 before after (Ok (Some m)) h = (
     (steps_asked A x y work1 work2).yes h.0,
     λ k l P. h.1 k l (some_same (answers_back A) x y k P),
     record {
@@ -162,8 +162,8 @@ module _ {s t : List ℕ} (A : AnswersBy s t) where
       path = path_same A x y m (contexts_in after) (events_in after) h.2.path;
     },
   )
-  steps_same x y work1 work2 before after (steps.Refused k) h = ((steps_asked A x y work1 work2).no k h.0, h.1)
-  steps_same x y work1 work2 before after (steps.NoRoom m) h = (
+  steps_same x y work1 work2 before after (Err (unanswered.Refused r)) h = ((steps_asked A x y work1 work2).no (question_number r) h.0, h.1)
+  steps_same x y work1 work2 before after (Err (unanswered.NoRoom m)) h = (
     (steps_asked A x y work1 work2).yes h.0,
     some_same A x y m h.1,
     λ k l P. h.2 k l (some_same (answers_back A) x y k P),
@@ -171,29 +171,29 @@ module _ {s t : List ℕ} (A : AnswersBy s t) where
     h.4,
   )
 
-  sort_same : (g : List ℕ) (work1 work2 : ℕ) (r : Outcome) → GoalSort s g work1 work2 r → GoalSort t g work1 work2 r
-  sort_same g work1 work2 outcome.Holds h = ((goal_asked A g work1 work2).yes h.0, subst Holds (model_same A g) h.1)
-  sort_same g work1 work2 (outcome.Order m) h = ((goal_asked A g work1 work2).yes h.0, subst (λ (M : Model). OrderAt M m) (model_same A g) h.1)
-  sort_same g work1 work2 (outcome.Events m) h = ((goal_asked A g work1 work2).yes h.0, subst (λ (M : Model). EventsAt M m) (model_same A g) h.1)
-  sort_same g work1 work2 (outcome.Refused k) h = (goal_asked A g work1 work2).no k h
-  sort_same g work1 work2 (outcome.NoRoom m) h = absurd h
+  sort_same : (g : List ℕ) (work1 work2 : ℕ) (r : Result Outcome Unanswered) → GoalSort s g work1 work2 r → GoalSort t g work1 work2 r
+  sort_same g work1 work2 (Ok outcome.Holds) h = ((goal_asked A g work1 work2).yes h.0, subst Holds (model_same A g) h.1)
+  sort_same g work1 work2 (Ok (outcome.Order m)) h = ((goal_asked A g work1 work2).yes h.0, subst (λ (M : Model). OrderAt M m) (model_same A g) h.1)
+  sort_same g work1 work2 (Ok (outcome.Events m)) h = ((goal_asked A g work1 work2).yes h.0, subst (λ (M : Model). EventsAt M m) (model_same A g) h.1)
+  sort_same g work1 work2 (Err (unanswered.Refused r)) h = (goal_asked A g work1 work2).no (question_number r) h
+  sort_same g work1 work2 (Err (unanswered.NoRoom m)) h = absurd h
 
-  goal_same : (g : List ℕ) (work1 work2 : ℕ) (before after : List ℕ) (r : Outcome)
+  goal_same : (g : List ℕ) (work1 work2 : ℕ) (before after : List ℕ) (r : Result Outcome Unanswered)
       → GoalPromise s g work1 work2 before after r → GoalPromise t g work1 work2 before after r
-  goal_same g work1 work2 before after outcome.Holds h = (sort_same g work1 work2 outcome.Holds h.0, h.1)
-  goal_same g work1 work2 before after (outcome.Order m) h = (
-    sort_same g work1 work2 (outcome.Order m) h.0,
+  goal_same g work1 work2 before after (Ok outcome.Holds) h = (sort_same g work1 work2 (Ok outcome.Holds) h.0, h.1)
+  goal_same g work1 work2 before after (Ok (outcome.Order m)) h = (
+    sort_same g work1 work2 (Ok (outcome.Order m)) h.0,
     subst (λ (M : Model). Shows (IsPath M) m before after) (model_same A g) h.1,
     subst (λ (M : Model). BreaksOrder M m (contexts_in after)) (model_same A g) h.2,
   )
-  goal_same g work1 work2 before after (outcome.Events m) h = (
-    sort_same g work1 work2 (outcome.Events m) h.0,
+  goal_same g work1 work2 before after (Ok (outcome.Events m)) h = (
+    sort_same g work1 work2 (Ok (outcome.Events m)) h.0,
     subst (λ (M : Model). Shows (IsPath M) m before after) (model_same A g) h.1,
     subst (λ (M : Model). BreaksEvents M m (contexts_in after) (events_in after)) (model_same A g) h.2,
   )
-  goal_same g work1 work2 before after (outcome.Refused k) h = (sort_same g work1 work2 (outcome.Refused k) h.0, h.1)
-  goal_same g work1 work2 before after (outcome.NoRoom m) h = (
-    ⊎_elim (λ o. inl (sort_same g work1 work2 (outcome.Order m) o)) (λ e. inr (sort_same g work1 work2 (outcome.Events m) e)) h.0,
+  goal_same g work1 work2 before after (Err (unanswered.Refused k)) h = (sort_same g work1 work2 (Err (unanswered.Refused k)) h.0, h.1)
+  goal_same g work1 work2 before after (Err (unanswered.NoRoom m)) h = (
+    ⊎_elim (λ o. inl (sort_same g work1 work2 (Ok (outcome.Order m)) o)) (λ e. inr (sort_same g work1 work2 (Ok (outcome.Events m)) e)) h.0,
     h.1,
     h.2,
   )

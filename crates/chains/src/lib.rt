@@ -44,13 +44,10 @@ fn heads_in_range(image: &[u8], shape: Shape) -> bool
     requires { HasShape image.now shape }
     ensures { Decides result (HeadsAreRecords (links_in image.now shape) shape.first shape.end) }
 {
-    let n = shape.count;
-    let mut h = shape.first;
-    while h < shape.end {
-        if n < head_at(image, shape, h) {
+    for h in shape.first..shape.end {
+        if shape.count < head_at(image, shape, h) {
             return false;
         }
-        h += 1;
     }
     true
 }
@@ -60,19 +57,11 @@ fn nexts_rise(image: &[u8], shape: Shape) -> bool
     requires { HasShape image.now shape }
     ensures { Decides result (NextsRising (links_in image.now shape)) }
 {
-    let n = shape.count;
-    let mut i = 1;
-    while i <= n {
+    for i in 1..=shape.count {
         let next = next_at(image, shape, i);
-        if next != 0 {
-            if next <= i {
-                return false;
-            }
-            if n < next {
-                return false;
-            }
+        if next != 0 && (next <= i || shape.count < next) {
+            return false;
         }
-        i += 1;
     }
     true
 }
@@ -82,10 +71,7 @@ pub fn links_rise(image: &[u8], shape: Shape) -> bool
     requires { HasShape image.now shape }
     ensures { Decides result (LinksRising (links_in image.now shape) shape.first shape.end) }
 {
-    if !heads_in_range(image, shape) {
-        return false;
-    }
-    nexts_rise(image, shape)
+    heads_in_range(image, shape) && nexts_rise(image, shape)
 }
 
 // The heads, that of chain h at h.
@@ -94,10 +80,8 @@ pub fn heads(image: &[u8], shape: Shape) -> [usize; MOST_CHAINS]
     ensures { (h : ℕ) → shape.first ≤ h → h < shape.end → get_or result h 0 ≡ (links_in image.now shape).head h }
 {
     let mut c = [0usize; MOST_CHAINS];
-    let mut h = shape.first;
-    while h < shape.end {
+    for h in shape.first..shape.end {
         c[h] = head_at(image, shape, h);
-        h += 1;
     }
     c
 }

@@ -43,10 +43,8 @@ fn put_number(leaves: &mut [u64; LEAVES], at: usize, v: u32)
     requires { (length leaves.old ≡ leaf_entries) × (at + 16 ≤ leaf_entries) }
     ensures { (length leaves.new ≡ leaf_entries) × Filled (λ b r. AllIf (eqb v b) r) leaves.old leaves.new at 0 16 }
 {
-    let mut b: u32 = 0;
-    while b < 16 {
+    for b in 0..16 {
         leaves[at + (b as usize)] = all_if(v == b);
-        b += 1;
     }
 }
 

@@ -17,8 +17,9 @@ ghost use Rattle.constraints.specs.Inner.Words.{Word, NodeWord, ConstraintWord, 
 use crate::leaves::{ALL, LEAVES, leaf, one_pair};
 use base::bits::{has_bit, has_member};
 use context::{Context, Event};
-use policy_image::kinds::{AND, CONSTRAINTS, NOT, OR};
-use policy_image::records::{Record, head_at, record_at};
+use policy_image::kinds::{AND, Kind, NOT, OR};
+use policy_image::records::{Record, record_at};
+use policy_links::records::records_of;
 
 // The bits that w does not have.
 fn flipped(w: u64) -> u64
@@ -66,11 +67,8 @@ pub fn constraints_word(policy: &[u8], e: Event, leaves: &[u64; LEAVES]) -> u64
     ensures { EventWord (policy_of policy.now) e leaves.now result }
 {
     let mut all = ALL;
-    let mut i = head_at(policy, CONSTRAINTS);
-    while i != 0 {
-        let r = record_at(policy, i);
-        all = all & constraint_word(policy, r, e, leaves);
-        i = r.next;
+    for r in records_of(policy, Kind::Constraint) {
+        all &= constraint_word(policy, r, e, leaves);
     }
     all
 }

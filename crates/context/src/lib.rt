@@ -50,13 +50,9 @@ impl Context {
     pub fn in_range(self, counts: Counts) -> bool
         ensures { Decides result (ContextInRange counts self) }
     {
-        if !within(1, counts.types, self.ty) {
-            return false;
-        }
-        if !within(1, counts.roles, self.role) {
-            return false;
-        }
-        within(1, counts.users, self.user)
+        within(1, counts.types, self.ty)
+            && within(1, counts.roles, self.role)
+            && within(1, counts.users, self.user)
     }
 
     // How many contexts are in range.
@@ -130,10 +126,7 @@ impl Event {
     pub fn in_range(self, counts: Counts) -> bool
         ensures { Decides result (EventInRange counts self) }
     {
-        if !within(1, counts.classes, self.class) {
-            return false;
-        }
-        within(0, 31, self.perm)
+        within(1, counts.classes, self.class) && within(0, 31, self.perm)
     }
 
     pub fn is_transition(self) -> bool

@@ -134,8 +134,8 @@ collected_start p codes given =
       every = λ c g s. let z : ⊥ = omega (arith, s.low, s.high) in absurd z;
     }
 
-module _ (p : Policy) (n : ℕ) {codes given codes' given' : List ℕ} {m m' : ℕ} (C : Collected p n codes given m)
-    {r : Record} (same : r ≡ p.rec (n + 1)) (E : FactsEntered r m codes given codes' given' m') where
+module _ (p : Policy) (n i : ℕ) (next : i ≡ n + 1) {codes given codes' given' : List ℕ} {m m' : ℕ} (C : Collected p n codes given m)
+    {r : Record} (same : r ≡ p.rec i) (E : FactsEntered r m codes given codes' given' m') where
   stays : (c g : ℕ) → StandsAmong codes given m c g → StandsAmong codes' given' m' c g
   stays c g s =
       record {
@@ -145,13 +145,13 @@ module _ (p : Policy) (n : ℕ) {codes given codes' given' : List ℕ} {m m' : �
         mask_is = E.mask_stays s.at s.below ∙ s.mask_is;
       }
 
-  pub collected_more : Collected p (n + 1) codes' given' m'
+  pub collected_more : Collected p i codes' given' m'
   collected_more =
       record {
         few = omega (arith, C.few, E.high);
         sound = λ x l.
             ⊎_elim
-            (λ (a : m ≤ x). record { of = n + 1; low = omega arith; high = omega arith; says = subst (λ (r : Record). SaysFact r (code_in codes' x) (code_in given' x)) same (E.sound x a l) })
+            (λ (a : m ≤ x). record { of = i; low = omega arith; high = omega arith; says = subst (λ (r : Record). SaysFact r (code_in codes' x) (code_in given' x)) same (E.sound x a l) })
             (λ (b : x < m).
             let s = C.sound x b in
             record {
@@ -164,7 +164,7 @@ module _ (p : Policy) (n : ℕ) {codes given codes' given' : List ℕ} {m m' : �
             (split_le m x);
         every = λ c g s.
             ⊎_elim
-            (λ (e : s.of ≡ n + 1). E.every c g (subst (λ (r : Record). SaysFact r c g) (ap p.rec e ∙ sym same) s.says))
-            (λ (d : s.of ≡ n + 1 → ⊥). stays c g (C.every c g (record { of = s.of; low = s.low; high = omega (arith, d, s.high); says = s.says })))
-            (split_eq s.of (n + 1));
+            (λ (e : s.of ≡ i). E.every c g (subst (λ (r : Record). SaysFact r c g) (ap p.rec e ∙ sym same) s.says))
+            (λ (d : s.of ≡ i → ⊥). stays c g (C.every c g (record { of = s.of; low = s.low; high = omega (arith, d, s.high); says = s.says })))
+            (split_eq s.of i);
       }

@@ -8,21 +8,22 @@ ghost use Rattle.policy_check.specs.Inner.Sound.{Sound};
 ghost use Rattle.policy_facts.specs.Inner.FactTable.{fact_key};
 ghost use Rattle.fact_table.specs.Inner.Collect.{is_fact, says_both, FactsEntered, Collected};
 
-use policy_image::kinds::{ALLOW, BOTH, FLOW, PERMISSIONS, READ_LIKE, ROLE_CHANGE, WRITE_LIKE};
+use policy_image::kinds::{BOTH, Kind, READ_LIKE, WRITE_LIKE};
 use policy_image::records::{Record, record_at};
 
 // Whether a record says something: it is of kinds 1 to 7, and where it carries a mask, that is not empty.
 fn is_fact(r: Record) -> bool
     ensures { result ≡ is_fact r }
 {
-    (r.kind <= ROLE_CHANGE) & ((r.mask != 0) | (r.kind < PERMISSIONS) | (ALLOW < r.kind))
+    r.kind <= Kind::RoleChange.number()
+        && (r.mask != 0 || r.kind < Kind::Permissions.number() || Kind::Allow.number() < r.kind)
 }
 
 // Whether it says two things: permissions of a flow record that are write-like and read-like.
 fn says_both(r: Record) -> bool
     ensures { result ≡ says_both r }
 {
-    (r.kind == FLOW) & (r.b == BOTH)
+    r.is(Kind::Flow) && r.b == BOTH
 }
 
 // The code of a record's key, with b.
@@ -58,10 +59,8 @@ pub fn collect(policy: &[u8], records: usize, codes: &mut [u32], given: &mut [u3
     ensures { Collected (policy_of policy.now) (record_count policy.now) codes.new given.new result }
 {
     let mut n: usize = 0;
-    let mut done: usize = 0;
-    while done < records {
-        done += 1;
-        n = enter(record_at(policy, done), n, codes, given);
+    for k in 1..=records {
+        n = enter(record_at(policy, k), n, codes, given);
     }
     n
 }

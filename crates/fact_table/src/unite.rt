@@ -20,16 +20,14 @@ pub fn unite(
     ensures { UnitedFacts (code_in codes.now) (code_in given.now) n keys.new masks.new result }
 {
     let mut m: usize = 0;
-    let mut i: usize = 0;
-    while i < n {
+    for i in 0..n {
         let item = order[i] as usize;
         let code = codes[item];
-        let at = entry_for(keys, m, code);
-        let united = mask_of(masks, m, at);
+        let at = entry_for(&keys[..m], code);
+        let united = mask_of(&masks[..m], at);
         keys[at] = code;
         masks[at] = united | given[item];
         m = at + 1;
-        i += 1;
     }
     m
 }

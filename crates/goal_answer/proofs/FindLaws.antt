@@ -1,16 +1,15 @@
 -- What two searches up to a bound come to: the right answer up to it.
-use Prim.Native.Nat.{ℕ, suc, ◌+◌, ◌<◌}
-use mathlib.Core.Bool.{true, false}
+use Prim.Native.Nat.{ℕ, suc, ◌<◌}
 use mathlib.Core.List.{List}
 use mathlib.Core.Logic.{inl, inr}
-use mathlib.Core.Path.{◌≡◌, refl, sym, ap, subst}
+use mathlib.Core.Path.{◌≡◌, sym, ap, subst}
 use native.Mathlib.Omega.{arith}
-use Rattle.base.proofs.BoolLaws.{clash}
+use Rattle.std.specs.Prelude.{Option, Some, None, MatchOption, IsSomeAnd}
+use Rattle.std.specs.Option.{option_map, option_map_or, option_or}
 use Rattle.policy_image.specs.declared.counts.Counts.{Counts}
 use Rattle.goal_image.specs.declared.check.Legs.{Legs}
 use Rattle.paths.specs.Model.{Model}
-use Rattle.paths.specs.Paths.{SomeOrder, SomeEvents, OrderAt, EventsAt}
-use Rattle.paths.specs.Inner.Least.{at}
+use Rattle.paths.specs.Paths.{SomeOrder, SomeEvents}
 use Rattle.paths.specs.Inner.Monitor.{BadNode}
 use Rattle.paths.specs.Inner.Monitors.{tracker_n, stager_n}
 use Rattle.paths.specs.Inner.Verdict.{Verdict, holds, order, events, Right}
@@ -18,16 +17,17 @@ use Rattle.paths.proofs.Monitors.{order_iff, events_iff}
 use Rattle.paths.proofs.Verdict.{order_right, events_right}
 use Rattle.search_graph.specs.declared.monitor.Mode.{Mode}
 use Rattle.search_graph.specs.declared.monitor.Mode.TheVariants.{Order, Events}
-use Rattle.search_graph.specs.declared.task.Task.{Task}
 use Rattle.search_graph.specs.Inner.Graph.{WithinBound}
 use Rattle.search_graph.specs.Inner.Model.{plan_model}
 use Rattle.search_graph.specs.Inner.Tasks.{Given, task_for}
-use Rattle.search.specs.declared.levels.LeastEnd.{LeastEnd}
-use Rattle.search.specs.declared.levels.LeastEnd.TheVariants.{Nothing, Start, At}
-use Rattle.search.specs.Inner.Found.{unbounded, FoundLeast}
+use Rattle.search.specs.declared.levels.End.{End}
+use Rattle.search.specs.declared.levels.End.TheVariants.{Start, Step}
+use Rattle.search.specs.Inner.Found.{unbounded, steps_to, FoundLeast}
+use Rattle.search.proofs.FoundLaws.{few_steps}
 use Rattle.witness.specs.Inner.Shown.{SearchFound}
-use Rattle.goal_answer.specs.declared.find.Finding.TheVariants as found
-use Rattle.goal_answer.specs.Inner.Finding.{RightWithin, nodes_of, steps_or, Short, is_nothing, events_found, FoundGoal}
+use Rattle.goal_answer.specs.declared.find.Breach.{Breach}
+use Rattle.goal_answer.specs.declared.find.Breach.TheVariants as breach
+use Rattle.goal_answer.specs.Inner.Finding.{RightWithin, nodes_of, FoundGoal}
 
 -- an answer within a bound that all numbers of steps are within is the answer
 pub right_whole : (M : Model) {within : ℕ → Type 0} → ((m : ℕ) → within m) → (v : Verdict) → RightWithin M within v → Right M v
@@ -35,11 +35,16 @@ right_whole M all holds R = λ m. R m (all m)
 right_whole M all (order m) R = R.1
 right_whole M all (events m) R = R.1
 
--- what a search found has room in 32 bits
-pub short_of : {s plan : List ℕ} {t : Task} → Given s plan t → (b : ℕ) (back : List ℕ) (r : LeastEnd) → FoundLeast s plan t b back r → Short r
-short_of A b back Nothing f = tt
-short_of A b back (Start x) f = tt
-short_of A b back (At l) f = omega (arith, f.0.found.short, A.readable.nodes)
+-- what `map` makes of an end, by a variant
+pub mapped : (f : End → Breach) (o : Option End) (r : Option Breach) → MatchOption o (r ≡ None) (λ e. IsSomeAnd r (λ b. b ≡ f e)) → r ≡ option_map f o
+mapped f None r h = h
+mapped f (Some e) None h = absurd h
+mapped f (Some e) (Some b) h = ap Some h
+
+-- .. and `map_or`
+pub mapped_or : (d : ℕ) (o : Option End) (r : ℕ) → MatchOption o (r ≡ d) (λ e. r ≡ steps_to e) → r ≡ option_map_or steps_to o d
+mapped_or d None r h = h
+mapped_or d (Some e) r h = h
 
 module _ {s plan : List ℕ} {n : Counts} {l : Legs} (A : (m : Mode) → Given s plan (task_for n l m)) where
   abbrev M : Model
@@ -66,70 +71,54 @@ module _ {s plan : List ℕ} {n : Counts} {l : Legs} (A : (m : Mode) → Given s
   one_leg_lem q k b = let o = (order_iff M some_leg k).1 b in omega (arith, o.breaks.above, o.breaks.below)
 
   -- what was found of events, where none of order is found up to as many steps
-  module _ (b : ℕ) (back : List ℕ) (v : LeastEnd) (f : FoundLeast s plan (task_for n l Events) b back v) where
-    pub right_events : {back' : List ℕ} → ((k : ℕ) → Within (steps_or v b) k → ¬ BadNode M (tracker_n M) k)
-        → (l.count ≡ 1 → SearchFound s plan (task_for n l Events) back' v) → FoundGoal s plan n l b back' (events_found v)
-    right_events {back'} none links = go v f none links
-      where
-        go : (v : LeastEnd) → FoundLeast s plan (task_for n l Events) b back v → ((k : ℕ) → Within (steps_or v b) k → ¬ BadNode M (tracker_n M) k)
-            → (l.count ≡ 1 → SearchFound s plan (task_for n l Events) back' v) → FoundGoal s plan n l b back' (events_found v)
-        go Nothing f none links = record { right = λ k h. (no_order (none k h), no_events_lem (f k h)); linked = tt }
-        go (Start x) f none links =
+  module _ (b : ℕ) (back : List ℕ) where
+    pub right_events : (v : Option End) → FoundLeast s plan (task_for n l Events) b back v → {back' : List ℕ}
+        → ((k : ℕ) → Within (option_map_or steps_to v b) k → ¬ BadNode M (tracker_n M) k)
+        → (l.count ≡ 1 → SearchFound s plan (task_for n l Events) back' v) → FoundGoal s plan n l b back' (option_map breach.Events v)
+    right_events None f none links = record { right = λ k h. (no_order (none k h), no_events_lem (f k h)); linked = tt }
+    right_events (Some (Start x)) f none links =
+        record {
+          right = (inl (omega arith), events_right M some_leg 0 f.least (λ k h. none k (inl (omega arith))));
+          linked = (omega arith, links);
+        }
+    right_events (Some (Step e)) f none links =
+        record {
+          right = (inl (omega (arith, f.1)), events_right M some_leg (suc e.depth) f.0.least (λ k h. none k (inl (omega arith))));
+          linked = (few_steps (A Events) b back (Step e) f, links);
+        }
+
+    module _ (v : Option End) (f : FoundLeast s plan (task_for n l Events) b back v) where
+      -- with one leg there is no other search
+      pub found_one : l.count ≡ 1 → FoundGoal s plan n l b back (option_map breach.Events v)
+      found_one q = right_events v f (λ k _. one_leg_lem q k) (λ _. record { bound = b; found = f })
+
+      module _ {c : ℕ} (q : c ≡ option_map_or steps_to v b) (back' : List ℕ) where
+        -- events have no fewer steps than an end within the bound
+        events_after : {d : ℕ} → d < c → (k : ℕ) → k < suc d → ¬ BadNode M (stager_n M) k
+        events_after = go v f q
+          where
+            go : (v : Option End) → FoundLeast s plan (task_for n l Events) b back v → c ≡ option_map_or steps_to v b → {d : ℕ} → d < c → (k : ℕ) → k < suc d → ¬ BadNode M (stager_n M) k
+            go None f q h k u = f k (inl (omega arith))
+            go (Some (Start x)) f q h k u = absurd (omega arith)
+            go (Some (Step e)) f q h k u = f.0.least.1 k (omega arith)
+
+        -- .. which is within the other
+        within : {d : ℕ} → d < c → d < b
+        within = go v f q
+          where
+            go : (v : Option End) → FoundLeast s plan (task_for n l Events) b back v → c ≡ option_map_or steps_to v b → {d : ℕ} → d < c → d < b
+            go None f q h = omega arith
+            go (Some (Start x)) f q h = omega arith
+            go (Some (Step e)) f q h = omega (arith, f.1)
+
+        -- order that is found up to as many steps wins
+        pub found_both : (o : Option End) → FoundLeast s plan (task_for n l Order) c back' o → ¬ (l.count ≡ 1)
+            → FoundGoal s plan n l b back' (option_or (option_map breach.Order o) (option_map breach.Events v))
+        found_both None g legs = right_events v f (λ k h. g k (subst (λ (d : ℕ). Within d k) (sym q) h)) (λ h. absurd (legs h))
+        found_both (Some (Start x)) g legs =
+            record { right = (inl (omega arith), order_right M some_leg 0 g.least (λ k h. absurd (omega arith))); linked = (omega arith, record { bound = c; found = g }) }
+        found_both (Some (Step e)) g legs =
             record {
-              right = (inl (omega arith), events_right M some_leg 0 f.least (λ k h. none k (inl (omega arith))));
-              linked = (record { steps = refl; short = tt }, links);
+              right = (inl (omega (arith, within g.1)), order_right M some_leg (suc e.depth) g.0.least (events_after g.1));
+              linked = (few_steps (A Order) c back' (Step e) g, record { bound = c; found = g });
             }
-        go (At e) f none links =
-            record {
-              right = (
-                inl (omega (arith, f.1)),
-                subst (EventsAt M) (let z : suc e.depth ≡ e.depth + 1 = omega arith in z) (events_right M some_leg (suc e.depth) f.0.least (λ k h. none k (inl (omega arith)))),
-              );
-              linked = (record { steps = ap at (omega arith); short = short_of (A Events) b back (At e) f }, links);
-            }
-
-    -- with one leg there is no other search
-    pub found_one : l.count ≡ 1 → FoundGoal s plan n l b back (events_found v)
-    found_one q = right_events (λ k _. one_leg_lem q k) (λ _. record { bound = b; found = f })
-
-    module _ {c : ℕ} (q : c ≡ steps_or v b) (back' : List ℕ) where
-      -- order is not found up to as many steps
-      pub found_events : (o : LeastEnd) → FoundLeast s plan (task_for n l Order) c back' o → is_nothing o ≡ true → ¬ (l.count ≡ 1) → FoundGoal s plan n l b back' (events_found v)
-      found_events Nothing g z legs = right_events (λ k h. g k (subst (λ (d : ℕ). Within d k) (sym q) h)) (λ h. absurd (legs h))
-      found_events (Start x) g z legs = absurd (clash z refl)
-      found_events (At e) g z legs = absurd (clash z refl)
-
-      -- events have no fewer steps than an end within the bound
-      events_after : {d : ℕ} → d < c → (k : ℕ) → k < suc d → ¬ BadNode M (stager_n M) k
-      events_after = go v f q
-        where
-          go : (v : LeastEnd) → FoundLeast s plan (task_for n l Events) b back v → c ≡ steps_or v b → {d : ℕ} → d < c → (k : ℕ) → k < suc d → ¬ BadNode M (stager_n M) k
-          go Nothing f q h k u = f k (inl (omega arith))
-          go (Start x) f q h k u = absurd (omega arith)
-          go (At e) f q h k u = f.0.least.1 k (omega arith)
-
-      -- .. which is within the other
-      within : {d : ℕ} → d < c → d < b
-      within = go v f q
-        where
-          go : (v : LeastEnd) → FoundLeast s plan (task_for n l Events) b back v → c ≡ steps_or v b → {d : ℕ} → d < c → d < b
-          go Nothing f q h = omega arith
-          go (Start x) f q h = omega arith
-          go (At e) f q h = omega (arith, f.1)
-
-      -- order is found up to as many steps: it wins
-      pub found_order : (o : LeastEnd) → FoundLeast s plan (task_for n l Order) c back' o → is_nothing o ≡ false → FoundGoal s plan n l b back' (found.Order o)
-      found_order Nothing g z = absurd (clash refl z)
-      found_order (Start x) g z =
-          record {
-            right = (inl (omega arith), order_right M some_leg 0 g.least (λ k h. absurd (omega arith)));
-            linked = (record { steps = refl; short = tt }, record { bound = c; found = g });
-          }
-      found_order (At e) g z =
-          record {
-            right = (
-              inl (omega (arith, within g.1)),
-              subst (OrderAt M) (let z : suc e.depth ≡ e.depth + 1 = omega arith in z) (order_right M some_leg (suc e.depth) g.0.least (events_after g.1)),
-            );
-            linked = (record { steps = ap at (omega arith); short = short_of (A Order) c back' (At e) g }, record { bound = c; found = g });
-          }

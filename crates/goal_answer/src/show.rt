@@ -6,82 +6,61 @@ ghost use Rattle.search_graph.specs.Inner.Visits.{Visited};
 ghost use Rattle.witness.specs.Inner.Shown.{FoundShown};
 ghost use Rattle.goal_answer.specs.Inner.Finding.{Searchable, GoalFound, EventsFound, GoalShown};
 
-use crate::find::{Finding, GoalSought, steps_or};
-use goal_image::check::Legs;
-use policy_image::counts::Counts;
-use search::levels::Sought;
+use crate::find::{Breach, GoalSought};
+use search::levels::End;
 use search::search;
 use search_graph::monitor::Mode;
-use search_graph::task::Task;
+use search_graph::task::Query;
 use search_graph::visits::undo;
-use witness::path::{Showing, show_found};
+use witness::path::{NoRoom, show_found};
 
 // Shows a path that breaks events, where the last search visited so many nodes.
 fn show_events(
-    policy: &[u8],
-    plan: &[u32],
-    counts: Counts,
-    legs: Legs,
-    events: Sought,
+    query: Query,
+    end: End,
+    visited: usize,
     work1: &mut [u32],
     work2: &mut [u32],
     path: &mut [u32],
-) -> Showing
-    requires { Searchable policy.now plan.now counts legs (length work1.old) (length work2.old) × EventsFound policy.now plan.now counts legs work2.old events.found × Visited work1.old work2.old events.visited }
-    ensures { FoundShown (plan_model policy.now plan.now counts legs) Events events.found path.old path.new result }
+) -> Result<Option<u32>, NoRoom>
+    requires { Searchable query.policy.now query.plan.now query.task.counts query.task.legs (length work1.old) (length work2.old) × EventsFound query.policy.now query.plan.now query.task.counts query.task.legs work2.old end × Visited work1.old work2.old visited }
+    ensures { FoundShown (plan_model query.entry.policy.now query.entry.plan.now query.entry.task.counts query.entry.task.legs) Events (Some end) path.old path.new result }
 {
-    let by_events = Task {
-        counts: counts,
-        legs: legs,
-        mode: Mode::Events,
-    };
-    let end = events.found;
+    let by_events = query.with_mode(Mode::Events);
     // no other search came after that for events
-    if legs.count == 1 {
-        return show_found(policy, plan, by_events, end, work2, path);
+    if query.task.legs.count == 1 {
+        return show_found(by_events, Some(end), work2, path);
     }
-    let m = steps_or(end, 0);
+    let m = end.steps();
     // where there is no room for the path, its links are not needed
     if path.len() < 2 * (m as usize) + 1 {
-        return Showing::NoRoom(m);
+        return Err(NoRoom { steps: m });
     }
     // the search for order has overwritten them
-    undo(work1, work2, events.visited);
-    let again = search(policy, plan, by_events, m, work1, work2).found;
-    show_found(policy, plan, by_events, again, work2, path)
+    undo(work1, work2, visited);
+    let again = search(by_events, m, work1, work2).found;
+    show_found(by_events, again, work2, path)
 }
 
 // Shows a path of what is found.
 pub fn show_by(
-    policy: &[u8],
-    plan: &[u32],
-    counts: Counts,
-    legs: Legs,
+    query: Query,
     found: GoalSought,
     work1: &mut [u32],
     work2: &mut [u32],
     path: &mut [u32],
-) -> Showing
-    requires { Searchable policy.now plan.now counts legs (length work1.old) (length work2.old) × GoalFound policy.now plan.now counts legs work2.old found.finding × Visited work1.old work2.old found.visited }
-    ensures { GoalShown (plan_model policy.now plan.now counts legs) found.finding path.old path.new result }
+) -> Result<Option<u32>, NoRoom>
+    requires { Searchable query.policy.now query.plan.now query.task.counts query.task.legs (length work1.old) (length work2.old) × GoalFound query.policy.now query.plan.now query.task.counts query.task.legs work2.old found.breach × Visited work1.old work2.old found.visited }
+    ensures { GoalShown (plan_model query.entry.policy.now query.entry.plan.now query.entry.task.counts query.entry.task.legs) found.breach path.old path.new result }
 {
-    let finding = found.finding;
-    match finding {
-        Finding::Nothing => Showing::Nothing,
-        Finding::Order(end) => {
-            let by_order = Task {
-                counts: counts,
-                legs: legs,
-                mode: Mode::Order,
-            };
-            show_found(policy, plan, by_order, end, work2, path)
+    let Some(breach) = found.breach else {
+        return Ok(None);
+    };
+    match breach {
+        Breach::Order(end) => {
+            let by_order = query.with_mode(Mode::Order);
+            show_found(by_order, Some(end), work2, path)
         }
-        Finding::Events(end) => {
-            let events = Sought {
-                found: end,
-                visited: found.visited,
-            };
-            show_events(policy, plan, counts, legs, events, work1, work2, path)
-        }
+        Breach::Events(end) => show_events(query, end, found.visited, work1, work2, path),
     }
 }

@@ -42,11 +42,11 @@ module _ (f : ℕ → Bool) where
     gathered_more {yes} e q j = q j ∙ ap₂ ◌||◌ (w j) (and_comm yes (eqb h j) ∙ ap (λ (t : Bool). eqb h j && t) e) ∙ sym (more j)
 
     -- as the code writes it, `1 << h`
-    pub gathered_join : h < 32 → f h ≡ true → m' ≡ bit_or m (1 * 2 ^ h % 2 ^ 32) → Gathered f (h + 1) m'
-    gathered_join b e q = gathered_more {yes = true} (sym e) (λ j. ap (λ (x : ℕ). bit x j) q ∙ (with_law m h b).at j)
+    pub gathered_join : h < 32 → {yes : Bool} → yes ≡ f h → yes ≡ true → m' ≡ bit_or m (1 * 2 ^ h % 2 ^ 32) → Gathered f (h + 1) m'
+    gathered_join b e y q = gathered_more {yes = true} (sym y ∙ e) (λ j. ap (λ (x : ℕ). bit x j) q ∙ (with_law m h b).at j)
 
-    pub gathered_pass : f h ≡ false → m' ≡ m → Gathered f (h + 1) m'
-    gathered_pass e q = gathered_more {yes = false} (sym e) (λ j. ap (λ (x : ℕ). bit x j) q ∙ sym (or_none (bit m j) false refl))
+    pub gathered_pass : {yes : Bool} → yes ≡ f h → yes ≡ false → m' ≡ m → Gathered f (h + 1) m'
+    gathered_pass e y q = gathered_more {yes = false} (sym y ∙ e) (λ j. ap (λ (x : ℕ). bit x j) q ∙ sym (or_none (bit m j) false refl))
 
   -- all chains asked
   pub gathered_end : (h m : ℕ) → 15 ≤ h → Gathered f h m → ((j : ℕ) → f j ≡ true → j < 15) → (j : ℕ) → bit m j ≡ f j

@@ -4,6 +4,7 @@ pub mod Pass
 pub mod SortLaws
 pub mod Along
 pub mod SetLaws
+pub mod Searches
 pub mod Gather
 pub mod UnionLaws
 pub mod AnswerLaws

@@ -1,17 +1,21 @@
 -- The pass over the records that answers question 9, with a cursor on each of the fifteen chains: record i is met by exactly one cursor,
 -- which then goes on.
 use Prim.Native.Nat.{ℕ, ◌+◌, ◌≤◌, ◌<◌}
-use mathlib.Core.Path.{◌≡◌, sym}
+use mathlib.Core.Path.{◌≡◌, refl, sym}
 use mathlib.Core.Logic.{⊎_elim}
+use mathlib.Core.Bool.{true, false}
+use Rattle.std.specs.Prelude.{Option, None, Some}
+use Rattle.std.specs.Option.{is_some}
 use native.Mathlib.Nat.{eq-or-lt_of_le}
 use native.Mathlib.Omega.{arith}
 use Rattle.base.specs.Chain.{OnChain}
 use Rattle.base.proofs.Numbers.{split_le}
+use Rattle.base.proofs.BoolLaws.{clash}
 use Rattle.chains.specs.Inner.Links.{LinksRising}
 use Rattle.chains.proofs.Pass as pass
 use Rattle.goal_image.specs.Goal.{Goal, goal_links}
 use Rattle.goal_image.specs.Questions.{OneChainEach}
-use Rattle.goal_image.specs.Inner.Reading.{First}
+use Rattle.goal_image.specs.Inner.Reading.{IsFirst, First}
 
 -- chain h alone holds record j
 abbrev Alone : Goal → ℕ → ℕ → Type 0
@@ -59,12 +63,21 @@ module _ (g : Goal) (L : LinksRising (goal_links g) 0 15) where
       }
 
 -- where the first cursor at i is that of κ, and no later one stands there, κ alone stands there
-pub only_one : (cur : ℕ → ℕ) (i κ r : ℕ) → First cur 0 i κ → First cur (κ + 1) i r → 15 ≤ r → (h : ℕ) → h < 15 → cur h ≡ i → h ≡ κ
-only_one cur i κ r f s none h b e =
+pub only_one : (cur : ℕ → ℕ) (i κ : ℕ) → IsFirst cur 0 i κ → First cur (κ + 1) i None → (h : ℕ) → h < 15 → cur h ≡ i → h ≡ κ
+only_one cur i κ f none h b e =
     ⊎_elim
     (λ a. ⊎_elim (λ q. q) (λ q. absurd (f.none h (omega arith) q e)) (eq-or-lt_of_le a))
-    (λ a. absurd (s.none h (omega arith) (omega arith) e))
+    (λ a. absurd (none h (omega arith) b e))
     (split_le h κ)
+
+-- what is sought is none, or is there
+pub none_there : (cur : ℕ → ℕ) (h i : ℕ) (r : Option ℕ) → First cur h i r → false ≡ is_some r → First cur h i None
+none_there cur h i None f e = f
+none_there cur h i (Some k) f e = absurd (clash e refl)
+
+pub one_there : (cur : ℕ → ℕ) (h i : ℕ) (r : Option ℕ) → First cur h i r → true ≡ is_some r → (k : ℕ) × IsFirst cur h i k
+one_there cur h i None f e = absurd (clash refl e)
+one_there cur h i (Some k) f e = (k, f)
 
 pub links_part : (g : Goal) → OneChainEach g → LinksRising (goal_links g) 0 15
 links_part g o = record { heads = λ h a b. o.heads h b; nexts = o.nexts }

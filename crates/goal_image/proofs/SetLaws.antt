@@ -9,16 +9,14 @@ use borrow.Author.Tests.{eq-eqb}
 use Rattle.base.specs.Bits.{bit}
 use Rattle.base.specs.Chain.{Linked, Rises, Meets, OnChain}
 use Rattle.base.specs.Chain.Meets.{here, later}
-use Rattle.base.proofs.ChainLaws.{meets_zero, meets_step}
+use Rattle.base.proofs.ChainLaws.{meets_zero, meets_step, meets_low, meets_range}
 use Rattle.base.proofs.BoolLaws.{or_true, or_left, or_cases, and_true, true_or_false, clash}
 use Rattle.context.specs.declared.Context.{Context}
 use Rattle.context.specs.declared.Event.{Event}
-use Rattle.goal_image.specs.declared.sets.Asked.{Asked}
-use Rattle.goal_image.specs.declared.sets.Asked.TheVariants as asked
 use Rattle.goal_image.specs.Goal.{Goal, goal_links}
 use Rattle.goal_image.specs.Questions.{OneChainEach}
 use Rattle.goal_image.specs.Sets.{fits, matches_context, matches_event, along, context_in, event_in}
-use Rattle.goal_image.specs.Inner.Memberships.{matches_asked, on_chain, asked_in}
+use Rattle.goal_image.specs.Inner.Memberships.{some_on, on_chain, Tests}
 
 -- ---- following the links from record k on
 module _ (l : Linked) (f : ℕ → Bool) where
@@ -73,17 +71,23 @@ module _ (g : Goal) (O : OneChainEach g) (h : ℕ) (low : h < 15) where
   pub empty_chain : g.head h ≡ 0 → (f : ℕ → Bool) → along (goal_links g) f g.size (g.head h) ≡ false
   empty_chain z f = chain_none f (λ i r. absurd (meets_zero (goal_links g) r z))
 
-  -- what is asked is in the set exactly when some record of the chain matches it
-  pub set_iff : (a : Asked) → Iff (asked_in g h a ≡ true) (Some g (matches_asked g a) h)
-  unfolding context_in on_chain
-  set_iff (asked.Context x) = chain_iff (λ i. matches_context (g.context i) x)
-  set_iff (asked.Record k) = chain_iff (λ i. eqb i k)
+  -- a context is in the set exactly when some record of the chain matches it, and record k is on the chain when it is met
+  pub context_iff : (x : Context) → Iff (context_in g h x ≡ true) (Some g (λ i. matches_context (g.context i) x) h)
+  unfolding context_in
+  context_iff x = chain_iff (λ i. matches_context (g.context i) x)
 
-  -- and is not, exactly when none does
-  pub set_none : (a : Asked) → ((i : ℕ) → OnChain (goal_links g) h i → matches_asked g a i ≡ false) → asked_in g h a ≡ false
-  unfolding context_in on_chain
-  set_none (asked.Context x) = chain_none (λ i. matches_context (g.context i) x)
-  set_none (asked.Record k) = chain_none (λ i. eqb i k)
+  pub record_iff : (k : ℕ) → Iff (on_chain g k h ≡ true) (Some g (λ i. eqb i k) h)
+  unfolding on_chain
+  record_iff k = chain_iff (λ i. eqb i k)
+
+  -- and is not, where none does
+  pub context_none : (x : Context) → ((i : ℕ) → OnChain (goal_links g) h i → matches_context (g.context i) x ≡ false) → context_in g h x ≡ false
+  unfolding context_in
+  context_none x = chain_none (λ i. matches_context (g.context i) x)
+
+  pub record_none : (k : ℕ) → ((i : ℕ) → OnChain (goal_links g) h i → eqb i k ≡ false) → on_chain g k h ≡ false
+  unfolding on_chain
+  record_none k = chain_none (λ i. eqb i k)
 
   -- so for an event
   pub event_iff : (e : Event) → Iff (event_in g h e ≡ true) (Some g (λ i. matches_event (g.event i) e) h)
@@ -94,7 +98,7 @@ module _ (g : Goal) (O : OneChainEach g) (h : ℕ) (low : h < 15) where
   pub any_context_lem : (i : ℕ) → OnChain (goal_links g) h i → (g.context i).ty ≡ 0 → (g.context i).role ≡ 0 → (g.context i).user ≡ 0 → (x : Context)
       → context_in g h x ≡ true
   any_context_lem i r a b c x =
-      (set_iff (asked.Context x)).1 (
+      (context_iff x).1 (
         i,
         r,
         and_true (fits (g.context i).ty x.ty) (fits (g.context i).role x.role && fits (g.context i).user x.user) (any_field _ _ a)
@@ -105,3 +109,14 @@ module _ (g : Goal) (O : OneChainEach g) (h : ℕ) (low : h < 15) where
   pub any_class_lem : (i : ℕ) → OnChain (goal_links g) h i → (g.event i).class ≡ 0 → (e : Event) → bit (g.event i).mask e.perm ≡ true → event_in g h e ≡ true
   any_class_lem i r a e b =
       (event_iff e).1 (i, r, and_true (fits (g.event i).class e.class) (bit (g.event i).mask e.perm) (any_field _ _ a) b)
+
+-- ---- the set of chain h, where the answers of a closure are those of the test t
+module _ {g : Goal} (O : OneChainEach g) {h : ℕ} (low : h < 15) {says : ℕ → Bool → Type 0} {t : ℕ → Bool} (T : Tests g says t) where
+  told : {i : ℕ} {b : Bool} → OnChain (goal_links g) h i → says i b → t i ≡ b
+  told {i} {b} on s = sym (T i (meets_low (goal_links g) on) (meets_range (goal_links g) O.nexts (O.heads h low) on).1 b s)
+
+  pub one_passes : {i : ℕ} → OnChain (goal_links g) h i → says i true → some_on g t h ≡ true
+  one_passes {i} on s = (chain_iff g O h low t).1 (i, on, told on s)
+
+  pub none_passes : ((i : ℕ) → OnChain (goal_links g) h i → says i false) → some_on g t h ≡ false
+  none_passes n = chain_none g O h low t (λ i on. told on (n i on))

@@ -5,6 +5,7 @@ use mathlib.Core.Path.{◌≡◌, refl, sym, ap, subst}
 use mathlib.Core.List.{List}
 use mathlib.Core.Bool.{Bool, true, false, not, ◌&&◌, ◌||◌, cond}
 use mathlib.Core.Logic.{inl, inr, ⊎_elim}
+use Rattle.std.specs.Prelude.{Option, None, Some}
 use native.Mathlib.Nat.{eq-or-lt_of_le}
 use native.Mathlib.Omega.{arith}
 use borrow.Author.Tests.{eqb-true, eqb-false, not-true}
@@ -24,7 +25,7 @@ use Rattle.goal_image.specs.declared.records.EventRecord.{EventRecord}
 use Rattle.goal_image.specs.Layout.{GoalExact, goal_count}
 use Rattle.goal_image.specs.Goal.{Goal, goal_of, goal_links, σChain, γChain, is_context_chain}
 use Rattle.goal_image.specs.Questions.{LegsInRange, OneChainEach, ContextFits, EventFits, FieldsFit, goal_questions}
-use Rattle.goal_image.specs.Inner.Reading.{First, RecordFits}
+use Rattle.goal_image.specs.Inner.Reading.{IsFirst, First, RecordFits}
 use Rattle.goal_image.specs.Sets.{along}
 use Rattle.goal_image.proofs.LegLaws.{flags_yes, flags_no}
 use Rattle.goal_image.proofs.Pass.{Pass, pass_start, pass_none, pass_two, pass_step, pass_end, only_one, links_part}
@@ -111,83 +112,62 @@ dec_links l =
     both dec_all (λ i. dec_eq (l.next i) 0 or (dec_le (suc i) (l.next i) both dec_le (l.next i) l.size)) l.size)
 
 -- the first of n chains from k on whose cursor stands at i
-abbrev pub seek : (ℕ → ℕ) → ℕ → ℕ → ℕ → ℕ
-seek cur i zero k = k
-seek cur i (suc n) k = cond (eqb (cur k) i) k (seek cur i n (k + 1))
+abbrev pub seek : (ℕ → ℕ) → ℕ → ℕ → ℕ → Option ℕ
+seek cur i zero k = None
+seek cur i (suc n) k = cond (eqb (cur k) i) (Some k) (seek cur i n (k + 1))
 
 seek_first : (cur : ℕ → ℕ) (i n k : ℕ) → k + n ≡ 15 → First cur k i (seek cur i n k)
-seek_first cur i zero k e =
-    record {
-      low = omega arith;
-      high = omega arith;
-      at = λ b. let z : ⊥ = omega arith in absurd z;
-      none = λ j a b. let z : ⊥ = omega arith in absurd z;
-    }
-seek_first cur i (suc n) k e = go (eqb (cur k) i) refl (seek_first cur i n (k + 1) (omega arith))
+seek_first cur i zero k e = λ j a b. let z : ⊥ = omega arith in absurd z
+seek_first cur i (suc n) k e = go (eqb (cur k) i) refl (seek cur i n (k + 1)) (seek_first cur i n (k + 1) (omega arith))
   where
-    go : (t : Bool) → eqb (cur k) i ≡ t → First cur (k + 1) i (seek cur i n (k + 1)) → First cur k i (cond t k (seek cur i n (k + 1)))
-    go true q f =
-        record {
-          low = omega arith;
-          high = omega arith;
-          at = λ b. eqb-true (cur k) i q;
-          none = λ j a b. let z : ⊥ = omega arith in absurd z;
-        }
-    go false q f =
-        record {
-          low = let l = f.low in omega arith;
-          high = f.high;
-          at = f.at;
-          none = λ j a b. ⊎_elim (λ x. subst (λ (y : ℕ). cur y ≡ i → ⊥) x (eqb-false (cur k) i q)) (λ x. f.none j (omega arith) b) (eq-or-lt_of_le a);
-        }
+    later : (P : ℕ → Type 0) → eqb (cur k) i ≡ false → ((j : ℕ) → k + 1 ≤ j → P j → cur j ≡ i → ⊥) → (j : ℕ) → k ≤ j → P j → cur j ≡ i → ⊥
+    later P q f j a b = ⊎_elim (λ x. subst (λ (y : ℕ). cur y ≡ i → ⊥) x (eqb-false (cur k) i q)) (λ x. f j (omega arith) b) (eq-or-lt_of_le a)
 
-abbrev pub first : (ℕ → ℕ) → ℕ → ℕ
-first cur i = seek cur i 15 0
+    go : (t : Bool) → eqb (cur k) i ≡ t → (r : Option ℕ) → First cur (k + 1) i r → First cur k i (cond t (Some k) r)
+    go true q r f =
+        record { low = omega arith; high = omega arith; at = eqb-true (cur k) i q; none = λ j a b. let z : ⊥ = omega arith in absurd z }
+    go false q None f = later (λ j. j < 15) q f
+    go false q (Some h) f =
+        record { low = let l = f.low in omega arith; high = f.high; at = f.at; none = later (λ j. j < h) q f.none }
 
-abbrev pub second : (ℕ → ℕ) → ℕ → ℕ
-second cur i = seek cur i (14 - first cur i) (first cur i + 1)
+-- one cursor stands at record i, that of chain h, and moves on
+abbrev pub none_b : Option ℕ → Bool
+none_b None = true
+none_b (Some h) = false
+
+abbrev pub some_b : Option ℕ → (ℕ → Bool) → Bool
+some_b None f = false
+some_b (Some h) f = f h
 
 abbrev pub pass_b : Linked → ℕ → ℕ → (ℕ → ℕ) → Bool
 pass_b l zero i cur = true
-pass_b l (suc m) i cur = (leb (suc (first cur i)) 15 && leb 15 (second cur i)) && pass_b l m (i + 1) (moved cur (first cur i) (l.next i))
+pass_b l (suc m) i cur = some_b (seek cur i 15 0) (λ h. none_b (seek cur i (14 - h) (h + 1)) && pass_b l m (i + 1) (moved cur h (l.next i)))
 
 dec_pass : (g : Goal) → LinksRising (goal_links g) 0 15 → (m i : ℕ) (cur : ℕ → ℕ) → 1 ≤ i → i + m ≡ g.size + 1 → Pass g i cur → Says (pass_b (goal_links g) m i cur) (OneChainEach g)
 dec_pass g L zero i cur low e w =
     let z : i ≡ g.size + 1 = omega arith in
     record { it = pass_end g L cur (subst (λ (j : ℕ). Pass g j cur) z w) }
 dec_pass g L (suc m) i cur low e w =
-    says_iff (λ x. x.1) (λ O. (here O, O)) (next_says test (λ t. dec_pass g L m (i + 1) (moved cur κ (g.next i)) (omega arith) (omega arith) (step t)))
+    one (λ h. dec_pass g L m (i + 1) (moved cur h (g.next i)) (omega arith) (omega arith)) (seek cur i 15 0) (seek_first cur i 15 0 refl)
   where
-    κ : ℕ
-    κ = first cur i
-
     high : i ≤ g.size
     high = omega arith
 
-    f : First cur 0 i κ
-    f = seek_first cur i 15 0 refl
+    rest : ℕ → Bool
+    rest h = pass_b (goal_links g) m (i + 1) (moved cur h (g.next i))
 
-    s : κ < 15 → First cur (κ + 1) i (second cur i)
-    s b = seek_first cur i (14 - κ) (κ + 1) (omega arith)
+    Rest : Type 0
+    Rest = (h : ℕ) → Pass g (i + 1) (moved cur h (g.next i)) → Says (rest h) (OneChainEach g)
 
-    test : Says (leb (suc κ) 15 && leb 15 (second cur i)) ((κ < 15) × (15 ≤ second cur i))
-    test = dec_le (suc κ) 15 both dec_le 15 (second cur i)
+    alone : Rest → (h : ℕ) → IsFirst cur 0 i h → (r : Option ℕ) → First cur (h + 1) i r → Says (none_b r && rest h) (OneChainEach g)
+    alone go h f None s =
+        go h (pass_step g L i cur w low high h f.high f.at (only_one cur i h f s) (moved cur h (g.next i)) (moved_at cur h (g.next i))
+        (λ k n. moved_off cur h (g.next i) k n))
+    alone go h f (Some k) s = record { it = pass_two g L i cur w low high h k f.high s.high (let a = s.low in λ q. omega arith) f.at s.at }
 
-    here : OneChainEach g → (κ < 15) × (15 ≤ second cur i)
-    here O =
-        ⊎_elim
-        (λ b. (
-          b,
-          ⊎_elim (λ c. c) (λ c. absurd (pass_two g L i cur w low high κ (second cur i) b c (let a = (s b).low in λ q. omega arith) (f.at b) ((s b).at c) O))
-              (split_le 15 (second cur i)),
-        ))
-        (λ b. absurd (pass_none g L i cur w low high (λ h c q. f.none h (omega arith) (omega arith) q) O))
-        (split_le (suc κ) 15)
-
-    step : (κ < 15) × (15 ≤ second cur i) → Pass g (i + 1) (moved cur κ (g.next i))
-    step t =
-        pass_step g L i cur w low high κ t.0 (f.at t.0) (only_one cur i κ (second cur i) f (s t.0) t.1) (moved cur κ (g.next i))
-        (moved_at cur κ (g.next i)) (λ h n. moved_off cur κ (g.next i) h n)
+    one : Rest → (r : Option ℕ) → First cur 0 i r → Says (some_b r (λ h. none_b (seek cur i (14 - h) (h + 1)) && rest h)) (OneChainEach g)
+    one go None f = record { it = pass_none g L i cur w low high (λ h b. f h (omega arith) b) }
+    one go (Some h) f = alone go h f (seek cur i (14 - h) (h + 1)) (seek_first cur i (14 - h) (h + 1) (let b = f.high in omega arith))
 
 abbrev pub ones_b : Goal → Bool
 ones_b g = links_b (goal_links g) && pass_b (goal_links g) g.size 1 g.head

@@ -3,3 +3,4 @@ pub mod Reading
 pub mod Sound
 pub mod Answer
 pub mod Memberships
+pub mod Walking

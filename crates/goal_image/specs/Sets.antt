@@ -20,7 +20,7 @@ abbrev pub matches_event : EventRecord → Event → Bool
 matches_event r e = fits r.class e.class && bit r.mask e.perm
 
 -- whether some record passes the test, following the links from record k on, by at most so many steps. A chain of an accepted
--- goal has at most M records: the law `set_iff` of proofs/SetLaws.antt says that the steps are enough
+-- goal has at most M records: the law `chain_iff` of proofs/SetLaws.antt says that the steps are enough
 abbrev pub along : Linked → (ℕ → Bool) → ℕ → ℕ → Bool
 along l f zero k = false
 along l f (suc steps) zero = false

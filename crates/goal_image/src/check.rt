@@ -10,8 +10,9 @@ ghost use Rattle.goal_image.specs.Inner.Answer.{GoalAnswer};
 use crate::fields::fields_fit;
 use crate::links::one_chain_each;
 use crate::records::{HEADER, RECORD, head_at};
-use base::bytes::{u16_at, wide};
+use base::bytes::u16_at;
 use base::ranges::within;
+use base::refusals::Refusal;
 use policy_image::counts::Counts;
 
 // The legs of a goal: how many, and which of them are repeated (bit i for leg i).
@@ -21,14 +22,8 @@ pub struct Legs {
     pub repeated: u32,
 }
 
-// The answer of a check of a goal image: accepted with its legs, or refused with a question's number.
-#[derive(Clone, Copy)]
-pub enum CheckedGoal {
-    Accepted(Legs),
-    Refused(u32),
-}
-
 // Question 7.
+#[tactic(auto, unfolding(crate::specs::Layout::goal_count))]
 fn is_exact(goal: &[u8]) -> bool
     ensures { Decides result (GoalExact goal.now) }
 {
@@ -36,13 +31,7 @@ fn is_exact(goal: &[u8]) -> bool
         return false;
     }
     let m = u16_at(goal, 2) as usize;
-    if 255 < m {
-        return false;
-    }
-    if goal.len() != HEADER + RECORD * m {
-        return false;
-    }
-    true
+    m <= 255 && goal.len() == HEADER + RECORD * m
 }
 
 // The legs, as they stand in the bytes.
@@ -51,8 +40,8 @@ fn legs_at(goal: &[u8]) -> Legs
     ensures { Opened goal.now result }
 {
     Legs {
-        count: wide(goal[0]),
-        repeated: wide(goal[1]),
+        count: u32::from(goal[0]),
+        repeated: u32::from(goal[1]),
     }
 }
 
@@ -61,14 +50,7 @@ fn heads_are_zero(goal: &[u8], a: usize, b: usize) -> bool
     requires { GoalExact goal.now × (b ≤ chain_count) }
     ensures { Decides result ((h : ℕ) → a ≤ h → h < b → goal_head goal.now h ≡ 0) }
 {
-    let mut h = a;
-    while h < b {
-        if head_at(goal, h) != 0 {
-            return false;
-        }
-        h += 1;
-    }
-    true
+    (a..b).all(|h| head_at(goal, h) == 0)
 }
 
 // Question 8.
@@ -77,35 +59,28 @@ fn legs_in_range(goal: &[u8], legs: Legs) -> bool
     ensures { Decides result (LegsInRange (goal_of goal.now)) }
 {
     let n = legs.count;
-    if !within(1, 6, n) {
-        return false;
-    }
-    if legs.repeated >> n != 0 {
-        return false;
-    }
-    let first = n as usize;
-    if !heads_are_zero(goal, first + 1, 7) {
-        return false;
-    }
-    heads_are_zero(goal, first + 7, 13)
+    within(1, 6, n)
+        && legs.repeated >> n == 0
+        && heads_are_zero(goal, n as usize + 1, 7)
+        && heads_are_zero(goal, n as usize + 7, 13)
 }
 
-// Accepted with the goal's legs, or refused with the number of the first question whose answer is no.
-pub fn check(goal: &[u8], counts: Counts) -> CheckedGoal
+// The goal's legs, or the refusal of the first question whose answer is no.
+pub fn check(goal: &[u8], counts: Counts) -> Result<Legs, Refusal>
     ensures { GoalAnswer counts goal.now result }
 {
     if !is_exact(goal) {
-        return CheckedGoal::Refused(7);
+        return Err(Refusal::GoalLength);
     }
     let legs = legs_at(goal);
     if !legs_in_range(goal, legs) {
-        return CheckedGoal::Refused(8);
+        return Err(Refusal::GoalLegs);
     }
     if !one_chain_each(goal) {
-        return CheckedGoal::Refused(9);
+        return Err(Refusal::GoalChains);
     }
     if !fields_fit(goal, counts) {
-        return CheckedGoal::Refused(10);
+        return Err(Refusal::GoalFields);
     }
-    CheckedGoal::Accepted(legs)
+    Ok(legs)
 }

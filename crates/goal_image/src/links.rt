@@ -10,40 +10,30 @@ ghost use Rattle.goal_image.specs.Inner.Reading.{chain_count, First};
 use crate::records::{CHAINS, goal_shape, next_at, record_count};
 use chains::MOST_CHAINS;
 
-// The first chain from h on whose cursor stands at record i, CHAINS where there is none.
-fn first_at(cursor: [usize; MOST_CHAINS], h: usize, i: usize) -> usize
+// The first chain from h on whose cursor stands at record i.
+fn first_at(cursor: [usize; MOST_CHAINS], h: usize, i: usize) -> Option<usize>
     requires { h ≤ chain_count }
     ensures { First (λ k. get_or cursor k 0) h i result }
 {
-    let mut k = h;
-    while k < CHAINS {
-        if cursor[k] == i {
-            return k;
-        }
-        k += 1;
-    }
-    CHAINS
+    (h..CHAINS).find(|k| cursor[*k] == i)
 }
 
-// Question 9, where the links rise: whether each record lies on exactly one chain, by one pass, in which a cursor for each chain stands
-// at the chain's next record.
+// Question 9, where the links rise: whether each record lies on exactly one chain, by one pass, in which a cursor for
+// each chain stands at the chain's next record.
 fn each_on_one(goal: &[u8]) -> bool
     requires { GoalExact goal.now × LinksRising (goal_links (goal_of goal.now)) 0 chain_count }
     ensures { Decides result (OneChainEach (goal_of goal.now)) }
 {
     let m = record_count(goal);
     let mut cursor = chains::heads(goal, goal_shape(goal));
-    let mut i = 1;
-    while i <= m {
-        let h = first_at(cursor, 0, i);
-        if CHAINS <= h {
+    for i in 1..=m {
+        let Some(h) = first_at(cursor, 0, i) else {
             return false;
-        }
-        if first_at(cursor, h + 1, i) < CHAINS {
+        };
+        if first_at(cursor, h + 1, i).is_some() {
             return false;
         }
         cursor[h] = next_at(goal, i);
-        i += 1;
     }
     true
 }
@@ -53,8 +43,5 @@ pub fn one_chain_each(goal: &[u8]) -> bool
     requires { GoalExact goal.now }
     ensures { Decides result (OneChainEach (goal_of goal.now)) }
 {
-    if !chains::links_rise(goal, goal_shape(goal)) {
-        return false;
-    }
-    each_on_one(goal)
+    chains::links_rise(goal, goal_shape(goal)) && each_on_one(goal)
 }

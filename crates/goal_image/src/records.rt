@@ -5,7 +5,7 @@ ghost use Rattle.goal_image.specs.Layout.{GoalExact, goal_count, goal_head, next
 ghost use Rattle.goal_image.specs.Goal.{goal_of, goal_links};
 ghost use Rattle.goal_image.specs.Inner.Reading.{chain_count};
 
-use base::bytes::{u16_at, u32_at, wide};
+use base::bytes::{u16_at, u32_at};
 use chains::Shape;
 
 // How many chains a goal has: σ0 to σ6, γ0 to γ5, σe, γe.
@@ -79,10 +79,10 @@ pub fn context_at(goal: &[u8], k: usize) -> ContextRecord
 {
     let at = HEADER + RECORD * (k - 1);
     ContextRecord {
-        ty: wide(goal[at + 2]),
-        role: wide(goal[at + 3]),
-        user: wide(goal[at + 4]),
-        spare: wide(goal[at + 5]) + 256 * u16_at(goal, at + 6),
+        ty: u32::from(goal[at + 2]),
+        role: u32::from(goal[at + 3]),
+        user: u32::from(goal[at + 4]),
+        spare: u32::from(goal[at + 5]) + 256 * u16_at(goal, at + 6),
     }
 }
 
@@ -93,8 +93,8 @@ pub fn event_at(goal: &[u8], k: usize) -> EventRecord
 {
     let at = HEADER + RECORD * (k - 1);
     EventRecord {
-        class: wide(goal[at + 2]),
-        spare: wide(goal[at + 3]),
+        class: u32::from(goal[at + 2]),
+        spare: u32::from(goal[at + 3]),
         mask: u32_at(goal, at + 4),
     }
 }

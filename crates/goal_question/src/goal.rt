@@ -3,24 +3,26 @@ ghost use Rattle.std.specs.Prelude.{◌≡◌, ◌*◌, ◌^◌, ◌≤◌, ◌<
 ghost use Rattle.base.specs.Inner.Decides.{Decides};
 ghost use Rattle.context.specs.Inner.Places.{Countable, context_count};
 ghost use Rattle.search_graph.specs.Inner.Tasks.{state_count};
-ghost use Rattle.goal_question.specs.Inner.Parts.{Passed, goal_refusal_of, path_outcome, outcome_of};
+ghost use Rattle.goal_question.specs.Inner.Parts.{Passed, outcome_of};
 ghost use Rattle.goal_question.specs.GoalQuestion.{GoalPromise, outcome_number};
 
+use base::refusals::Refusal;
 use context::Context;
-use goal_answer::find::{Finding, find_by};
+use goal_answer::find::{Breach, find_by};
 use goal_answer::show::show_by;
-use goal_image::check::{CheckedGoal, Legs, check as check_goal};
+use goal_image::check::{Legs, check as check_goal};
 use plan::goal::put_goal;
 use plan::make::make_plan;
 use plan::regions::{ENTRIES, RECORD_WORDS};
 use plan::rules::put_rules;
 use plan_index::extract::ALL_BITS;
-use policy_check::{check, refusal};
-use policy_image::counts::{Checked, Counts};
+use policy_check::check;
+use policy_image::counts::Counts;
 use search::levels::UNBOUNDED;
-use search_graph::task::state_count;
+use search_graph::monitor::Mode;
+use search_graph::task::{Query, Task, state_count};
 use search_graph::visits::clear;
-use witness::path::Showing;
+use witness::unanswered::Unanswered;
 
 // The answer to the goal question: m is a number of steps.
 #[derive(Clone, Copy)]
@@ -31,20 +33,6 @@ pub enum Outcome {
     Order(u32),
     // a shortest path that breaks the goal has m steps, and none of m steps breaks order
     Events(u32),
-    // the number of the question whose answer is no, 12 aside
-    Refused(u32),
-    // 12: the path slice is too short for the m steps of a shortest path that breaks the goal
-    NoRoom(u32),
-}
-
-// The number of a goal's refusal, or 0.
-fn goal_refusal(checked: CheckedGoal) -> u32
-    ensures { result ≡ goal_refusal_of checked }
-{
-    match checked {
-        CheckedGoal::Accepted(_) => 0,
-        CheckedGoal::Refused(k) => k,
-    }
 }
 
 // Question 11 of one work slice.
@@ -56,25 +44,14 @@ fn work_fits(counts: Counts, legs: u32, entries: usize) -> bool
     nodes as usize <= entries
 }
 
-// The outcome where a path of m steps is shown of what is found.
-fn path_outcome(found: Finding, m: u32) -> Outcome
-    ensures { result ≡ path_outcome found m }
+// The answer, by what breaks the goal and the number of steps of the path that is shown.
+fn outcome_of(breach: Option<Breach>, shown: Option<u32>) -> Outcome
+    ensures { result ≡ outcome_of breach shown }
 {
-    match found {
-        Finding::Nothing => Outcome::Holds,
-        Finding::Order(_) => Outcome::Order(m),
-        Finding::Events(_) => Outcome::Events(m),
-    }
-}
-
-// The outcome, by what is found and what is shown of it.
-fn outcome_of(found: Finding, showing: Showing) -> Outcome
-    ensures { result ≡ outcome_of found showing }
-{
-    match showing {
-        Showing::Nothing => Outcome::Holds,
-        Showing::NoRoom(m) => Outcome::NoRoom(m),
-        Showing::Path(m) => path_outcome(found, m),
+    match (breach, shown) {
+        (Some(Breach::Order(_)), Some(m)) => Outcome::Order(m),
+        (Some(Breach::Events(_)), Some(m)) => Outcome::Events(m),
+        _ => Outcome::Holds,
     }
 }
 
@@ -87,7 +64,7 @@ fn answer(
     work1: &mut [u32],
     work2: &mut [u32],
     path: &mut [u32],
-) -> Outcome
+) -> Result<Outcome, Unanswered>
     requires { Passed policy.now goal.now counts legs (length work1.old) (length work2.old) }
     ensures { GoalPromise policy.now goal.now (length work1.old) (length work2.old) path.old path.new result }
 {
@@ -96,15 +73,21 @@ fn answer(
     put_goal(goal, counts, &mut plan);
     let all = [ALL_BITS; RECORD_WORDS];
     put_rules(policy, counts, &all, &mut plan);
+    let query = Query {
+        policy,
+        plan: &plan,
+        task: Task {
+            counts,
+            legs,
+            mode: Mode::Events,
+        },
+    };
     let nodes = (Context::count(counts) * state_count(legs.count)) as usize;
     let back = &mut work2[..nodes];
     clear(back);
-    let found = find_by(policy, &plan, counts, legs, UNBOUNDED, work1, back);
-    let finding = found.finding;
-    outcome_of(
-        finding,
-        show_by(policy, &plan, counts, legs, found, work1, back, path),
-    )
+    let found = find_by(query, UNBOUNDED, work1, back);
+    let shown = show_by(query, found, work1, back, path)?;
+    Ok(outcome_of(found.breach, shown))
 }
 
 // Does the goal hold of the policy? The work slices are overwritten; of the path slice, just the entries of the path that is shown.
@@ -114,35 +97,25 @@ pub fn goal_question(
     work1: &mut [u32],
     work2: &mut [u32],
     path: &mut [u32],
-) -> Outcome
+) -> Result<Outcome, Unanswered>
     ensures { GoalPromise policy.now goal.now (length work1.old) (length work2.old) path.old path.new result }
 {
-    let checked = check(policy);
-    let Checked::Accepted(counts) = checked else {
-        return Outcome::Refused(refusal(checked));
-    };
-    let checked_goal = check_goal(goal, counts);
-    let CheckedGoal::Accepted(legs) = checked_goal else {
-        return Outcome::Refused(goal_refusal(checked_goal));
-    };
-    if !work_fits(counts, legs.count, work1.len()) {
-        return Outcome::Refused(11);
-    }
-    if !work_fits(counts, legs.count, work2.len()) {
-        return Outcome::Refused(11);
+    let counts = check(policy)?;
+    let legs = check_goal(goal, counts)?;
+    if !work_fits(counts, legs.count, work1.len()) || !work_fits(counts, legs.count, work2.len()) {
+        return Err(Unanswered::Refused(Refusal::WorkSlices));
     }
     answer(policy, goal, counts, legs, work1, work2, path)
 }
 
-// The number that C gets for an answer.
-pub fn number(outcome: Outcome) -> u64
+// The number that C gets for an outcome.
+pub fn number(outcome: Result<Outcome, Unanswered>) -> u64
     ensures { result ≡ outcome_number outcome }
 {
     match outcome {
-        Outcome::Holds => 0,
-        Outcome::Order(m) => 256 * (m as u64) + 1,
-        Outcome::Events(m) => 256 * (m as u64) + 2,
-        Outcome::Refused(k) => 4 * (k as u64) + 3,
-        Outcome::NoRoom(m) => 256 * (m as u64) + 4 * 12 + 3,
+        Ok(Outcome::Holds) => 0,
+        Ok(Outcome::Order(m)) => 256 * u64::from(m) + 1,
+        Ok(Outcome::Events(m)) => 256 * u64::from(m) + 2,
+        Err(unanswered) => unanswered.code(),
     }
 }

@@ -13,7 +13,7 @@ use Rattle.policy_image.specs.declared.records.Record.{Record}
 use Rattle.policy_image.specs.Layout.{root_of, left_of, right_of}
 use Rattle.policy_image.specs.Policy.{Policy}
 use Rattle.policy_image.specs.OfKind.{every}
-use Rattle.policy_expressions.specs.declared.Use.TheVariants.{Node}
+use Rattle.std.specs.Prelude.{Some}
 use Rattle.policy_expressions.specs.Nodes.{has_root, use_of, IsNode, NodesInOrder}
 use Rattle.policy_expressions.proofs.UseLaws.{use_left, use_right}
 use Rattle.policy_lists.specs.Lists.{record_in, policy_from}
@@ -43,19 +43,19 @@ module _ (to : ℕ → ℕ) (r : Record) where
       no : {w : Record} → has_root r ≡ false → w ≡ with_root (to (root_of r)) r
       no x = absurd (clash (eq-eqb r.kind 8 k) x)
 
-  module _ (fits : (n : ℕ) → use_of r 0 ≡ Node n → to n < 65536) (k : r.kind ≡ 9) where
+  module _ (fits : (n : ℕ) → use_of r 0 ≡ Some n → to n < 65536) (k : r.kind ≡ 9) where
     pub renumbered_left : 1 ≤ r.a → r.a ≤ 3 → left_of (renumbered to r) ≡ to (left_of r)
     renumbered_left a b =
         let n = renumbered_a in
         let w = use_left (renumbered to r) (renumbered_kind to r ∙ k) (omega arith) (omega arith) in
-        let e : Node (left_of (renumbered to r)) ≡ Node (to (left_of r)) = sym w ∙ use_moved to r fits 0 ∙ ap (moved_use to) (use_left r k a b) in
+        let e : Some (left_of (renumbered to r)) ≡ Some (to (left_of r)) = sym w ∙ use_moved to r fits 0 ∙ ap (moved_use to) (use_left r k a b) in
         cc
 
     pub renumbered_right : 2 ≤ r.a → r.a ≤ 3 → right_of (renumbered to r) ≡ to (right_of r)
     renumbered_right a b =
         let n = renumbered_a in
         let w = use_right (renumbered to r) (renumbered_kind to r ∙ k) (omega arith) (omega arith) in
-        let e : Node (right_of (renumbered to r)) ≡ Node (to (right_of r)) = sym w ∙ use_moved to r fits 1 ∙ ap (moved_use to) (use_right r k a b) in
+        let e : Some (right_of (renumbered to r)) ≡ Some (to (right_of r)) = sym w ∙ use_moved to r fits 1 ∙ ap (moved_use to) (use_right r k a b) in
         cc
 
 module _ (c : Counts) (l : List Record) (small : length l < 65536) (M : NodesInOrder (policy_from c l)) where
@@ -66,7 +66,7 @@ module _ (c : Counts) (l : List Record) (small : length l < 65536) (M : NodesInO
   module _ (o : Policy) (to : ℕ → ℕ) (O : NodesInOrder o) (is : (n : ℕ) → IsNode o n → IsNode made (to n))
       (at : (n : ℕ) → IsNode o n → record_in l (to n) ≡ renumbered to (o.rec n)) where
     -- numbers of nodes of the result fit two bytes
-    used_fits : (i : ℕ) → 1 ≤ i → i ≤ o.size → (n : ℕ) → use_of (o.rec i) 0 ≡ Node n → to n < 65536
+    used_fits : (i : ℕ) → 1 ≤ i → i ≤ o.size → (n : ℕ) → use_of (o.rec i) 0 ≡ Some n → to n < 65536
     used_fits i a b n h =
         let w = O.well i 0 n (record { low = a; high = b; at = h }) in
         let m = (is n w.node).high in

@@ -5,26 +5,28 @@ use mathlib.Core.Logic.{inl, inr}
 use mathlib.Core.Path.{◌≡◌, refl, sym, ap, ap₂, subst, ◌∙◌}
 use native.Mathlib.Omega.{arith}
 use lib.ListN.{length, drop}
+use Rattle.std.proofs.Common.{Ok, Err}
 use Rattle.base.specs.Questions.{Question, ask, AllYes, RefusedWith}
+use Rattle.base.specs.declared.refusals.Refusal.{Refusal}
+use Rattle.base.specs.declared.refusals.Refusal.TheVariants.{TooManyRecords, OutputSlice}
+use Rattle.base.specs.Refusals.{question_number, RefusedFor}
 use Rattle.base.specs.Inner.AllBytes.{AllBytes}
 use Rattle.base.proofs.QuestionLaws.{refused_first, refused_then, passed_both}
 use Rattle.policy_image.specs.declared.counts.Counts.{Counts}
-use Rattle.policy_image.specs.declared.counts.Checked.{Checked}
-use Rattle.policy_image.specs.declared.counts.Checked.TheVariants as policy
 use Rattle.policy_image.specs.Layout.{record_count}
 use Rattle.policy_image.specs.Policy.{policy_of}
 use Rattle.policy_image.specs.Inner.Sizes.{image_size, most_records}
 use Rattle.policy_image.proofs.EncodingLaws.{image_length}
 use Rattle.policy_check.specs.Questions.{policy_questions}
-use Rattle.policy_check.specs.Inner.Answer.{PolicyAnswer, refusal_of}
-use Rattle.policy_check.proofs.AnswerLaws.{refused, sound}
+use Rattle.policy_check.specs.Inner.Answer.{PolicyAnswer}
+use Rattle.policy_check.proofs.AnswerLaws.{sound}
 use Rattle.policy_lists.specs.Joined.{joined}
 use Rattle.policy_lists.proofs.JoinTurnLaws.{joined_size}
 use Rattle.policy_runs.proofs.ImageWriteLaws.{records_of}
 use Rattle.join.specs.Join.{joined_image, join_questions}
 use Rattle.join.specs.Inner.Parts.{Joinable}
 
-pub few_records : (s : List ℕ) {c : Counts} → PolicyAnswer s (policy.Accepted c) → c.records ≤ most_records
+pub few_records : (s : List ℕ) {c : Counts} → PolicyAnswer s (Ok c) → c.records ≤ most_records
 few_records s a = let x = records_of s a.0 in let f = (sound s a.1).exact.few in omega arith
 
 module _ (s t : List ℕ) (output : ℕ) where
@@ -35,18 +37,20 @@ module _ (s t : List ℕ) (output : ℕ) where
   abbrev later : List Question
   later = policy_questions t ++ last
 
-  pub maker_refused : (r : Checked) {k n : ℕ} → PolicyAnswer s r → r ≡ policy.Refused k → n ≡ refusal_of r → RefusedWith (join_questions s t output) n
-  maker_refused r {k} {n} a q e = refused_first (policy_questions s) later n (refused s r a q e)
+  pub maker_refused : (r : Refusal) → PolicyAnswer s (Err r) → RefusedFor (join_questions s t output) r
+  maker_refused r a = refused_first (policy_questions s) later (question_number r) a
 
-  module _ {c : Counts} (a : PolicyAnswer s (policy.Accepted c)) where
-    pub board_refused : (r : Checked) {k n : ℕ} → PolicyAnswer t r → r ≡ policy.Refused k → n ≡ refusal_of r → RefusedWith (join_questions s t output) n
-    board_refused r {k} {n} b q e = refused_then (policy_questions s) later n a.1 (refused_first (policy_questions t) last n (refused t r b q e))
+  module _ {c : Counts} (a : PolicyAnswer s (Ok c)) where
+    pub board_refused : (r : Refusal) → PolicyAnswer t (Err r) → RefusedFor (join_questions s t output) r
+    board_refused r b =
+        refused_then (policy_questions s) later (question_number r) a.1
+        (refused_first (policy_questions t) last (question_number r) b)
 
-    module _ {d : Counts} (b : PolicyAnswer t (policy.Accepted d)) where
+    module _ {d : Counts} (b : PolicyAnswer t (Ok d)) where
       after_both : (k : ℕ) → RefusedWith last k → RefusedWith (join_questions s t output) k
       after_both k r = refused_then (policy_questions s) later k a.1 (refused_then (policy_questions t) last k b.1 r)
 
-      pub too_many : most_records < c.records + d.records → RefusedWith (join_questions s t output) 15
+      pub too_many : most_records < c.records + d.records → RefusedFor (join_questions s t output) TooManyRecords
       too_many h =
           let x = records_of s a.0 in
           let y = records_of t b.0 in
@@ -63,7 +67,7 @@ module _ (s t : List ℕ) (output : ℕ) where
             let z = joined_size (policy_of s) (policy_of t) (sound s a.1).chains (sound t b.1).chains in
             image_length (joined (policy_of s) (policy_of t)) ∙ ap image_size (let n : (joined (policy_of s) (policy_of t)).size ≡ c.records + d.records = omega arith in n)
 
-        pub too_short : output < image_size (c.records + d.records) → RefusedWith (join_questions s t output) 16
+        pub too_short : output < image_size (c.records + d.records) → RefusedFor (join_questions s t output) OutputSlice
         too_short h = let l = result_length in after_both 16 (inr (fewer, inl ((λ fits. omega arith), refl)))
 
         module _ (fits : image_size (c.records + d.records) ≤ output) where

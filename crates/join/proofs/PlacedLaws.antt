@@ -3,6 +3,7 @@ use Prim.Native.Nat.{ℕ, suc, ◌+◌, ◌≤◌}
 use mathlib.Core.Path.{◌≡◌, sym, ap, ap₂, subst, ◌∙◌}
 use native.Mathlib.Omega.{arith}
 use lib.ListN.{length}
+use Rattle.policy_image.specs.Inner.Kinds.{kind_number}
 use Rattle.policy_image.specs.Policy.{Policy}
 use Rattle.policy_lists.specs.Lists.{kind_list, record_in, link_in, with_next}
 use Rattle.policy_lists.specs.Inner.Places.{next_upto}
@@ -13,7 +14,7 @@ use Rattle.policy_runs.specs.declared.Run.{Run}
 use Rattle.policy_runs.specs.Inner.Runs.{many_upto, run_place}
 use Rattle.policy_runs.proofs.RunImageLaws.{RunIn}
 
-module _ (p q : Policy) (run : Run) (k : ℕ) (h : suc k ≤ 9) (kind : run.kind ≡ suc k) (last : run.last ≡ ending (joined_kind p q) (suc k)) where
+module _ (p q : Policy) (run : Run) (k : ℕ) (h : suc k ≤ 9) (kind : kind_number run.kind ≡ suc k) (last : run.last ≡ ending (joined_kind p q) (suc k)) where
   abbrev stands : ℕ → Type 0
   stands i = StandsIn (joined_kind p q) (joined_own p q) k i
 
@@ -27,7 +28,7 @@ module _ (p q : Policy) (run : Run) (k : ℕ) (h : suc k ≤ 9) (kind : run.kind
     place : (n : ℕ) → run_place p run n ≡ suc (ending (joined_kind p q) k + many_upto p (suc k) n)
     place n = ap₂ (λ (a b : ℕ). suc (a + many_upto p b n)) before kind
 
-    maker_place : (n : ℕ) → suc n ≤ p.size → (p.rec (suc n)).kind ≡ run.kind → stands (run_place p run n)
+    maker_place : (n : ℕ) → suc n ≤ p.size → (p.rec (suc n)).kind ≡ kind_number run.kind → stands (run_place p run n)
     maker_place n l e = subst stands (sym (place n)) (maker_stands p q k n h (e ∙ kind) l)
 
     pub maker_run : RunIn (joined p q) p run
@@ -44,7 +45,7 @@ module _ (p q : Policy) (run : Run) (k : ℕ) (h : suc k ≤ 9) (kind : run.kind
     place_2 : (n : ℕ) → run_place q run n ≡ suc (ending (joined_kind p q) k + length (kind_list p (suc k)) + many_upto q (suc k) n)
     place_2 n = ap₂ (λ (a b : ℕ). suc (a + many_upto q b n)) before kind
 
-    board_place : (n : ℕ) → suc n ≤ q.size → (q.rec (suc n)).kind ≡ run.kind → stands (run_place q run n)
+    board_place : (n : ℕ) → suc n ≤ q.size → (q.rec (suc n)).kind ≡ kind_number run.kind → stands (run_place q run n)
     board_place n l e = subst stands (sym (place_2 n)) (board_stands p q k n h (e ∙ kind) l)
 
     pub board_run : RunIn (joined p q) q run

@@ -6,8 +6,8 @@ use mathlib.Core.List.{List, ◌++◌}
 use native.Mathlib.Omega.{arith}
 use lib.ListN.{length, drop}
 use Rattle.base.specs.Bytes.{byte_at}
-use Rattle.base.specs.Ranges.{Within}
 use Rattle.base.specs.Inner.Fill.{Filled}
+use Rattle.policy_image.specs.Inner.Kinds.{kind_number}
 use Rattle.policy_image.specs.declared.counts.Counts.{Counts}
 use Rattle.policy_image.specs.Layout.{record_count, counts_of}
 use Rattle.policy_image.specs.Policy.{Policy, policy_of}
@@ -86,10 +86,7 @@ module _ {s t : List ℕ} {c d : Counts} {room : ℕ} (G : Joinable s t c d room
   image_room output long = omega (arith, ap size_of whole_size, G.room, long)
 
   -- ---- the runs of kind k + 1
-  module _ (run : Run) (k : ℕ) (u : suc k ≤ 9) (kind : run.kind ≡ suc k) (last : run.last ≡ ends (suc k)) where
-    in_range_lem : Within 1 9 run.kind
-    in_range_lem = record { low = omega arith; high = omega arith }
-
+  module _ (run : Run) (k : ℕ) (u : suc k ≤ 9) (kind : kind_number run.kind ≡ suc k) (last : run.last ≡ ends (suc k)) where
     next_end : ends (suc k) ≡ ends k + length (kind_list p (suc k)) + length (kind_list q (suc k))
     next_end = let x = joined_count p q (suc k) in let y = joined_count p q k in omega arith
 
@@ -108,7 +105,7 @@ module _ {s t : List ℕ} {c d : Counts} {room : ℕ} (G : Joinable s t c d room
       makers_fit output nodes long =
           let S = G.maker in
           let y = ap (λ (i : ℕ). length (kind_list p i)) kind in
-          run_fits writable_lists.writable S.exact S.links S.chains S.nodes run makers_in in_range_lem (up_to_kind _ (omega (arith, next_end, y, before)))
+          run_fits writable_lists.writable S.exact S.links S.chains S.nodes run makers_in (up_to_kind _ (omega (arith, next_end, y, before)))
           (up_to_nodes _ (omega (arith, shift))) output nodes (image_room output long)
 
     module _ (before : run.before ≡ ends k + length (kind_list p (suc k))) (shift : run.shift ≡ ends 8 + length (kind_list p 9)) where
@@ -119,11 +116,11 @@ module _ {s t : List ℕ} {c d : Counts} {room : ℕ} (G : Joinable s t c d room
       boards_fit output nodes long =
           let S = G.board in
           let y = ap (λ (i : ℕ). length (kind_list q i)) kind in
-          run_fits writable_lists.writable S.exact S.links S.chains S.nodes run boards_in in_range_lem (up_to_kind _ (omega (arith, next_end, y, before)))
+          run_fits writable_lists.writable S.exact S.links S.chains S.nodes run boards_in (up_to_kind _ (omega (arith, next_end, y, before)))
           (up_to_nodes _ (omega (arith, shift))) output nodes (image_room output long)
 
   -- ---- one kind after the other
-  module _ (k : ℕ) (low : 1 ≤ k) (high : k ≤ 9) (run : Run) (kind : run.kind ≡ k) (last : run.last ≡ ends k) where
+  module _ (k : ℕ) (low : 1 ≤ k) (high : k ≤ 9) (run : Run) (kind : kind_number run.kind ≡ k) (last : run.last ≡ ends k) where
     this : k ≡ suc (k - 1)
     this = omega arith
 
@@ -135,7 +132,7 @@ module _ {s t : List ℕ} {c d : Counts} {room : ℕ} (G : Joinable s t c d room
       makers_run_fits = makers_fit run (k - 1) up (kind ∙ this) (last ∙ ap ends this) before shift
 
       pub makers_run_put : {old mid new : List ℕ} → RecordsTo j (ends (k - 1)) old mid
-          → Filled (λ i v. v ≡ byte_at (run_bytes p run p.size) i) mid new (start_of (suc run.before)) 0 (size_of (length (kind_list p run.kind)))
+          → Filled (λ i v. v ≡ byte_at (run_bytes p run p.size) i) mid new (start_of (suc run.before)) 0 (size_of (length (kind_list p (kind_number run.kind))))
           → RecordsTo j (ends (k - 1) + length (kind_list p k)) old new
       makers_run_put {old} {mid} {new} F G =
           subst (λ (x : ℕ). RecordsTo j x old new) (ap₂ (λ (x y : ℕ). x + length (kind_list p y)) before kind)
@@ -150,7 +147,7 @@ module _ {s t : List ℕ} {c d : Counts} {room : ℕ} (G : Joinable s t c d room
       boards_run_fits = boards_fit run (k - 1) up (kind ∙ this) (last ∙ ap ends this) behind shift
 
       pub boards_run_put : {old mid new : List ℕ} → RecordsTo j (ends (k - 1) + length (kind_list p k)) old mid
-          → Filled (λ i v. v ≡ byte_at (run_bytes q run q.size) i) mid new (start_of (suc run.before)) 0 (size_of (length (kind_list q run.kind)))
+          → Filled (λ i v. v ≡ byte_at (run_bytes q run q.size) i) mid new (start_of (suc run.before)) 0 (size_of (length (kind_list q (kind_number run.kind))))
           → RecordsTo j (ends (k + 1 - 1)) old new
       boards_run_put {old} {mid} {new} F G =
           subst (λ (x : ℕ). RecordsTo j x old new) (ap₂ (λ (x y : ℕ). x + length (kind_list q y)) behind (kind ∙ this) ∙ sym (next_end run (k - 1) up (kind ∙ this) (last ∙ ap ends this))

@@ -5,25 +5,18 @@
 ghost use Rattle.std.specs.Prelude.{◌+◌, ◌≤◌, ◌≡◌, ◌++◌, length, drop};
 ghost use Rattle.policy_image.specs.Layout.{record_count};
 ghost use Rattle.policy_image.specs.Inner.Sizes.{image_size, most_records};
-ghost use Rattle.policy_lists.specs.Joined.{larger, larger_counts};
+ghost use Rattle.policy_lists.specs.Joined.{larger_counts};
 ghost use Rattle.join.specs.Join.{joined_image, JoinPromise};
 ghost use Rattle.join.specs.Inner.Parts.{Joinable};
 
-use policy_check::{check, refusal};
-use policy_image::counts::{Checked, Counts, MOST_RECORDS};
-use policy_image::kinds::CONSTRAINTS;
+use base::refusals::Refusal;
+use policy_check::check;
+use policy_image::counts::{Counts, MOST_RECORDS};
+use policy_image::kinds::Kind;
 use policy_image::sizes::image_size;
-use policy_runs::tables::{NODES, ends_of, heads_of};
+use policy_runs::tables::{CONSTRAINTS, NODES, ends_of, heads_of};
 use policy_runs::{Run, count_kinds, count_nodes, put_run};
-use policy_writing::answer::Writing;
 use policy_writing::put_header;
-
-// The larger of two counts.
-fn larger_of(a: u32, b: u32) -> u32
-    ensures { result ≡ larger a b }
-{
-    if a <= b { b } else { a }
-}
 
 // The counts of the result.
 fn larger_counts(c: Counts, d: Counts) -> Counts
@@ -31,10 +24,10 @@ fn larger_counts(c: Counts, d: Counts) -> Counts
     ensures { result ≡ larger_counts c d }
 {
     Counts {
-        types: larger_of(c.types, d.types),
-        roles: larger_of(c.roles, d.roles),
-        users: larger_of(c.users, d.users),
-        classes: larger_of(c.classes, d.classes),
+        types: c.types.max(d.types),
+        roles: c.roles.max(d.roles),
+        users: c.users.max(d.users),
+        classes: c.classes.max(d.classes),
         records: c.records + d.records,
     }
 }
@@ -54,46 +47,40 @@ fn write(output: &mut [u8], maker: &[u8], makers: Counts, board: &[u8], boards: 
     // nodes stand behind all records of other kinds, constraints the last of them
     let makers_shift = ends[CONSTRAINTS];
     let boards_shift = ends[CONSTRAINTS] + of_maker[NODES];
-    let mut k: usize = 1;
-    while k <= NODES {
+    for kind in Kind::ALL {
+        let k = kind.number() as usize;
         let makers_run = Run {
-            kind: k as u32,
+            kind,
             before: ends[k - 1],
             last: ends[k],
             shift: makers_shift,
         };
         let between = put_run(output, maker, &maker_nodes, makers_run);
         let boards_run = Run {
-            kind: k as u32,
+            kind,
             before: between,
             last: ends[k],
             shift: boards_shift,
         };
         put_run(output, board, &board_nodes, boards_run);
-        k += 1;
     }
 }
 
-// One image from two: the output's first bytes are the joined image, and its later bytes are as they were. A refusal writes nothing.
-pub fn join(maker: &[u8], board: &[u8], output: &mut [u8]) -> Writing
+// One image from two: the output's first bytes are the joined image, whose length is the answer, and its later bytes are as they
+// were. A refusal writes nothing.
+pub fn join(maker: &[u8], board: &[u8], output: &mut [u8]) -> Result<u32, Refusal>
     ensures { JoinPromise maker.now board.now output.old output.new result }
 {
-    let first = check(maker);
-    let Checked::Accepted(makers) = first else {
-        return Writing::Refused(refusal(first));
-    };
-    let second = check(board);
-    let Checked::Accepted(boards) = second else {
-        return Writing::Refused(refusal(second));
-    };
+    let makers = check(maker)?;
+    let boards = check(board)?;
     let records = makers.records + boards.records;
     if MOST_RECORDS < records {
-        return Writing::Refused(15);
+        return Err(Refusal::TooManyRecords);
     }
     let bytes = image_size(records);
     if output.len() < bytes {
-        return Writing::Refused(16);
+        return Err(Refusal::OutputSlice);
     }
     write(output, maker, makers, board, boards);
-    Writing::Written(bytes as u32)
+    Ok(bytes as u32)
 }

@@ -2,16 +2,18 @@
 use Prim.Native.Nat.{ℕ}
 use mathlib.Core.List.{List, [], ◌∷◌}
 use mathlib.Core.Logic.{inl, inr}
-use mathlib.Core.Path.{◌≡◌, refl, sym, subst}
-use Rattle.base.specs.Questions.{Question, ask, AllYes, RefusedWith}
+use mathlib.Core.Path.{refl, sym, subst}
+use Rattle.std.specs.Prelude.{Ok, Err}
+use Rattle.base.specs.declared.refusals.Refusal.{Refusal}
+use Rattle.base.specs.declared.refusals.Refusal.TheVariants.{ContextsAndEvent, WorkSlices}
+use Rattle.base.specs.Questions.{Question, ask, AllYes}
+use Rattle.base.specs.Refusals.{question_number, RefusedFor}
 use Rattle.base.proofs.QuestionLaws.{refused_first, refused_then, passed_both, passed_first, passed_then}
 use Rattle.policy_image.specs.declared.counts.Counts.{Counts}
-use Rattle.policy_image.specs.declared.counts.Checked.{Checked}
-use Rattle.policy_image.specs.declared.counts.Checked.TheVariants as policy
 use Rattle.policy_image.specs.Layout.{counts_of}
 use Rattle.policy_check.specs.Questions.{policy_questions}
-use Rattle.policy_check.specs.Inner.Answer.{PolicyAnswer, refusal_of}
-use Rattle.policy_check.proofs.AnswerLaws.{refused, sound}
+use Rattle.policy_check.specs.Inner.Answer.{PolicyAnswer}
+use Rattle.policy_check.proofs.AnswerLaws.{sound}
 use Rattle.context.specs.declared.Context.{Context}
 use Rattle.plan.specs.Inner.Plan.{Ready}
 use Rattle.search_graph.proofs.GivenLaws.{ready_of}
@@ -23,15 +25,15 @@ module _ (s : List ℕ) (x y : Context) (work1 work2 : ℕ) where
   abbrev later : List Question
   later = ask 13 (BothInRange (counts_of s) x y) ∷ ask 11 (StepsFit s work1 work2) ∷ []
 
-  pub policy_refused : (r : Checked) {k n : ℕ} → PolicyAnswer s r → r ≡ policy.Refused k → n ≡ refusal_of r → RefusedWith (steps_questions s x y work1 work2) n
-  policy_refused r {k} {n} a q e = refused_first (policy_questions s) later n (refused s r a q e)
+  pub policy_refused : (r : Refusal) → PolicyAnswer s (Err r) → RefusedFor (steps_questions s x y work1 work2) r
+  policy_refused r a = refused_first (policy_questions s) later (question_number r) a
 
   -- the policy is accepted
-  module _ {n : Counts} (a : PolicyAnswer s (policy.Accepted n)) where
+  module _ {n : Counts} (a : PolicyAnswer s (Ok n)) where
     pub accepted_ready : Ready s n
     accepted_ready = ready_of (sound s a.1) a.0
 
-    pub out_of_range_lem : ¬ BothInRange n x y → RefusedWith (steps_questions s x y work1 work2) 13
+    pub out_of_range_lem : ¬ BothInRange n x y → RefusedFor (steps_questions s x y work1 work2) ContextsAndEvent
     out_of_range_lem h = refused_then (policy_questions s) later 13 a.1 (inl ((λ r. h (subst (λ (c : Counts). BothInRange c x y) (sym a.0) r)), refl))
 
     -- and both contexts are in range
@@ -39,7 +41,7 @@ module _ (s : List ℕ) (x y : Context) (work1 work2 : ℕ) where
       in_range_lem : BothInRange (counts_of s) x y
       in_range_lem = subst (λ (c : Counts). BothInRange c x y) a.0 r
 
-      pub too_short : ¬ EntryForEach n work1 work2 → RefusedWith (steps_questions s x y work1 work2) 11
+      pub too_short : ¬ EntryForEach n work1 work2 → RefusedFor (steps_questions s x y work1 work2) WorkSlices
       too_short h =
           refused_then (policy_questions s) later 11 a.1
           (inr (in_range_lem, inl ((λ f. h (subst (λ (c : Counts). EntryForEach c work1 work2) (sym a.0) (record { first = f.first; second = f.second }))), refl)))

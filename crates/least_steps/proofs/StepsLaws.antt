@@ -5,14 +5,18 @@ use mathlib.Core.Path.{◌≡◌, refl, ap, subst}
 use native.Mathlib.Decide.{dec_lt}
 use native.Mathlib.Omega.{arith}
 use lib.ListN.{length}
+use Rattle.std.specs.Prelude.{Option, Some, None, Result, Ok, Err}
+use Rattle.base.specs.declared.refusals.Refusal.{Refusal}
 use Rattle.base.specs.Questions.{AllYes, RefusedWith}
+use Rattle.base.specs.Refusals.{question_number, RefusedFor}
 use Rattle.base.proofs.QuestionLaws.{passed_not_refused, one_number}
+use Rattle.base.proofs.RefusalLaws.{one_refusal}
 use Rattle.policy_image.specs.Policy.{Policy, policy_of}
 use Rattle.context.specs.declared.Context.{Context}
 use Rattle.paths.specs.Slice.{contexts_in, events_in, Shows}
-use Rattle.least_steps.specs.declared.Steps.{Steps}
-use Rattle.least_steps.specs.declared.Steps.TheVariants as steps
-use Rattle.least_steps.specs.LeastSteps.{FlowPath, SomeFlowPath, NoFlowPath, NoneShorter, steps_questions, StepsPromise}
+use Rattle.witness.specs.declared.unanswered.Unanswered.{Unanswered}
+use Rattle.witness.specs.declared.unanswered.Unanswered.TheVariants as unanswered
+use Rattle.least_steps.specs.LeastSteps.{FlowPath, SomeFlowPath, NoFlowPath, NoneShorter, steps_questions, StepsPromise, steps_number}
 
 module _ (p : Policy) (x y : Context) where
   -- the least number of steps is one
@@ -30,58 +34,66 @@ module _ (p : Policy) (x y : Context) where
 
 module _ (s : List ℕ) (x y : Context) (work1 work2 : ℕ) (before : List ℕ) where
   -- what is promised of an answer, whatever the path slice is after the call
-  abbrev pub Determined : Steps → Type 0
-  Determined steps.None = AllYes (steps_questions s x y work1 work2) × NoFlowPath (policy_of s) x y
-  Determined (steps.Shown m) =
+  abbrev pub Determined : Result (Option ℕ) Unanswered → Type 0
+  Determined (Ok None) = AllYes (steps_questions s x y work1 work2) × NoFlowPath (policy_of s) x y
+  Determined (Ok (Some m)) =
       AllYes (steps_questions s x y work1 work2) × SomeFlowPath (policy_of s) x y m × NoneShorter (policy_of s) x y m × (2 * m + 1 ≤ length before)
-  Determined (steps.Refused k) = RefusedWith (steps_questions s x y work1 work2) k
-  Determined (steps.NoRoom m) =
+  Determined (Err (unanswered.Refused r)) = RefusedFor (steps_questions s x y work1 work2) r
+  Determined (Err (unanswered.NoRoom m)) =
       AllYes (steps_questions s x y work1 work2) × SomeFlowPath (policy_of s) x y m × NoneShorter (policy_of s) x y m × (length before < 2 * m + 1)
 
-  pub determined : (after : List ℕ) (r : Steps) → StepsPromise s x y work1 work2 before after r → Determined r
-  determined a steps.None p = (p.0, p.1)
-  determined a (steps.Shown m) p = (p.0, shown_some (policy_of s) x y p.2, p.1, p.2.room)
-  determined a (steps.Refused k) p = p.0
-  determined a (steps.NoRoom m) p = (p.0, p.1, p.2, p.3)
+  pub determined : (after : List ℕ) (r : Result (Option ℕ) Unanswered) → StepsPromise s x y work1 work2 before after r → Determined r
+  determined a (Ok None) p = (p.0, p.1)
+  determined a (Ok (Some m)) p = (p.0, shown_some (policy_of s) x y p.2, p.1, p.2.room)
+  determined a (Err (unanswered.Refused k)) p = p.0
+  determined a (Err (unanswered.NoRoom m)) p = (p.0, p.1, p.2, p.3)
 
-  refuted : {A : Type 0} (k : ℕ) → AllYes (steps_questions s x y work1 work2) → RefusedWith (steps_questions s x y work1 work2) k → A
-  refuted k a r = absurd (passed_not_refused (steps_questions s x y work1 work2) k a r)
+  refuted : {A : Type 0} (r : Refusal) → AllYes (steps_questions s x y work1 work2) → RefusedFor (steps_questions s x y work1 work2) r → A
+  refuted r a h = absurd (passed_not_refused (steps_questions s x y work1 work2) (question_number r) a h)
 
-  pub one_determined : (q r : Steps) → Determined q → Determined r → q ≡ r
-  one_determined steps.None steps.None p q = refl
-  one_determined steps.None (steps.Shown k) p q = absurd (p.1 k q.1)
-  one_determined steps.None (steps.Refused k) p q = refuted k p.0 q
-  one_determined steps.None (steps.NoRoom k) p q = absurd (p.1 k q.1)
-  one_determined (steps.Shown m) steps.None p q = absurd (q.1 m p.1)
-  one_determined (steps.Shown m) (steps.Shown k) p q = ap steps.Shown (least_steps_one (policy_of s) x y m k p.1 p.2 q.1 q.2)
-  one_determined (steps.Shown m) (steps.Refused k) p q = refuted k p.0 q
-  one_determined (steps.Shown m) (steps.NoRoom k) p q =
+  pub one_determined : (q r : Result (Option ℕ) Unanswered) → Determined q → Determined r → q ≡ r
+  one_determined (Ok None) (Ok None) p q = refl
+  one_determined (Ok None) (Ok (Some k)) p q = absurd (p.1 k q.1)
+  one_determined (Ok None) (Err (unanswered.Refused k)) p q = refuted k p.0 q
+  one_determined (Ok None) (Err (unanswered.NoRoom k)) p q = absurd (p.1 k q.1)
+  one_determined (Ok (Some m)) (Ok None) p q = absurd (q.1 m p.1)
+  one_determined (Ok (Some m)) (Ok (Some k)) p q = ap (λ m. Ok (Some m)) (least_steps_one (policy_of s) x y m k p.1 p.2 q.1 q.2)
+  one_determined (Ok (Some m)) (Err (unanswered.Refused k)) p q = refuted k p.0 q
+  one_determined (Ok (Some m)) (Err (unanswered.NoRoom k)) p q =
       let e = least_steps_one (policy_of s) x y m k p.1 p.2 q.1 q.2 in
       absurd (omega (arith, p.3, q.3))
-  one_determined (steps.Refused m) steps.None p q = refuted m q.0 p
-  one_determined (steps.Refused m) (steps.Shown k) p q = refuted m q.0 p
-  one_determined (steps.Refused m) (steps.Refused k) p q = ap steps.Refused (one_number (steps_questions s x y work1 work2) m k p q)
-  one_determined (steps.Refused m) (steps.NoRoom k) p q = refuted m q.0 p
-  one_determined (steps.NoRoom m) steps.None p q = absurd (q.1 m p.1)
-  one_determined (steps.NoRoom m) (steps.Shown k) p q =
+  one_determined (Err (unanswered.Refused m)) (Ok None) p q = refuted m q.0 p
+  one_determined (Err (unanswered.Refused m)) (Ok (Some k)) p q = refuted m q.0 p
+  one_determined (Err (unanswered.Refused m)) (Err (unanswered.Refused k)) p q = ap (λ m. Err (unanswered.Refused m)) (one_refusal (steps_questions s x y work1 work2) m k p q)
+  one_determined (Err (unanswered.Refused m)) (Err (unanswered.NoRoom k)) p q = refuted m q.0 p
+  one_determined (Err (unanswered.NoRoom m)) (Ok None) p q = absurd (q.1 m p.1)
+  one_determined (Err (unanswered.NoRoom m)) (Ok (Some k)) p q =
       let e = least_steps_one (policy_of s) x y m k p.1 p.2 q.1 q.2 in
       absurd (omega (arith, p.3, q.3))
-  one_determined (steps.NoRoom m) (steps.Refused k) p q = refuted k p.0 q
-  one_determined (steps.NoRoom m) (steps.NoRoom k) p q = ap steps.NoRoom (least_steps_one (policy_of s) x y m k p.1 p.2 q.1 q.2)
+  one_determined (Err (unanswered.NoRoom m)) (Err (unanswered.Refused k)) p q = refuted k p.0 q
+  one_determined (Err (unanswered.NoRoom m)) (Err (unanswered.NoRoom k)) p q = ap (λ m. Err (unanswered.NoRoom m)) (least_steps_one (policy_of s) x y m k p.1 p.2 q.1 q.2)
 
-  pub one_steps : (after last : List ℕ) (q r : Steps) → StepsPromise s x y work1 work2 before after q → StepsPromise s x y work1 work2 before last r → q ≡ r
+  pub one_steps : (after last : List ℕ) (q r : Result (Option ℕ) Unanswered) → StepsPromise s x y work1 work2 before after q → StepsPromise s x y work1 work2 before last r → q ≡ r
   one_steps a b q r p o = one_determined q r (determined a q p) (determined b r o)
 
   -- .. so an answer of which that is known is the one that is given, with all that is promised of it
-  pub given : (after : List ℕ) (q r : Steps) → Determined q → StepsPromise s x y work1 work2 before after r
+  pub given : (after : List ℕ) (q r : Result (Option ℕ) Unanswered) → Determined q → StepsPromise s x y work1 work2 before after r
       → (r ≡ q) × StepsPromise s x y work1 work2 before after q
   given a q r h p =
       let e : r ≡ q = one_determined r q (determined a r p) h in
-      (e, subst (λ (o : Steps). StepsPromise s x y work1 work2 before a o) e p)
+      (e, subst (λ (o : Result (Option ℕ) Unanswered). StepsPromise s x y work1 work2 before a o) e p)
+
+  -- what C gets where a question's answer is no
+  pub refused_steps : (after : List ℕ) (k : ℕ) (r : Result (Option ℕ) Unanswered) → RefusedWith (steps_questions s x y work1 work2) k → StepsPromise s x y work1 work2 before after r
+      → (steps_number r ≡ 4 * k + 3) × (after ≡ before)
+  refused_steps a k (Ok None) h p = absurd (passed_not_refused (steps_questions s x y work1 work2) k p.0 h)
+  refused_steps a k (Ok (Some m)) h p = absurd (passed_not_refused (steps_questions s x y work1 work2) k p.0 h)
+  refused_steps a k (Err (unanswered.Refused r)) h p = (ap (λ i. 4 * i + 3) (one_number (steps_questions s x y work1 work2) (question_number r) k p.0 h), p.1)
+  refused_steps a k (Err (unanswered.NoRoom m)) h p = absurd (passed_not_refused (steps_questions s x y work1 work2) k p.0 h)
 
   -- where no path is shown, the path slice is as it was
-  pub left_alone : (after : List ℕ) (r : Steps) → StepsPromise s x y work1 work2 before after r → ((m : ℕ) → r ≡ steps.Shown m → ⊥) → after ≡ before
-  left_alone a steps.None p h = p.2
-  left_alone a (steps.Shown m) p h = absurd (h m refl)
-  left_alone a (steps.Refused k) p h = p.1
-  left_alone a (steps.NoRoom m) p h = p.4
+  pub left_alone : (after : List ℕ) (r : Result (Option ℕ) Unanswered) → StepsPromise s x y work1 work2 before after r → ((m : ℕ) → r ≡ Ok (Some m) → ⊥) → after ≡ before
+  left_alone a (Ok None) p h = p.2
+  left_alone a (Ok (Some m)) p h = absurd (h m refl)
+  left_alone a (Err (unanswered.Refused k)) p h = p.1
+  left_alone a (Err (unanswered.NoRoom m)) p h = p.4

@@ -1,8 +1,9 @@
 -- Least steps between two contexts (paper 02, a): what a path from one to the other is, and what is promised, for all bytes of the
 -- policy, all contexts, all lengths of the two work slices and all path slices. What stands in quotes is the paper's.
 -- The promise fixes everything but what the work slices hold afterwards and which of the shortest paths is shown.
-use Rattle.std.specs.Prelude.{ℕ, suc, ◌+◌, ◌*◌, ◌≤◌, ◌<◌, List, [], ◌∷◌, ◌++◌, ◌≡◌, T, length}
-use Rattle.base.specs.Questions.{Question, ask, AllYes, RefusedWith}
+use Rattle.std.specs.Prelude.{ℕ, suc, ◌+◌, ◌*◌, ◌≤◌, ◌<◌, List, [], ◌∷◌, ◌++◌, ◌≡◌, T, length, Option, Some, None, Result, Ok, Err}
+use Rattle.base.specs.Questions.{Question, ask, AllYes}
+use Rattle.base.specs.Refusals.{RefusedFor}
 use Rattle.policy_image.specs.declared.counts.Counts.{Counts}
 use Rattle.policy_image.specs.Layout.{counts_of}
 use Rattle.policy_image.specs.Policy.{Policy, policy_of}
@@ -13,8 +14,9 @@ use Rattle.context.specs.Ranges.{ContextInRange}
 use Rattle.access.specs.Authorization.{flow}
 use Rattle.goal_model.specs.Images.{in_range, meetsρμ}
 use Rattle.paths.specs.Slice.{Shows}
-use Rattle.least_steps.specs.declared.Steps.{Steps}
-use Rattle.least_steps.specs.declared.Steps.TheVariants as steps
+use Rattle.witness.specs.declared.unanswered.Unanswered.{Unanswered}
+use Rattle.witness.specs.declared.unanswered.Unanswered.TheVariants as unanswered
+use Rattle.witness.specs.Unanswered.{unanswered_number}
 
 module _ (p : Policy) (x y : Context) where
   -- "a question with two contexts x and y and no goal": m "flow steps", "all paths between x and y". Contexts and events are their codes,
@@ -64,21 +66,20 @@ abbrev pub steps_questions : List ℕ → Context → Context → ℕ → ℕ �
 steps_questions s x y work1 work2 = policy_questions s ++ (ask 13 (BothInRange (counts_of s) x y) ∷ ask 11 (StepsFit s work1 work2) ∷ [])
 
 -- what each case of the answer says, with the path slice before and after the call
-abbrev pub StepsPromise : List ℕ → Context → Context → ℕ → ℕ → List ℕ → List ℕ → Steps → Type 0
+abbrev pub StepsPromise : List ℕ → Context → Context → ℕ → ℕ → List ℕ → List ℕ → Result (Option ℕ) Unanswered → Type 0
 -- "exactly when no path leads from x to y, 'none', which leaves the path slice unchanged"
-StepsPromise s x y work1 work2 before after steps.None = AllYes (steps_questions s x y work1 work2) × NoFlowPath (policy_of s) x y × (after ≡ before)
+StepsPromise s x y work1 work2 before after (Ok None) = AllYes (steps_questions s x y work1 work2) × NoFlowPath (policy_of s) x y × (after ≡ before)
 -- "the least number of flow steps and one path of that length"
-StepsPromise s x y work1 work2 before after (steps.Shown m) =
+StepsPromise s x y work1 work2 before after (Ok (Some m)) =
     AllYes (steps_questions s x y work1 work2) × NoneShorter (policy_of s) x y m × Shows (FlowPath (policy_of s) x y) m before after
--- the number of the first question whose answer is no; a refusal leaves the path slice unchanged, as it does everywhere
-StepsPromise s x y work1 work2 before after (steps.Refused k) = RefusedWith (steps_questions s x y work1 work2) k × (after ≡ before)
+-- the first question whose answer is no; a refusal leaves the path slice unchanged, as it does everywhere
+StepsPromise s x y work1 work2 before after (Err (unanswered.Refused r)) = RefusedFor (steps_questions s x y work1 work2) r × (after ≡ before)
 -- 12, "with the count": there is a path, and the slice has fewer than the 2m + 1 entries of a shortest
-StepsPromise s x y work1 work2 before after (steps.NoRoom m) =
+StepsPromise s x y work1 work2 before after (Err (unanswered.NoRoom m)) =
     AllYes (steps_questions s x y work1 work2) × SomeFlowPath (policy_of s) x y m × NoneShorter (policy_of s) x y m × (length before < 2 * m + 1) × (after ≡ before)
 
 -- the number that C gets: 256m + 4 × number + answer, with 0 none, 1 a path is shown, 3 refused; unused parts are 0
-abbrev pub steps_number : Steps → ℕ
-steps_number steps.None = 0
-steps_number (steps.Shown m) = 256 * m + 1
-steps_number (steps.Refused k) = 4 * k + 3
-steps_number (steps.NoRoom m) = 256 * m + 4 * 12 + 3
+abbrev pub steps_number : Result (Option ℕ) Unanswered → ℕ
+steps_number (Ok None) = 0
+steps_number (Ok (Some m)) = 256 * m + 1
+steps_number (Err u) = unanswered_number u

@@ -6,8 +6,9 @@ ghost use Rattle.std.specs.Prelude.{◌≡◌, length};
 ghost use Rattle.base.specs.Inner.Decides.{Decides};
 ghost use Rattle.context.specs.Inner.Places.{Countable};
 ghost use Rattle.least_steps.specs.LeastSteps.{BothInRange, StepsPromise, steps_number};
-ghost use Rattle.least_steps.specs.Inner.Parts.{EntryForEach, StepsPassed, steps_of};
+ghost use Rattle.least_steps.specs.Inner.Parts.{EntryForEach, StepsPassed};
 
+use base::refusals::Refusal;
 use context::Context;
 use goal_image::check::Legs;
 use plan::ends::put_ends;
@@ -15,36 +16,21 @@ use plan::make::make_plan;
 use plan::regions::{ENTRIES, RECORD_WORDS};
 use plan::rules::put_rules;
 use plan_index::extract::ALL_BITS;
-use policy_check::{check, refusal};
-use policy_image::counts::{Checked, Counts};
+use policy_check::check;
+use policy_image::counts::Counts;
 use search::levels::UNBOUNDED;
 use search::search;
 use search_graph::monitor::Mode;
-use search_graph::task::Task;
+use search_graph::task::{Query, Task};
 use search_graph::visits::clear;
-use witness::path::{Showing, show_found};
-
-// The answer: m is a number of steps.
-#[derive(Clone, Copy)]
-pub enum Steps {
-    // no path leads from the one to the other
-    None,
-    // a shortest path has m steps, and is shown
-    Shown(u32),
-    // the number of the question whose answer is no, 12 aside
-    Refused(u32),
-    // 12: the path slice is too short for the m steps of a shortest path
-    NoRoom(u32),
-}
+use witness::path::show_found;
+use witness::unanswered::Unanswered;
 
 // Question 13.
 fn in_range(counts: Counts, x: Context, y: Context) -> bool
     ensures { Decides result (BothInRange counts x y) }
 {
-    if !x.in_range(counts) {
-        return false;
-    }
-    y.in_range(counts)
+    x.in_range(counts) && y.in_range(counts)
 }
 
 // Question 11: each work slice has an entry for each context.
@@ -53,21 +39,7 @@ fn work_fits(counts: Counts, work1: usize, work2: usize) -> bool
     ensures { Decides result (EntryForEach counts work1 work2) }
 {
     let entries = Context::count(counts) as usize;
-    if work1 < entries {
-        return false;
-    }
-    entries <= work2
-}
-
-// What was shown, as the answer.
-fn steps_of(showing: Showing) -> Steps
-    ensures { result ≡ steps_of showing }
-{
-    match showing {
-        Showing::Nothing => Steps::None,
-        Showing::NoRoom(m) => Steps::NoRoom(m),
-        Showing::Path(m) => Steps::Shown(m),
-    }
+    entries <= work1 && entries <= work2
 }
 
 // The answer where no question refuses: a search from x, which σ0 has alone, to y, which σ1 has alone.
@@ -79,7 +51,7 @@ fn answer(
     work1: &mut [u32],
     work2: &mut [u32],
     path: &mut [u32],
-) -> Steps
+) -> Result<Option<u32>, Unanswered>
     requires { StepsPassed policy.now x y counts (length work1.old) (length work2.old) }
     ensures { StepsPromise policy.now x y (length work1.old) (length work2.old) path.old path.new result }
 {
@@ -88,22 +60,29 @@ fn answer(
     put_ends(x, y, counts, &mut plan);
     let all = [ALL_BITS; RECORD_WORDS];
     put_rules(policy, counts, &all, &mut plan);
-    let task = Task {
-        counts: counts,
-        legs: Legs {
-            count: 1,
-            repeated: 0,
+    let legs = Legs {
+        count: 1,
+        repeated: 0,
+    };
+    let query = Query {
+        policy,
+        plan: &plan,
+        task: Task {
+            counts,
+            legs,
+            mode: Mode::Any,
         },
-        mode: Mode::Any,
     };
     let nodes = Context::count(counts) as usize;
     let back = &mut work2[..nodes];
     clear(back);
-    let found = search(policy, &plan, task, UNBOUNDED, work1, back).found;
-    steps_of(show_found(policy, &plan, task, found, back, path))
+    let found = search(query, UNBOUNDED, work1, back).found;
+    let shown = show_found(query, found, back, path)?;
+    Ok(shown)
 }
 
-// How few steps lead from x to y? The work slices are overwritten; of the path slice, just the entries of the path that is shown.
+// How few steps lead from x to y? None where no path does. The work slices are overwritten; of the path slice, just the
+// entries of the path that is shown.
 pub fn least_steps(
     policy: &[u8],
     x: Context,
@@ -111,30 +90,26 @@ pub fn least_steps(
     work1: &mut [u32],
     work2: &mut [u32],
     path: &mut [u32],
-) -> Steps
+) -> Result<Option<u32>, Unanswered>
     ensures { StepsPromise policy.now x y (length work1.old) (length work2.old) path.old path.new result }
 {
-    let checked = check(policy);
-    let Checked::Accepted(counts) = checked else {
-        return Steps::Refused(refusal(checked));
-    };
+    let counts = check(policy)?;
     if !in_range(counts, x, y) {
-        return Steps::Refused(13);
+        return Err(Unanswered::Refused(Refusal::ContextsAndEvent));
     }
     if !work_fits(counts, work1.len(), work2.len()) {
-        return Steps::Refused(11);
+        return Err(Unanswered::Refused(Refusal::WorkSlices));
     }
     answer(policy, counts, x, y, work1, work2, path)
 }
 
 // The number that C gets for an answer.
-pub fn number(steps: Steps) -> u64
+pub fn number(steps: Result<Option<u32>, Unanswered>) -> u64
     ensures { result ≡ steps_number steps }
 {
     match steps {
-        Steps::None => 0,
-        Steps::Shown(m) => 256 * (m as u64) + 1,
-        Steps::Refused(k) => 4 * (k as u64) + 3,
-        Steps::NoRoom(m) => 256 * (m as u64) + 4 * 12 + 3,
+        Ok(None) => 0,
+        Ok(Some(m)) => 256 * u64::from(m) + 1,
+        Err(unanswered) => unanswered.code(),
     }
 }

@@ -11,7 +11,7 @@ use lib.ListN.{length, get_or, set, length-set}
 use lib.Seq.{get_or-set_same, get_or-set_other}
 use Rattle.base.specs.Bits.{bit}
 use Rattle.base.specs.Inner.Fill.{Filled}
-use Rattle.base.specs.Inner.Masks.{Lowest, With, Without}
+use Rattle.base.specs.Inner.Masks.{Taken, With}
 use Rattle.base.proofs.BitLaws.{bit_zero}
 use Rattle.base.proofs.BoolLaws.{or_none, and_no, and_yes, and_true, and_first}
 use Rattle.base.proofs.FillLaws.{fill_map, fill_then, fill_end}
@@ -37,9 +37,9 @@ neither : (b : Bool) → (b && not b) ≡ false
 neither true = refl
 neither false = refl
 
-pub marking_start : {old : List ℕ} {at h mask : ℕ} → Marking old at h mask old mask
-marking_start {old} {at} {h} {mask} =
-    record {
+pub marking_start : {old : List ℕ} {at h mask left : ℕ} → left ≡ mask → Marking old at h mask old left
+marking_start {old} {at} {h} {mask} e =
+    subst (Marking old at h mask old) (sym e) record {
       size = refl;
       rest = λ q b. b;
       done = record {
@@ -59,28 +59,25 @@ marking_end {old} {at} {h} {mask} {left = left} z M =
     all : (q : ℕ) → (bit mask q && not (bit left q)) ≡ bit mask q
     all q = and_yes (bit mask q) (not (bit left q)) (ap not (ap (λ (m : ℕ). bit m q) z ∙ bit_zero q))
 
-module _ {old : List ℕ} {at h mask : ℕ} {plan : List ℕ} {left : ℕ} (M : Marking old at h mask plan left) (room : at + 32 ≤ length old) {q₀ v one left' : ℕ} (L : Lowest left q₀)
-    (W : With (get_or plan (at + q₀) 0) h v) (I : With 0 q₀ one) (X : Without left one left') where
+module _ {old : List ℕ} {at h mask : ℕ} {plan : List ℕ} {left : ℕ} (M : Marking old at h mask plan left) (room : at + 32 ≤ length old) {q₀ v left' : ℕ} (T : Taken left q₀ left')
+    (W : With (get_or plan (at + q₀) 0) h v) where
   abbrev new : List ℕ
   new = set plan (at + q₀) v
 
-  out : (q : ℕ) → bit left' q ≡ (bit left q && not (eqb q₀ q))
-  out q = X.at q ∙ ap (λ (b : Bool). bit left q && not b) (I.at q ∙ ap (λ (b : Bool). b || eqb q₀ q) (bit_zero q))
-
   out_own : bit left' q₀ ≡ false
-  out_own = out q₀ ∙ and_no (bit left q₀) (not (eqb q₀ q₀)) (ap not (eq-eqb q₀ q₀ refl))
+  out_own = T.at q₀ ∙ and_no (bit left q₀) (not (eqb q₀ q₀)) (ap not (eq-eqb q₀ q₀ refl))
 
   out_other : (q : ℕ) → (q ≡ q₀ → ⊥) → bit left' q ≡ bit left q
-  out_other q d = out q ∙ and_yes (bit left q) (not (eqb q₀ q)) (ap not (ne_eqb q₀ q (λ e. d (sym e))))
+  out_other q d = T.at q ∙ and_yes (bit left q) (not (eqb q₀ q)) (ap not (ne_eqb q₀ q (λ e. d (sym e))))
 
   -- the event that is taken out did not have the chain before, and has it now
   before : (j : ℕ) → bit (get_or plan (at + q₀) 0) j ≡ bit (get_or old (at + q₀) 0) j
   before j =
-      (M.done.here q₀ (omega arith) L.small).at j
-      ∙ or_none (bit (get_or old (at + q₀) 0) j) _ (ap (λ (b : Bool). b && eqb h j) (and_no (bit mask q₀) (not (bit left q₀)) (ap not L.has)))
+      (M.done.here q₀ (omega arith) T.least.small).at j
+      ∙ or_none (bit (get_or old (at + q₀) 0) j) _ (ap (λ (b : Bool). b && eqb h j) (and_no (bit mask q₀) (not (bit left q₀)) (ap not T.least.has)))
 
   taken : (bit mask q₀ && not (bit left' q₀)) ≡ true
-  taken = and_true (bit mask q₀) (not (bit left' q₀)) (M.rest q₀ L.has) (ap not out_own)
+  taken = and_true (bit mask q₀) (not (bit left' q₀)) (M.rest q₀ T.least.has) (ap not out_own)
 
   own : WithIf (get_or old (at + q₀) 0) h (bit mask q₀ && not (bit left' q₀)) v
   own =
@@ -92,16 +89,16 @@ module _ {old : List ℕ} {at h mask : ℕ} {plan : List ℕ} {left : ℕ} (M : 
   marking_step =
       record {
         size = length-set plan (at + q₀) v ∙ M.size;
-        rest = λ q b. M.rest q (and_first (bit left q) _ (sym (out q) ∙ b));
+        rest = λ q b. M.rest q (and_first (bit left q) _ (sym (T.at q) ∙ b));
         done = record {
           here = λ q lo hi. ⊎_elim
               (λ (e : q ≡ q₀). subst (λ (k : ℕ). Entry k (get_or new (at + k) 0)) (sym e)
-              (subst (Entry q₀) (sym (get_or-set_same plan (at + q₀) v 0 (let s = M.size in let k = L.small in omega arith))) own))
+              (subst (Entry q₀) (sym (get_or-set_same plan (at + q₀) v 0 (let s = M.size in let k = T.least.small in omega arith))) own))
               (λ (d : q ≡ q₀ → ⊥). subst (Entry q) (sym (get_or-set_other plan (at + q₀) (at + q) v 0 (λ e. d (omega arith))))
               (subst (λ (b : Bool). WithIf (get_or old (at + q) 0) h (bit mask q && not b) (get_or plan (at + q) 0)) (sym (out_other q d)) (M.done.here q lo hi)))
               (split_eq q q₀);
           below = λ i l. other i (λ e. let z : ⊥ = omega arith in z) ∙ M.done.below i l;
-          above = λ i l. other i (λ e. let k = L.small in let z : ⊥ = omega arith in z) ∙ M.done.above i l;
+          above = λ i l. other i (λ e. let k = T.least.small in let z : ⊥ = omega arith in z) ∙ M.done.above i l;
         };
       }
     where

@@ -8,7 +8,7 @@ use native.Mathlib.Omega.{arith}
 use borrow.Author.Tests.{not-true, eqb-true, eq-eqb}
 use lib.Bits.{bit_and, bit_or}
 use lib.Dec.{eqb}
-use lib.ListN.{length, get_or, set, replicate, length-set, length-replicate}
+use lib.ListN.{get_or, set, replicate, length-set, length-replicate}
 use lib.Seq.{get_or-set_same, get_or-set_other}
 use Rattle.base.specs.Bits.{bit}
 use Rattle.base.specs.Inner.Masks.{Lowest, With, Without}
@@ -21,7 +21,7 @@ use Rattle.policy_image.specs.Policy.{Policy}
 use Rattle.context.specs.Codes.{event_at, event_of, is_transition}
 use Rattle.context.specs.Inner.Coding.{transition_code}
 use Rattle.constraints.specs.Constraints.{constrains}
-use Rattle.plan.specs.Inner.Entries.{first_at, key_at, writes_at, reads_at, groups_at, event_sets_at, alike_at, leads_at}
+use Rattle.plan.specs.Inner.Entries.{first_at, key_at, writes_at, reads_at, groups_at, event_sets_at, leads_at}
 use Rattle.plan.specs.Inner.Regions.{event_entries, block_entries, groups_start, roles_start, event_sets_start, alike_start, counted_start, keys_start, writes_start, reads_start, leads_start}
 use Rattle.plan.specs.Inner.Plan.{Grouped, OfferBlocks, Alike, AlikePlan, Leader, Leads}
 use Rattle.plan.specs.Inner.Put.{Kept, AlikePut, LeadsPut}
@@ -141,29 +141,6 @@ alike_put {old} {plan} {alike} A F =
       };
       below = λ i h. F.below i (omega arith);
     }
-
--- .. entry by entry, those below e
-pub record Copied (plan l : List ℕ) (e : ℕ) : Type 0 where
-  pub size : length l ≡ event_entries
-  pub few : e ≤ event_entries
-  pub same : (i : ℕ) → i < e → get_or l i 0 ≡ alike_at plan i
-
-pub copy_begin : (plan : List ℕ) → Copied plan (replicate 1024 0) 0
-copy_begin plan = record { size = length-replicate {A = ℕ} 1024 0; few = omega arith; same = λ i h. absurd (omega arith) }
-
-pub copy_more : {plan l : List ℕ} {e : ℕ} → Copied plan l e → e < event_entries → Copied plan (set l e (alike_at plan e)) (e + 1)
-copy_more {plan} {l} {e} C h =
-    record {
-      size = simp length-set C.size;
-      few = omega arith;
-      same = λ i k. ⊎_elim
-          (λ (q : i ≡ e). ap (λ (j : ℕ). get_or (set l e (alike_at plan e)) j 0) q ∙ get_or-set_same l e (alike_at plan e) 0 (omega (arith, C.size)) ∙ ap (alike_at plan) (sym q))
-          (λ (d : i ≡ e → ⊥). get_or-set_other l e i (alike_at plan e) 0 d ∙ C.same i (omega (arith, d)))
-          (split_eq i e);
-    }
-
-pub copy_end : {plan l : List ℕ} {e : ℕ} → Copied plan l e → event_entries ≤ e → AlikeCopy plan l
-copy_end C h = record { size = C.size; same = λ i k. C.same i (omega arith) }
 
 pub table_copy : {plan l : List ℕ} → AlikePlan plan → AlikeCopy plan l → AlikeTable plan l
 table_copy A C =

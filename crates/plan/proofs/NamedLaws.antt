@@ -21,12 +21,11 @@ use Rattle.base.proofs.BoolLaws.{clash, or_true, or_left, or_cases, and_true, an
 use Rattle.context.specs.declared.Context.{Context}
 use Rattle.context.specs.Codes.{context_at}
 use Rattle.goal_image.specs.declared.records.ContextRecord.{ContextRecord}
-use Rattle.goal_image.specs.declared.sets.Asked.TheVariants as asked
 use Rattle.goal_image.specs.Goal.{Goal, goal_links, is_context_chain}
 use Rattle.goal_image.specs.Questions.{OneChainEach}
 use Rattle.goal_image.specs.Sets.{fits, matches_context, context_in}
 use Rattle.goal_image.specs.Inner.Memberships.{on_chain, ContextSets, RecordSets}
-use Rattle.goal_image.proofs.SetLaws.{Iff, any_field, set_iff}
+use Rattle.goal_image.proofs.SetLaws.{Iff, any_field, context_iff, record_iff}
 use Rattle.goal_image.proofs.SortLaws.{context_below}
 use Rattle.plan_tables.specs.Inner.Tables.{type_entries}
 use Rattle.plan.specs.Inner.Regions.{record_entries, named_start, links_start, marks_start, record_roles_start, record_users_start, alike_start, plan_entries}
@@ -44,8 +43,8 @@ names_user r l h e =
 module _ {g : Goal} (O : OneChainEach g) {k h : ℕ} (low : h < 15) where
   pub on_iff : Iff (on_chain g k h ≡ true) (OnChain (goal_links g) h k)
   on_iff = (
-    λ t. let r = (set_iff g O h low (asked.Record k)).0 t in subst (λ (i : ℕ). OnChain (goal_links g) h i) (eqb-true r.0 k r.2) r.1,
-    λ m. (set_iff g O h low (asked.Record k)).1 (k, m, eq-eqb k k refl),
+    λ t. let r = (record_iff g O h low k).0 t in subst (λ (i : ℕ). OnChain (goal_links g) h i) (eqb-true r.0 k r.2) r.1,
+    λ m. (record_iff g O h low k).1 (k, m, eq-eqb k k refl),
   )
 
   pub is_on : is_context_chain h ≡ true → OnChain (goal_links g) h k → true ≡ (is_context_chain h && on_chain g k h)
@@ -365,13 +364,13 @@ module _ {g : Goal} (O : OneChainEach g) {x : Context} (role : 1 ≤ x.role) (us
     over {y} S f t =
         let k : (is_context_chain h && context_in g h y) ≡ true = sym (S.at h) ∙ t in
         let s = and_first (is_context_chain h) (context_in g h y) k in
-        let r = (set_iff g O h (context_below h s) (asked.Context y)).0 (and_second (is_context_chain h) (context_in g h y) k) in
-        and_true (is_context_chain h) (context_in g h x) s ((set_iff g O h (context_below h s) (asked.Context x)).1 (r.0, r.1, f (g.context r.0) r.2))
+        let r = (context_iff g O h (context_below h s) y).0 (and_second (is_context_chain h) (context_in g h y) k) in
+        and_true (is_context_chain h) (context_in g h x) s ((context_iff g O h (context_below h s) x).1 (r.0, r.1, f (g.context r.0) r.2))
 
     by_name : bit c h ≡ true → (is_context_chain h && context_in g h x) ≡ true
     by_name t =
         let r = C.only h t in
-        and_true (is_context_chain h) (context_in g h x) r.1 ((set_iff g O h (context_below h r.1) (asked.Context x)).1 (r.0.record_at, r.0.on, r.0.matches))
+        and_true (is_context_chain h) (context_in g h x) r.1 ((context_iff g O h (context_below h r.1) x).1 (r.0.record_at, r.0.on, r.0.matches))
 
     -- .. and back, by what the record names
     module _ (s : is_context_chain h ≡ true) (i : ℕ) (on : OnChain (goal_links g) h i) (m : matches_context (g.context i) x ≡ true) where
@@ -382,7 +381,7 @@ module _ {g : Goal} (O : OneChainEach g) {x : Context} (role : 1 ≤ x.role) (us
       pair_fits = and_second (fits r.ty x.ty) (fits r.role x.role && fits r.user x.user) m
 
       in_part : {y : Context} {v : ℕ} → ContextSets g y v → matches_context r y ≡ true → bit v h ≡ true
-      in_part {y} S t = S.at h ∙ and_true (is_context_chain h) (context_in g h y) s ((set_iff g O h (context_below h s) (asked.Context y)).1 (i, on, t))
+      in_part {y} S t = S.at h ∙ and_true (is_context_chain h) (context_in g h y) s ((context_iff g O h (context_below h s) y).1 (i, on, t))
 
       no_type_lem : r.ty ≡ 0 → bit b h ≡ true
       no_type_lem e = in_part B (and_true (fits r.ty 0) (fits r.role x.role && fits r.user x.user) (any_field r.ty 0 e) pair_fits)
@@ -430,7 +429,7 @@ module _ {g : Goal} (O : OneChainEach g) {x : Context} (role : 1 ≤ x.role) (us
         (λ t. ⊎_elim (λ u. ⊎_elim (over A by_type_lem) (over B by_pair) (or_cases (bit a h) (bit b h) u)) by_name (or_cases (bit a h || bit b h) (bit c h) t))
         (λ t.
         let s = and_first (is_context_chain h) (context_in g h x) t in
-        let k = (set_iff g O h (context_below h s) (asked.Context x)).0 (and_second (is_context_chain h) (context_in g h x) t) in
+        let k = (context_iff g O h (context_below h s) x).0 (and_second (is_context_chain h) (context_in g h x) t) in
         back s k.0 k.1 k.2)
 
   pub sets_joined : ContextSets g x (bit_or (bit_or a b) c)

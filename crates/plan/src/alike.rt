@@ -6,7 +6,7 @@ ghost use Rattle.plan.specs.Inner.Leads.{NotTransition, SameSets, Shared, AlikeT
 
 use crate::fill::put;
 use crate::regions::{ALIKE_START, EVENT_SETS_START, GROUPS_START};
-use base::bits::{lowest, with_bit, without};
+use base::bits::{bits_of, lowest, with_bit, without};
 use context::Event;
 use plan_tables::groups::EVENTS;
 
@@ -31,13 +31,11 @@ fn same_sets(plan: &[u32], class: u32, sets: u32) -> u32
 {
     let first = (32 * class) as usize;
     let mut r: u32 = 0;
-    let mut q: u32 = 0;
-    while q < 32 {
+    for q in 0..32 {
         let at = first + (q as usize);
         if plan[EVENT_SETS_START + at] == sets {
             r = with_bit(r, q);
         }
-        q += 1;
     }
     r
 }
@@ -47,12 +45,8 @@ fn share(class: u32, mask: u32, alike: &mut [u32; EVENTS])
     requires { class < 32 }
     ensures { Shared class mask alike.old alike.new }
 {
-    let mut left = mask;
-    while left != 0 {
-        let q = lowest(left);
-        let at = (32 * class + q) as usize;
-        alike[at] = mask;
-        left = without(left, with_bit(0, q));
+    for q in bits_of(mask) {
+        alike[(32 * class + q) as usize] = mask;
     }
 }
 
@@ -80,10 +74,8 @@ fn alike_table(classes: u32, plan: &[u32]) -> [u32; EVENTS]
     ensures { AlikeTable plan.now result }
 {
     let mut alike = [0u32; EVENTS];
-    let mut class: u32 = 1;
-    while class <= classes {
+    for class in 1..=classes {
         put_alike(plan, class, &mut alike);
-        class += 1;
     }
     alike
 }

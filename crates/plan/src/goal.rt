@@ -16,7 +16,7 @@ use crate::alike::put_alikes;
 use crate::fill::clear;
 use crate::named::put_links;
 use crate::regions::{EVENT_SETS_START, PAIR_SETS_START, TYPE_SETS_START};
-use base::bits::{lowest, with_bit, without};
+use base::bits::{bits_of, with_bit};
 use context::Context;
 use goal_image::records::CHAINS;
 use goal_image::sets::{EVENT_CHAINS, chain_mask, context_sets};
@@ -27,12 +27,9 @@ fn put_chain(mask: u32, h: u32, at: usize, plan: &mut [u32])
     requires { (h < 32) × (at + 32 ≤ length plan.old) }
     ensures { Filled (λ q v. WithIf (get_or plan.old (at + q) 0) h (bit mask q) v) plan.old plan.new at 0 32 }
 {
-    let mut left = mask;
-    while left != 0 {
-        let q = lowest(left);
+    for q in bits_of(mask) {
         let i = at + (q as usize);
         plan[i] = with_bit(plan[i], h);
-        left = without(left, with_bit(0, q));
     }
 }
 
@@ -43,10 +40,8 @@ fn put_class(goal: &[u8], class: u32, plan: &mut [u32])
 {
     let at = EVENT_SETS_START + ((32 * class) as usize);
     clear(plan, at, 32);
-    let mut h = EVENT_CHAINS as usize;
-    while h < CHAINS {
+    for h in EVENT_CHAINS as usize..CHAINS {
         put_chain(chain_mask(goal, h, class), h as u32, at, plan);
-        h += 1;
     }
 }
 
@@ -55,10 +50,8 @@ fn put_events(goal: &[u8], classes: u32, plan: &mut [u32])
     requires { SoundGoal goal.now × (classes < class_entries) × (plan_entries ≤ length plan.old) }
     ensures { Filled (λ e v. EventSets (goal_of goal.now) (event_of e) v) plan.old plan.new event_sets_start 32 (32 * (classes + 1)) }
 {
-    let mut class: u32 = 1;
-    while class <= classes {
+    for class in 1..=classes {
         put_class(goal, class, plan);
-        class += 1;
     }
 }
 
@@ -67,11 +60,9 @@ fn put_type_sets(goal: &[u8], types: u32, plan: &mut [u32])
     requires { SoundGoal goal.now × (types < type_entries) × (plan_entries ≤ length plan.old) }
     ensures { Filled (λ t v. ContextSets (goal_of goal.now) (context_at t 0 0) v) plan.old plan.new type_sets_start 1 (types + 1) }
 {
-    let mut t: u32 = 1;
-    while t <= types {
+    for t in 1..=types {
         let at = TYPE_SETS_START + (t as usize);
         plan[at] = context_sets(goal, Context::new(t, 0, 0));
-        t += 1;
     }
 }
 
@@ -81,12 +72,10 @@ fn put_pair_sets(goal: &[u8], counts: Counts, plan: &mut [u32])
     ensures { Filled (λ i v. PairSets (goal_of goal.now) counts i v) plan.old plan.new pair_sets_start 0 (pair_count counts) }
 {
     let pairs = counts.roles * counts.users;
-    let mut i: u32 = 0;
-    while i < pairs {
+    for i in 0..pairs {
         let x = Context::new(0, i / counts.users + 1, i % counts.users + 1);
         let at = PAIR_SETS_START + (i as usize);
         plan[at] = context_sets(goal, x);
-        i += 1;
     }
 }
 

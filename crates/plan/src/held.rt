@@ -20,13 +20,11 @@ fn put_holders(policy: &[u8], counts: Counts, plan: &mut [u32])
 {
     let users = user_table(policy);
     let pairs = counts.roles * counts.users;
-    let mut i: u32 = 0;
-    while i < pairs {
+    for i in 0..pairs {
         let role = i / counts.users + 1;
         let user = (i % counts.users + 1) as usize;
         let at = HOLDERS_START + (i as usize);
         plan[at] = users[user] & (1 << role);
-        i += 1;
     }
 }
 

@@ -19,11 +19,7 @@ fn alike_in(plan: &[u32]) -> [u32; EVENTS]
     ensures { AlikeCopy plan.now result }
 {
     let mut alike = [0u32; EVENTS];
-    let mut e: usize = 0;
-    while e < EVENTS {
-        alike[e] = plan[ALIKE_START + e];
-        e += 1;
-    }
+    alike.copy_from_slice(&plan[ALIKE_START..ALIKE_START + EVENTS]);
     alike
 }
 
@@ -48,13 +44,11 @@ fn lead_entries(alike: &[u32; EVENTS], n: usize, plan: &mut [u32])
     requires { (n ≤ block_entries) × (plan_entries ≤ length plan.old) }
     ensures { Filled (λ j v. EntryLeads alike.now plan.old j v) plan.old plan.new leads_start 0 n }
 {
-    let mut j: usize = 0;
-    while j < n {
+    for j in 0..n {
         let class = plan[KEYS_START + j] / TYPE_CODES % 32;
         let writes = leading(alike, class, plan[WRITES_START + j]);
         let reads = leading(alike, class, plan[READS_START + j]);
         plan[LEADS_START + j] = writes | reads;
-        j += 1;
     }
 }
 

@@ -71,9 +71,7 @@ pub fn put_links(goal: &[u8], plan: &mut [u32])
     // no list has a record: the links stand behind the heads
     clear(plan, NAMED_START, TYPES + RECORDS);
     let count = record_count(goal);
-    let mut k: usize = 1;
-    while k <= count {
+    for k in 1..=count {
         link(goal, k, plan);
-        k += 1;
     }
 }

@@ -69,12 +69,9 @@ fn special_of(plan: &[u32], lo: usize, hi: usize) -> u32
     ensures { SpecialOf plan.now lo hi result }
 {
     let mut all: u32 = 0;
-    let mut j = lo;
-    while j < hi {
+    for j in lo..hi {
         let class = (plan[KEYS_START + j] / TYPE_CODES % 32) as usize;
-        all = all
-            | ((plan[WRITES_START + j] | plan[READS_START + j]) & plan[SPECIAL_START + class]);
-        j += 1;
+        all |= (plan[WRITES_START + j] | plan[READS_START + j]) & plan[SPECIAL_START + class];
     }
     all
 }
@@ -84,15 +81,13 @@ fn put_type_special(plan: &mut [u32], types: u32)
     requires { (types < type_entries) × Tops types plan.old × (plan_entries ≤ length plan.old) }
     ensures { TypeSpecialPut types plan.old plan.new }
 {
-    let mut t: u32 = 1;
-    while t <= types {
+    for t in 1..=types {
         let first = FIRST_START + (t as usize);
         let lo = plan[first] as usize;
         let hi = plan[first + 1] as usize;
         let all = special_of(plan, lo, hi);
         let at = TYPE_SPECIAL_START + (t as usize);
         plan[at] = all;
-        t += 1;
     }
 }
 

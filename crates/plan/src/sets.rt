@@ -26,7 +26,7 @@ fn named_sets(plan: &[u32], x: Context) -> u32
         let role = fits_field(plan[RECORD_ROLES_START + k], x.role);
         let user = fits_field(plan[RECORD_USERS_START + k], x.user);
         if role & user {
-            sets = sets | plan[MARKS_START + k];
+            sets |= plan[MARKS_START + k];
         }
         k = plan[LINKS_START + k] as usize;
     }

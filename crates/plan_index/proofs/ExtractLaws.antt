@@ -1,4 +1,4 @@
--- The loop that writes the items: what the lists hold where it stands at record i with the items of n records written; and that what the items give
+-- The loop that writes the items: what the lists hold where the iterator stands at `it` with the items of n records written; and that what the items give
 -- at its end is α by the records that count.
 use mathlib.Core.Path.{◌≡◌, sym, ◌∙◌, ap, subst}
 use mathlib.Core.Bool.{Bool, true, false, cond}
@@ -13,21 +13,23 @@ use borrow.Author.Tests.{eq-eqb, eqb-true}
 use Rattle.base.specs.Bits.{bit}
 use Rattle.base.specs.Ranges.{Within}
 use Rattle.base.proofs.Numbers.{split_le, two_of}
-use Rattle.base.proofs.ChainLaws.{Visit, visit_map}
 use Rattle.base.proofs.BoolLaws.{clash}
 use Rattle.policy_image.specs.declared.records.Record.{Record}
-use Rattle.policy_image.specs.Layout.{policy_head}
-use Rattle.policy_image.specs.Policy.{Policy, policy_of, policy_links}
+use Rattle.policy_image.specs.declared.kinds.Kind.TheVariants.{Allow}
+use Rattle.policy_image.specs.Layout.{policy_head, record_of}
+use Rattle.policy_image.specs.Policy.{Policy, policy_of}
 use Rattle.policy_image.specs.Inner.Counting.{counting}
+use Rattle.policy_links.specs.declared.records.Records.{Records}
+use Rattle.policy_links.specs.Inner.Walking.{GivesNext}
+use Rattle.policy_links.proofs.Walking.{Along, given_is, given_same, along_map, along_start, along_step, along_kind, along_end}
 use Rattle.policy_links.proofs.KindLaws.{OfKind, kind_counted, counted_kind}
 use Rattle.policy_check.specs.Inner.Sound.{Sound}
-use Rattle.policy_check.proofs.Along.{along_start, along_step, along_kind, along_end}
 use Rattle.context.specs.Codes.{event_at}
 use Rattle.relations.specs.Relations.{target_of, α}
 use Rattle.relations.proofs.CountedLaws.{gamma_counted, sources_counted}
 use Rattle.plan_tables.specs.Inner.Tables.{GammaMasks}
 use Rattle.plan_tables.proofs.SoundLaws.{meets}
-use Rattle.plan_index.specs.Inner.Codes.{type_codes}
+use Rattle.plan_index.specs.Inner.Codes.{type_codes, record_numbers}
 use Rattle.plan_index.specs.Inner.Items.{ItemOf, ItemsPut, code_in, side_mask, Says, Owned, Extracted}
 use Rattle.sorting.proofs.MaskLaws.{bit_where, bit_there}
 use Rattle.plan_index.proofs.RecordLaws.{own_part, class_part, other_part, target_cases, own_by, other_by, within_by, seen, seen_of, seen_back, own_back, other_back, alpha_of, of_alpha, Allowing}
@@ -51,12 +53,12 @@ pub record Written (perms codes masks : List ℕ) (n side : ℕ) (r : Record) : 
 abbrev Left : Policy → (perms codes masks : List ℕ) → ℕ → ℕ → Type 0
 Left p perms codes masks n j = p.counted j ≡ true → (side : ℕ) → side ≤ 1 → Written perms codes masks n side (p.rec j)
 
-pub record Extracting (p : Policy) (perms codes masks : List ℕ) (n i : ℕ) : Type 0 where
-  pub visit : Visit (policy_links p) 4 (Left p perms codes masks n) i
-  pub taken : (x : ℕ) → x < 2 * n → Taken p perms codes masks x
-  pub few : n ≤ p.size
+pub record Extracting (s : List ℕ) (keep : ℕ → Bool) (perms codes masks : List ℕ) (n : ℕ) (it : Records) : Type 0 where
+  pub along : Along s Allow (Left (counting keep (policy_of s)) perms codes masks n) it
+  pub taken : (x : ℕ) → x < 2 * n → Taken (counting keep (policy_of s)) perms codes masks x
+  pub few : n ≤ (policy_of s).size
   -- links rise, so fewer records have their items written than the number of the record at hand
-  pub below : (i ≡ 0 → ⊥) → n < i
+  pub below : (it.next ≡ 0 → ⊥) → n < it.next
 
 module _ (s : List ℕ) (S : Sound s) (keep : ℕ → Bool) (perms : List ℕ) where
   abbrev p : Policy
@@ -75,38 +77,50 @@ module _ (s : List ℕ) (S : Sound s) (keep : ℕ → Bool) (perms : List ℕ) w
         types = omega (arith, S.range.types.high);
       }
 
-  pub extract_start : (codes masks : List ℕ) (i : ℕ) → i ≡ policy_head s 4 → Extracting p perms codes masks 0 i
-  extract_start codes masks i e =
+  pub extract_start : (codes masks : List ℕ) {it : Records} → (it.image.now ≡ s) × (it.next ≡ policy_head s 4) → Extracting s keep perms codes masks 0 it
+  extract_start codes masks e =
       record {
-        visit = along_start s S 4 (omega arith) (omega arith) (Left p perms codes masks 0) i e;
+        along = along_start s S.links Allow _ e;
         taken = λ x l. absurd (omega arith);
         few = omega arith;
         below = λ n. omega (arith, n);
       }
 
-  module _ (codes masks : List ℕ) (n i : ℕ) (nz : i ≡ 0 → ⊥) (x : Extracting p perms codes masks n i) (i' : ℕ) (next : i' ≡ (p.rec i).next) where
-    pub extract_kind : OfKind p 4 i
-    extract_kind = kind_counted keep (policy_of s) (along_kind s S 4 (omega arith) (omega arith) (Left p perms codes masks n) i nz x.visit)
+  module _ (codes masks : List ℕ) (n : ℕ) {it it' : Records} {r : Record} (x : Extracting s keep perms codes masks n it) (g : GivesNext it r it') where
+    pub extract_kind : OfKind p 4 it.next
+    extract_kind = kind_counted keep (policy_of s) (along_kind s S.links Allow _ x.along g S.chains)
 
-    rises : (i' ≡ 0 → ⊥) → i < i'
+    below : n < it.next
+    below = x.below (λ z. omega (arith, g.low))
+
+    -- there is room for the items of one more record
+    pub extract_room : n + 1 < record_numbers
+    extract_room = omega (arith, below, extract_kind.high, S.exact.few)
+
+    -- the record's class has a number below 32
+    pub few_classes : r.c < 32
+    few_classes = omega (arith, (given_same s x.along.image g).c, (allowing it.next extract_kind).class.high)
+
+    rises : (it'.next ≡ 0 → ⊥) → it.next < it'.next
     rises z =
         let o = extract_kind in
-        ⊎_elim (λ e. absurd (z (next ∙ e))) (λ h. omega (arith, h.0)) (S.links.nexts i o.low o.high)
+        let next = g.next ∙ (given_same s x.along.image g).next in
+        ⊎_elim (λ e. absurd (z (next ∙ e))) (λ h. omega (arith, h.0)) (S.links.nexts it.next o.low o.high)
 
-    -- record i is left out: it does not count
-    pub extract_pass : keep i ≡ false → Extracting p perms codes masks n i'
+    -- the record is left out: it does not count
+    pub extract_pass : keep it.next ≡ false → Extracting s keep perms codes masks n it'
     extract_pass e =
         record {
-          visit = along_step s S 4 (omega arith) (omega arith) (Left p perms codes masks n) i nz x.visit i' next (λ h. absurd (clash h e));
+          along = along_step s S.links Allow _ x.along g (λ h. absurd (clash h e));
           taken = x.taken;
           few = x.few;
-          below = λ z. omega (arith, x.below nz, rises z);
+          below = λ z. omega (arith, below, rises z);
         }
 
-    -- the items of record i are written
-    module _ (d : keep i ≡ true) (codes' masks' : List ℕ) (r : Record) (read : r ≡ p.rec i) (put : ItemsPut perms r n codes masks codes' masks') where
-      P : ItemsPut perms (p.rec i) n codes masks codes' masks'
-      P = subst (λ (y : Record). ItemsPut perms y n codes masks codes' masks') read put
+    -- the items of the record are written
+    module _ (d : keep it.next ≡ true) (codes' masks' : List ℕ) (put : ItemsPut perms r n codes masks codes' masks') where
+      P : ItemsPut perms (record_of s it.next) n codes masks codes' masks'
+      P = subst (λ (y : Record). ItemsPut perms y n codes masks codes' masks') (given_is s x.along.image g) put
 
       item_kept : {a b : ℕ} {r : Record} (at : ℕ) → at < 2 * n → ItemOf codes masks perms at a b r → ItemOf codes' masks' perms at a b r
       item_kept at l h = record { code = P.code at l ∙ h.code; mask = P.mask (at / 2) (omega arith) ∙ h.mask }
@@ -116,9 +130,9 @@ module _ (s : List ℕ) (S : Sound s) (keep : ℕ → Bool) (perms : List ℕ) w
           let w = h e side l in
           record { at = w.at; below = omega (arith, w.below); same = w.same; item = item_kept w.at w.below w.item }
 
-      written : (side : ℕ) → side ≤ 1 → Written perms codes' masks' (n + 1) side (p.rec i)
+      written : (side : ℕ) → side ≤ 1 → Written perms codes' masks' (n + 1) side (record_of s it.next)
       written side l =
-          two_of (λ y. Written perms codes' masks' (n + 1) y (p.rec i)) 0 side (omega arith) l
+          two_of (λ y. Written perms codes' masks' (n + 1) y (record_of s it.next)) 0 side (omega arith) l
           (record { at = 2 * n; below = omega arith; same = omega arith; item = P.source })
           (record { at = 2 * n + 1; below = omega arith; same = omega arith; item = P.target })
 
@@ -127,25 +141,23 @@ module _ (s : List ℕ) (S : Sound s) (keep : ℕ → Bool) (perms : List ℕ) w
           ⊎_elim
           (λ (h : 2 * n ≤ y).
           two_of (Taken p perms codes' masks') (2 * n) y h (omega arith)
-          (record { number = i; kind = extract_kind; counted = d; side = 0; same = omega arith; item = P.source })
-          (record { number = i; kind = extract_kind; counted = d; side = 1; same = omega arith; item = P.target }))
+          (record { number = it.next; kind = extract_kind; counted = d; side = 0; same = omega arith; item = P.source })
+          (record { number = it.next; kind = extract_kind; counted = d; side = 1; same = omega arith; item = P.target }))
           (λ (h : y < 2 * n).
           let t = x.taken y h in
           record { number = t.number; kind = t.kind; counted = t.counted; side = t.side; same = t.same; item = item_kept y h t.item }) (split_le (2 * n) y)
 
-      pub extract_write : Extracting p perms codes' masks' (n + 1) i'
+      pub extract_write : Extracting s keep perms codes' masks' (n + 1) it'
       extract_write =
           record {
-            visit = along_step s S 4 (omega arith) (omega arith) (Left p perms codes' masks' (n + 1)) i nz
-                (visit_map (policy_links p) 4 i (Left p perms codes masks n) (Left p perms codes' masks' (n + 1)) kept x.visit) i' next
-                (λ e. written);
+            along = along_step s S.links Allow _ (along_map s Allow _ (Left p perms codes' masks' (n + 1)) kept x.along) g (λ e. written);
             taken = taken;
-            few = omega (arith, x.below nz, extract_kind.high);
-            below = λ z. omega (arith, x.below nz, rises z);
+            few = omega (arith, below, extract_kind.high);
+            below = λ z. omega (arith, below, rises z);
           }
 
   -- ---- at the chain's end
-  module _ (G : GammaMasks (policy_of s) perms) (codes masks : List ℕ) (n : ℕ) (x : Extracting p perms codes masks n 0) where
+  module _ (G : GammaMasks (policy_of s) perms) (codes masks : List ℕ) (n : ℕ) {it : Records} (x : Extracting s keep perms codes masks n it) (z : it.next ≡ 0) where
     H : GammaMasks p perms
     H = record { at = λ c q. G.at c q ∙ sym (gamma_counted keep (policy_of s) (event_at c q)) }
 
@@ -176,7 +188,7 @@ module _ (s : List ℕ) (S : Sound s) (keep : ℕ → Bool) (perms : List ℕ) w
               let first : Bool = eqb side 0 in
               let f = of_alpha p perms H (cond first t o) (cond first o t) c q (seen_back (α p) (event_at c q) first t o h) in
               let r = p.rec f.number in
-              let W = along_end s S 4 (omega arith) (omega arith) (Left p perms codes masks n) x.visit f.number (counted_kind keep (policy_of s) f.kind) f.counted side few in
+              let W = along_end s S.links Allow _ S.chains x.along z f.number (counted_kind keep (policy_of s) f.kind) f.counted side few in
               let own = own_back first t o r f.source f.target in
               let other = other_back first t o r f.source f.target in
               let class = f.class in

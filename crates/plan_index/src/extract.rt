@@ -12,8 +12,9 @@ ghost use Rattle.plan_index.specs.Inner.Items.{ItemsPut, Extracted};
 use crate::codes::{RECORD_NUMBERS, item_code};
 use base::bits::has_bit;
 use plan_tables::CLASSES;
-use policy_image::kinds::ALLOWS;
-use policy_image::records::{Record, head_at, record_at};
+use policy_image::kinds::Kind;
+use policy_image::records::Record;
+use policy_links::records::records_of;
 use relations::facts::target;
 
 // How many words a set of record numbers has, a bit for each number.
@@ -56,14 +57,11 @@ pub fn extract(
     ensures { Extracted (counting (is_counted counted.now) (policy_of policy.now)) codes.new masks.new result }
 {
     let mut n: usize = 0;
-    let mut i = head_at(policy, ALLOWS);
-    while i != 0 {
-        let r = record_at(policy, i);
+    for (i, r) in records_of(policy, Kind::Allow).numbered() {
         if is_counted(counted, i) {
             put_items(r, perms, n, codes, masks);
             n += 1;
         }
-        i = r.next;
     }
     2 * n
 }

@@ -35,19 +35,17 @@ pub fn unite(
     ensures { UnitedItems (code_in codes.now) (side_mask masks.now 0) (side_mask masks.now 1) n keys.new writes.new reads.new result }
 {
     let mut m: usize = 0;
-    let mut i: usize = 0;
-    while i < n {
+    for i in 0..n {
         let item = order[i] as usize;
         let code = codes[item];
         let mask = masks[item / 2];
-        let at = entry_for(keys, m, code);
-        let written = mask_of(writes, m, at);
-        let read = mask_of(reads, m, at);
+        let at = entry_for(&keys[..m], code);
+        let written = mask_of(&writes[..m], at);
+        let read = mask_of(&reads[..m], at);
         keys[at] = code;
         writes[at] = written | on_side(mask, item, SOURCES);
         reads[at] = read | on_side(mask, item, TARGETS);
         m = at + 1;
-        i += 1;
     }
     m
 }

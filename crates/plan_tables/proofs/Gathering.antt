@@ -1,6 +1,6 @@
--- The loop along the chain of kind k that adds the bits `mk r` of each record r to the entry `ix r` of a table, whatever ix
--- and mk are: what the table l' says where the loop stands at record i, l being the table at its start.
-use Prim.Native.Nat.{ℕ, ◌≤◌, ◌<◌}
+-- The loop over the records of a kind that adds the bits `mk r` of each record r to the entry `ix r` of a table, whatever ix
+-- and mk are: what the table l' says where the iterator stands at `it`, l being the table at its start.
+use Prim.Native.Nat.{ℕ, ◌<◌}
 use mathlib.Core.Bool.{Bool, true, ◌&&◌, ◌||◌}
 use mathlib.Core.List.{List}
 use mathlib.Core.Logic.{◌⊎◌, inl, inr, ⊎_elim}
@@ -10,30 +10,33 @@ use lib.Dec.{eqb}
 use lib.ListN.{length, get_or, set, length-set}
 use lib.Seq.{get_or-set_same, get_or-set_other}
 use Rattle.base.specs.Bits.{bit}
-use Rattle.base.proofs.ChainLaws.{Visit, visit_map}
 use Rattle.base.proofs.Numbers.{split_eq}
 use Rattle.base.proofs.BoolLaws.{or_true, or_left, or_cases, and_true, and_first, and_second, same_truth}
 use Rattle.policy_image.specs.declared.records.Record.{Record}
-use Rattle.policy_image.specs.Layout.{policy_head}
-use Rattle.policy_image.specs.Policy.{Policy, policy_of, policy_links}
+use Rattle.policy_image.specs.declared.kinds.Kind.{Kind}
+use Rattle.policy_image.specs.Inner.Kinds.{kind_number}
+use Rattle.policy_image.specs.Layout.{policy_head, record_of}
+use Rattle.policy_image.specs.Policy.{policy_of}
 use Rattle.policy_image.specs.OfKind.{some}
+use Rattle.policy_links.specs.declared.records.Records.{Records}
+use Rattle.policy_links.specs.Inner.Walking.{GivesNext}
 use Rattle.policy_links.proofs.KindLaws.{some_yes, some_record}
+use Rattle.policy_links.proofs.Walking.{Along, given_is, along_map, along_start, along_step, along_kind, along_end}
 use Rattle.policy_check.specs.Inner.Sound.{Sound}
-use Rattle.policy_check.proofs.Along.{along_start, along_step, along_kind, along_end}
 
 -- the table has what record j adds
-abbrev Has : Policy → (Record → ℕ) → (Record → ℕ) → List ℕ → ℕ → Type 0
-Has p ix mk l' j = (q : ℕ) → bit (mk (p.rec j)) q ≡ true → bit (get_or l' (ix (p.rec j)) 0) q ≡ true
+abbrev Has : List ℕ → (Record → ℕ) → (Record → ℕ) → List ℕ → ℕ → Type 0
+Has s ix mk l' j = (q : ℕ) → bit (mk (record_of s j)) q ≡ true → bit (get_or l' (ix (record_of s j)) 0) q ≡ true
 
 -- whether a record adds bit q to entry t
 abbrev pub gives : (Record → ℕ) → (Record → ℕ) → ℕ → ℕ → Record → Bool
 gives ix mk t q r = eqb (ix r) t && bit (mk r) q
 
-pub record Gathering (p : Policy) (k : ℕ) (ix mk : Record → ℕ) (l l' : List ℕ) (i : ℕ) : Type 0 where
+pub record Gathering (s : List ℕ) (k : Kind) (ix mk : Record → ℕ) (l l' : List ℕ) (it : Records) : Type 0 where
   pub size : length l' ≡ length l
-  pub visit : Visit (policy_links p) k (Has p ix mk l') i
+  pub along : Along s k (Has s ix mk l') it
   pub keeps : (t q : ℕ) → bit (get_or l t 0) q ≡ true → bit (get_or l' t 0) q ≡ true
-  pub from : (t q : ℕ) → bit (get_or l' t 0) q ≡ true → (some p k (gives ix mk t q) || bit (get_or l t 0) q) ≡ true
+  pub from : (t q : ℕ) → bit (get_or l' t 0) q ≡ true → (some (policy_of s) (kind_number k) (gives ix mk t q) || bit (get_or l t 0) q) ≡ true
 
 -- an entry to which the bits m are added, so that its value is v: it has them and what it had, and the others are as they were
 module _ (l : List ℕ) (x m v : ℕ) (both : (q : ℕ) → bit v q ≡ (bit (get_or l x 0) q || bit m q)) (room : x < length l) where
@@ -62,55 +65,56 @@ module _ (l : List ℕ) (x m v : ℕ) (both : (q : ℕ) → bit v q ≡ (bit (ge
       (λ n. inl (sym (joined_off t q n) ∙ h))
       (split_eq t x)
 
-module _ (s : List ℕ) (S : Sound s) (k : ℕ) (low : 1 ≤ k) (high : k ≤ 9) (ix mk : Record → ℕ) (l : List ℕ) where
-  abbrev p : Policy
-  p = policy_of s
+module _ (s : List ℕ) (S : Sound s) (k : Kind) (ix mk : Record → ℕ) (l : List ℕ) where
+  -- whether some record of the kind adds bit q to entry t
+  abbrev given : ℕ → ℕ → Bool
+  given t q = some (policy_of s) (kind_number k) (gives ix mk t q)
 
-  pub gathering_start : (i : ℕ) → i ≡ policy_head s k → Gathering p k ix mk l l i
-  gathering_start i e =
+  pub gathering_start : {it : Records} → (it.image.now ≡ s) × (it.next ≡ policy_head s (kind_number k)) → Gathering s k ix mk l l it
+  gathering_start e =
       record {
         size = refl;
-        visit = along_start s S k low high (Has p ix mk l) i e;
+        along = along_start s S.links k _ e;
         keeps = λ t q h. h;
-        from = λ t q h. or_true (some p k (gives ix mk t q)) (bit (get_or l t 0) q) h;
+        from = λ t q h. or_true (given t q) (bit (get_or l t 0) q) h;
       }
 
-  -- record i adds its bits m to its entry x, whose value is then v
-  pub gathering_step : (l' : List ℕ) (i : ℕ) → (i ≡ 0 → ⊥) → Gathering p k ix mk l l' i → (i' : ℕ) → i' ≡ (p.rec i).next
-      → (x m v : ℕ) → x ≡ ix (p.rec i) → m ≡ mk (p.rec i) → ((q : ℕ) → bit v q ≡ (bit (get_or l' x 0) q || bit m q)) → x < length l'
-      → Gathering p k ix mk l (set l' x v) i'
-  gathering_step l' i n g i' next x m v ex em both room =
+  -- the record r adds its bits to its entry, whose value is then v
+  pub gathering_step : (l' : List ℕ) {it it' : Records} {r : Record} → Gathering s k ix mk l l' it → GivesNext it r it'
+      → (v : ℕ) → ((q : ℕ) → bit v q ≡ (bit (get_or l' (ix r) 0) q || bit (mk r) q)) → ix r < length l'
+      → Gathering s k ix mk l (set l' (ix r) v) it'
+  gathering_step l' {it} {it'} {r} g n v both room =
       record {
-        size = length-set l' x v ∙ g.size;
-        visit = along_step s S k low high (Has p ix mk new) i n
-            (visit_map (policy_links p) k i (Has p ix mk l') (Has p ix mk new)
-            (λ j h q b. joined_keeps l' x m v both room (ix (p.rec j)) q (h q b)) g.visit)
-            i' next
-            (λ q b. subst (λ (y : ℕ). bit (get_or new y 0) q ≡ true) ex
-            (joined_at l' x m v both room q ∙ or_true (bit (get_or l' x 0) q) (bit m q) (ap (λ (y : ℕ). bit y q) em ∙ b)));
-        keeps = λ t q h. joined_keeps l' x m v both room t q (g.keeps t q h);
+        size = length-set l' (ix r) v ∙ g.size;
+        along = along_step s S.links k _
+            (along_map s k (Has s ix mk l') (Has s ix mk (set l' (ix r) v))
+            (λ j h q b. joined_keeps l' (ix r) (mk r) v both room (ix (record_of s j)) q (h q b)) g.along)
+            n
+            (λ q b. subst (λ (x : Record). bit (get_or (set l' (ix r) v) (ix x) 0) q ≡ true) is
+            (joined_at l' (ix r) (mk r) v both room q
+            ∙ or_true (bit (get_or l' (ix r) 0) q) (bit (mk r) q) (ap (λ (x : Record). bit (mk x) q) is ∙ b)));
+        keeps = λ t q h. joined_keeps l' (ix r) (mk r) v both room t q (g.keeps t q h);
         from = λ t q h.
             ⊎_elim (g.from t q)
-            (λ b. or_left (some p k (gives ix mk t q)) (bit (get_or l t 0) q)
-            (some_yes p k (gives ix mk t q) i (along_kind s S k low high (Has p ix mk l') i n g.visit)
-            (and_true (eqb (ix (p.rec i)) t) (bit (mk (p.rec i)) q)
-            (eq-eqb (ix (p.rec i)) t (sym ex ∙ b.0)) (ap (λ (y : ℕ). bit y q) (sym em) ∙ b.1))))
-            (joined_from l' x m v both room t q h);
+            (λ b. or_left (given t q) (bit (get_or l t 0) q)
+            (some_yes (policy_of s) (kind_number k) (gives ix mk t q) it.next (along_kind s S.links k _ g.along n S.chains)
+            (subst (λ (x : Record). gives ix mk t q x ≡ true) is (and_true (eqb (ix r) t) (bit (mk r) q) (eq-eqb (ix r) t b.0) b.1))))
+            (joined_from l' (ix r) (mk r) v both room t q h);
       }
     where
-      new : List ℕ
-      new = set l' x v
+      is : r ≡ record_of s it.next
+      is = given_is s g.along.image n
 
   -- at the end each entry has what it had and what the records of the kind add
-  pub gathering_end : (l' : List ℕ) → Gathering p k ix mk l l' 0 → (t q : ℕ)
-      → bit (get_or l' t 0) q ≡ (some p k (gives ix mk t q) || bit (get_or l t 0) q)
-  gathering_end l' g t q =
-      same_truth (bit (get_or l' t 0) q) (some p k (gives ix mk t q) || bit (get_or l t 0) q) (g.from t q)
-      (λ h. ⊎_elim given (g.keeps t q) (or_cases (some p k (gives ix mk t q)) (bit (get_or l t 0) q) h))
+  pub gathering_end : (l' : List ℕ) {it : Records} → Gathering s k ix mk l l' it → it.next ≡ 0 → (t q : ℕ)
+      → bit (get_or l' t 0) q ≡ (given t q || bit (get_or l t 0) q)
+  gathering_end l' g z t q =
+      same_truth (bit (get_or l' t 0) q) (given t q || bit (get_or l t 0) q) (g.from t q)
+      (λ h. ⊎_elim found (g.keeps t q) (or_cases (given t q) (bit (get_or l t 0) q) h))
     where
-      given : some p k (gives ix mk t q) ≡ true → bit (get_or l' t 0) q ≡ true
-      given h =
-          let r = some_record p k (gives ix mk t q) h in
-          let j : ℕ = r.0 in
-          subst (λ (y : ℕ). bit (get_or l' y 0) q ≡ true) (eqb-true (ix (p.rec j)) t (and_first (eqb (ix (p.rec j)) t) (bit (mk (p.rec j)) q) r.2))
-          (along_end s S k low high (Has p ix mk l') g.visit j r.1 q (and_second (eqb (ix (p.rec j)) t) (bit (mk (p.rec j)) q) r.2))
+      found : given t q ≡ true → bit (get_or l' t 0) q ≡ true
+      found h =
+          let r = some_record (policy_of s) (kind_number k) (gives ix mk t q) h in
+          let x : Record = record_of s r.0 in
+          subst (λ (y : ℕ). bit (get_or l' y 0) q ≡ true) (eqb-true (ix x) t (and_first (eqb (ix x) t) (bit (mk x) q) r.2))
+          (along_end s S.links k _ S.chains g.along z r.0 r.1 q (and_second (eqb (ix x) t) (bit (mk x) q) r.2))

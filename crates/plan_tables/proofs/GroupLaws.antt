@@ -1,4 +1,4 @@
--- The loop along the constraints that tells permissions apart: what the table says where the loop stands at record i.
+-- The loop along the constraints that tells permissions apart: what the table says where the iterator stands at `it`.
 use Prim.Native.Nat.{ℕ, ◌+◌, ◌-◌, ◌*◌, ◌≤◌, ◌<◌}
 use mathlib.Core.Bool.{Bool, true, false, ◌&&◌}
 use mathlib.Core.List.{List}
@@ -13,16 +13,20 @@ use Rattle.base.specs.Bits.{bit}
 use Rattle.base.specs.Inner.Masks.{Without}
 use Rattle.base.specs.Inner.Fill.{Filled}
 use Rattle.base.proofs.BitLaws.{bit_and_lem}
-use Rattle.base.proofs.ChainLaws.{Visit, visit_map}
 use Rattle.base.proofs.Numbers.{split_eq, split_le}
 use Rattle.base.proofs.BoolLaws.{and_true, and_first, and_second}
 use Rattle.base.proofs.UptoLaws.{all_at}
-use Rattle.policy_image.specs.Layout.{policy_head}
-use Rattle.policy_image.specs.Policy.{Policy, policy_of, policy_links}
+use Rattle.policy_image.specs.declared.kinds.Kind.TheVariants.{Constraint}
+use Rattle.policy_image.specs.declared.records.Record.{Record}
+use Rattle.policy_image.specs.Layout.{policy_head, record_of}
+use Rattle.policy_image.specs.Policy.{policy_of}
+use Rattle.policy_links.specs.declared.records.Records.{Records}
+use Rattle.policy_links.specs.Inner.Walking.{GivesNext}
+use Rattle.policy_links.proofs.Walking.{Along, given_same, along_map, along_start, along_step, along_kind, along_end}
 use Rattle.policy_check.specs.Inner.Sound.{Sound}
-use Rattle.policy_check.proofs.Along.{along_start, along_step, along_kind, along_end}
 use Rattle.context.specs.Codes.{event_at}
 use Rattle.constraints.specs.Constraints.{constrains}
+use Rattle.plan_tables.proofs.SoundLaws.{meets}
 use Rattle.plan_tables.specs.Inner.Groups.{equal, OnSide, Together, ConstraintGroups}
 
 -- ---- truth values
@@ -58,13 +62,15 @@ all_in_lem i h =
     subst (λ (k : ℕ). bit 4294967295 k ≡ true) (let e : i + 1 - 1 ≡ i = omega arith in e) (all_at (λ k. bit 4294967295 (k - 1)) 32 (i + 1) refl (omega arith) (omega arith))
 
 -- ---- the table
-abbrev Told : Policy → List ℕ → ℕ → Type 0
-Told p l j = (c q i : ℕ) → c < 32 → q < 32 → i < 32 → bit (get_or l (32 * c + q) 0) i ≡ true → constrains (p.rec j) (event_at c q) ≡ constrains (p.rec j) (event_at c i)
+abbrev Told : List ℕ → List ℕ → ℕ → Type 0
+Told s l j =
+    (c q i : ℕ) → c < 32 → q < 32 → i < 32 → bit (get_or l (32 * c + q) 0) i ≡ true
+    → constrains (record_of s j) (event_at c q) ≡ constrains (record_of s j) (event_at c i)
 
-pub record Grouping (p : Policy) (l : List ℕ) (i : ℕ) : Type 0 where
+pub record Grouping (s : List ℕ) (l : List ℕ) (it : Records) : Type 0 where
   pub size : length l ≡ 1024
-  pub visit : Visit (policy_links p) 8 (Told p l) i
-  pub whole : (c q i : ℕ) → c < 32 → q < 32 → i < 32 → Together p c q i → bit (get_or l (32 * c + q) 0) i ≡ true
+  pub along : Along s Constraint (Told s l) it
+  pub whole : (c q i : ℕ) → c < 32 → q < 32 → i < 32 → Together (policy_of s) c q i → bit (get_or l (32 * c + q) 0) i ≡ true
 
 -- a mask tells the permissions of a class apart, and leaves the other classes
 module _ (l l' : List ℕ) (class mask : ℕ) (F : Filled (λ q v. OnSide (get_or l (32 * class + q) 0) mask q v) l l' (32 * class) 0 32) where
@@ -112,33 +118,41 @@ module _ (l l' : List ℕ) (class mask : ℕ) (F : Filled (λ q v. OnSide (get_o
       (split_eq c class)
 
 module _ (s : List ℕ) (S : Sound s) where
-  abbrev p : Policy
-  p = policy_of s
-
-  pub grouping_start : (i : ℕ) → i ≡ policy_head s 8 → Grouping p (replicate 1024 4294967295) i
-  grouping_start i e =
+  pub grouping_start : {it : Records} → (it.image.now ≡ s) × (it.next ≡ policy_head s 8) → Grouping s (replicate 1024 4294967295) it
+  grouping_start e =
       record {
         size = length-replicate {A = ℕ} 1024 4294967295;
-        visit = along_start s S 8 (omega arith) (omega arith) (Told p (replicate 1024 4294967295)) i e;
+        along = along_start s S.links Constraint _ e;
         whole = λ c q k lc lq lk _. ap (λ (v : ℕ). bit v k) (get_or-replicate {A = ℕ} 1024 (32 * c + q) 4294967295 0 (omega arith)) ∙ all_in_lem k lk;
       }
 
-  pub grouping_step : (l l' : List ℕ) (i class mask : ℕ) → (i ≡ 0 → ⊥) → Grouping p l i → (i' : ℕ) → i' ≡ (p.rec i).next → (p.rec i).a ≡ class → (p.rec i).mask ≡ mask
-      → length l' ≡ length l → Filled (λ q v. OnSide (get_or l (32 * class + q) 0) mask q v) l l' (32 * class) 0 32 → Grouping p l' i'
-  grouping_step l l' i class mask n G i' next ea em size F =
-      record {
-        size = size ∙ G.size;
-        visit = along_step s S 8 (omega arith) (omega arith) (Told p l') i n
-            (visit_map (policy_links p) 8 i (Told p l) (Told p l') (λ j h c q k lc lq lk b. h c q k lc lq lk (fewer l l' class mask F c q k lq b)) G.visit)
-            i' next (λ c q k lc lq lk b. told l l' class mask F (p.rec i).a (p.rec i).mask c q k ea em lq b);
-        whole = λ c q k lc lq lk T.
-            let o = along_kind s S 8 (omega arith) (omega arith) (Told p l) i n G.visit in
-            stays l l' class mask F (p.rec i).a (p.rec i).mask c q k ea em lq (T.same i o.low o.high o.kind) (G.whole c q k lc lq lk T);
-      }
+  module _ {l : List ℕ} {it it' : Records} {r : Record} (G : Grouping s l it) (g : GivesNext it r it') where
+    -- the constraint's class has a number below 32
+    pub few : r.a < 32
+    few =
+        let m = (meets s S 8 it.next (along_kind s S.links Constraint _ G.along g S.chains)).a.high in
+        omega (arith, (given_same s G.along.image g).a, S.range.classes.high)
 
-  pub grouping_end : {l : List ℕ} {i : ℕ} → i ≡ 0 → Grouping p l i → ConstraintGroups p l
-  grouping_end {l} {i} z G =
+    pub grouping_step : (l' : List ℕ) → length l' ≡ length l → Filled (λ q v. OnSide (get_or l (32 * r.a + q) 0) r.mask q v) l l' (32 * r.a) 0 32
+        → Grouping s l' it'
+    grouping_step l' size F =
+        let same = given_same s G.along.image g in
+        let x = record_of s it.next in
+        record {
+          size = size ∙ G.size;
+          along = along_step s S.links Constraint _
+              (along_map s Constraint (Told s l) (Told s l') (λ j h c q k lc lq lk b. h c q k lc lq lk (fewer l l' r.a r.mask F c q k lq b)) G.along)
+              g (λ c q k lc lq lk b. told l l' r.a r.mask F x.a x.mask c q k (sym same.a) (sym same.mask) lq b);
+          whole = λ c q k lc lq lk T.
+              let o = along_kind s S.links Constraint _ G.along g S.chains in
+              stays l l' r.a r.mask F x.a x.mask c q k (sym same.a) (sym same.mask) lq (T.same it.next o.low o.high o.kind) (G.whole c q k lc lq lk T);
+        }
+
+  pub grouping_end : {l : List ℕ} {it : Records} → Grouping s l it → it.next ≡ 0 → ConstraintGroups (policy_of s) l
+  grouping_end G z =
       record {
-        sound = λ c q k lc lq lk b. record { same = λ j lo hi kind. along_end s S 8 (omega arith) (omega arith) (Told p l) (subst (Visit (policy_links p) 8 (Told p l)) z G.visit) j (record { low = lo; high = hi; kind = kind }) c q k lc lq lk b };
+        sound = λ c q k lc lq lk b. record {
+          same = λ j lo hi kind. along_end s S.links Constraint _ S.chains G.along z j (record { low = lo; high = hi; kind = kind }) c q k lc lq lk b;
+        };
         whole = G.whole;
       }

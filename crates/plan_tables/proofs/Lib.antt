@@ -1,3 +1,4 @@
+pub mod FromFn
 pub mod Gathering
 pub mod SoundLaws
 pub mod MeaningLaws

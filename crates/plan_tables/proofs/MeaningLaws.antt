@@ -12,6 +12,8 @@ use Rattle.base.specs.Bits.{bit}
 use Rattle.base.proofs.BitLaws.{bit_zero, bit_pow}
 use Rattle.base.proofs.Numbers.{zeros}
 use Rattle.base.proofs.BoolLaws.{or_left, or_none, same_truth, true_or_false}
+use Rattle.policy_image.specs.declared.kinds.Kind.{Kind}
+use Rattle.policy_image.specs.declared.kinds.Kind.TheVariants.{Permissions, Flow, RoleType, UserRole, RoleChange, Constraint}
 use Rattle.policy_image.specs.declared.records.Record.{Record}
 use Rattle.policy_image.specs.Layout.{root_of}
 use Rattle.policy_image.specs.Policy.{Policy}
@@ -50,48 +52,48 @@ some_same p k f g e =
     go a b d h = let r = some_record p k a h in some_yes p k b r.0 r.1 (sym (d (p.rec r.0)) ∙ r.2)
 
 -- ---- a table that was empty has what was added
-module _ (p : Policy) (k way n : ℕ) (l : List ℕ) (G : Gathered p k way (replicate n 0) l) where
+module _ (p : Policy) (k : Kind) (way n : ℕ) (l : List ℕ) (G : Gathered p k way (replicate n 0) l) where
   only_added : (t q : ℕ) → bit (get_or l t 0) q ≡ added p k way t q
   only_added t q =
       G.at t q ∙ or_none (added p k way t q) (bit (get_or (replicate n 0) t 0) q) (ap (λ (v : ℕ). bit v q) (zeros n t) ∙ bit_zero q)
 
 module _ (p : Policy) (way n : ℕ) (l : List ℕ) where
-  pub gamma_means : Gathered p 2 way (replicate n 0) l → GammaMasks p l
+  pub gamma_means : Gathered p Permissions way (replicate n 0) l → GammaMasks p l
   unfolding Γ
-  gamma_means G = record { at = only_added p 2 way n l G }
+  gamma_means G = record { at = only_added p Permissions way n l G }
 
-  pub flow_means : Gathered p 3 way (replicate n 0) l → FlowMasks p way l
+  pub flow_means : Gathered p Flow way (replicate n 0) l → FlowMasks p way l
   flow_means G =
       record {
-        at = λ c q. only_added p 3 way n l G c q
+        at = λ c q. only_added p Flow way n l G c q
             ∙ some_same p 3 _ _ (λ r. bit_where (eqb r.a c) (eqb r.b way || eqb r.b 3) r.mask q);
       }
 
-  pub constraint_means : Gathered p 8 way (replicate n 0) l → ConstraintMasks p l
-  constraint_means G = record { at = only_added p 8 way n l G }
+  pub constraint_means : Gathered p Constraint way (replicate n 0) l → ConstraintMasks p l
+  constraint_means G = record { at = only_added p Constraint way n l G }
 
 -- ---- a table that had role 1
 module _ (p : Policy) (way : ℕ) (l : List ℕ) where
   -- every user holds role 1
-  pub users_mean : Gathered p 6 way (replicate user_entries 2) l → UserTable p l
+  pub users_mean : Gathered p UserRole way (replicate user_entries 2) l → UserTable p l
   unfolding μ
   users_mean G =
       record {
         at = λ u role h.
             G.at u role
-            ∙ ap (λ (b : Bool). added p 6 way u role || b) (ap (λ (v : ℕ). bit v role) (get_or-replicate user_entries u 2 0 h) ∙ bit_object role)
+            ∙ ap (λ (b : Bool). added p UserRole way u role || b) (ap (λ (v : ℕ). bit v role) (get_or-replicate user_entries u 2 0 h) ∙ bit_object role)
             ∙ ap (λ (b : Bool). b || eqb role 1)
             (some_same p 6 _ _ (λ r. ap (λ (b : Bool). eqb r.a u && b) (bit_pow r.b role)));
       }
 
   -- role 1 holds what is no domain
-  pub roles_mean : (d o : List ℕ) → DomainTable p d → ObjectRoles d o → Gathered p 5 way o l → RoleTable p l
+  pub roles_mean : (d o : List ℕ) → DomainTable p d → ObjectRoles d o → Gathered p RoleType way o l → RoleTable p l
   unfolding ρ
   roles_mean d o D O G =
       record {
         at = λ t role h.
             G.at t role
-            ∙ ap (λ (b : Bool). added p 5 way t role || b)
+            ∙ ap (λ (b : Bool). added p RoleType way t role || b)
             (O.at t role h ∙ ap (λ (b : Bool). eqb role 1 && not b) (D.at t))
             ∙ ap (λ (b : Bool). b || (eqb role 1 && not (domain p t)))
             (some_same p 5 _ _
@@ -99,7 +101,7 @@ module _ (p : Policy) (way : ℕ) (l : List ℕ) where
       }
 
 -- ---- a table that had each role's own bit
-pub changes_mean : (p : Policy) (way : ℕ) (o l : List ℕ) → OwnRoles o → Gathered p 7 way o l → RoleChanges p l
+pub changes_mean : (p : Policy) (way : ℕ) (o l : List ℕ) → OwnRoles o → Gathered p RoleChange way o l → RoleChanges p l
 unfolding role_change
 changes_mean p way o l O G =
     record {

@@ -6,8 +6,8 @@ ghost use Rattle.policy_check.specs.Inner.Sound.{Sound};
 ghost use Rattle.plan_tables.specs.Inner.Groups.{OnSide, ConstraintGroups};
 
 use base::bits::{has_bit, without};
-use policy_image::kinds::CONSTRAINTS;
-use policy_image::records::{head_at, record_at};
+use policy_image::kinds::Kind;
+use policy_links::records::records_of;
 
 // A table by events has an entry for each permission of each class number below 32.
 pub const EVENTS: usize = 1024;
@@ -20,9 +20,10 @@ fn side(group: u32, mask: u32, q: u32) -> u32
     ensures { OnSide group mask q result }
 {
     if has_bit(mask, q) {
-        return group & mask;
+        group & mask
+    } else {
+        without(group, mask)
     }
-    without(group, mask)
 }
 
 // Tells the permissions of a class that are in the mask from the others.
@@ -31,11 +32,9 @@ fn tell_apart(groups: &mut [u32], class: u32, mask: u32)
     ensures { Filled (λ q v. OnSide (get_or groups.old (32 * class + q) 0) mask q v) groups.old groups.new (32 * class) 0 32 }
 {
     let first = (32 * class) as usize;
-    let mut q: u32 = 0;
-    while q < 32 {
+    for q in 0..32 {
         let at = first + (q as usize);
         groups[at] = side(groups[at], mask, q);
-        q += 1;
     }
 }
 
@@ -45,11 +44,8 @@ pub fn constraint_groups(policy: &[u8]) -> [u32; EVENTS]
     ensures { ConstraintGroups (policy_of policy.now) result }
 {
     let mut groups = [ALL; EVENTS];
-    let mut i = head_at(policy, CONSTRAINTS);
-    while i != 0 {
-        let r = record_at(policy, i);
+    for r in records_of(policy, Kind::Constraint) {
         tell_apart(&mut groups, r.a, r.mask);
-        i = r.next;
     }
     groups
 }

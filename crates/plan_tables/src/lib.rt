@@ -13,8 +13,9 @@ ghost use Rattle.plan_tables.specs.Inner.Tables.{GammaMasks, FlowMasks, Constrai
 
 use crate::gather::gather;
 use base::bits::{has_bit, with_bit};
-use policy_image::kinds::{CONSTRAINT, FLOW, PERMISSIONS, ROLE_CHANGE, ROLE_TYPE, USER_ROLE};
+use policy_image::kinds::Kind;
 use policy_sources::domain_table;
+use std::array;
 
 // How many entries a table by classes, by types, by roles or users has: one more than the largest number, for entry 0.
 pub use policy_sources::TYPES;
@@ -34,7 +35,7 @@ pub fn gamma_masks(policy: &[u8]) -> [u32; CLASSES]
     ensures { GammaMasks (policy_of policy.now) result }
 {
     let mut masks = [0u32; CLASSES];
-    gather(policy, PERMISSIONS, 0, &mut masks);
+    gather(policy, Kind::Permissions, 0, &mut masks);
     masks
 }
 
@@ -44,7 +45,7 @@ pub fn flow_masks(policy: &[u8], way: u32) -> [u32; CLASSES]
     ensures { FlowMasks (policy_of policy.now) way result }
 {
     let mut masks = [0u32; CLASSES];
-    gather(policy, FLOW, way, &mut masks);
+    gather(policy, Kind::Flow, way, &mut masks);
     masks
 }
 
@@ -54,7 +55,7 @@ pub fn constraint_masks(policy: &[u8]) -> [u32; CLASSES]
     ensures { ConstraintMasks (policy_of policy.now) result }
 {
     let mut masks = [0u32; CLASSES];
-    gather(policy, CONSTRAINT, 0, &mut masks);
+    gather(policy, Kind::Constraint, 0, &mut masks);
     masks
 }
 
@@ -69,13 +70,7 @@ fn object_roles_of(domain: bool) -> u32
 fn object_roles(domains: &[u32; TYPES]) -> [u32; TYPES]
     ensures { ObjectRoles domains.now result }
 {
-    let mut roles = [0u32; TYPES];
-    let mut t = 0;
-    while t < TYPES {
-        roles[t] = object_roles_of(has_bit(domains[t], 0));
-        t += 1;
-    }
-    roles
+    array::from_fn(|t| object_roles_of(has_bit(domains[t], 0)))
 }
 
 // For each type the roles that may hold it.
@@ -85,7 +80,7 @@ pub fn role_table(policy: &[u8]) -> [u32; TYPES]
 {
     let domains = domain_table(policy);
     let mut roles = object_roles(&domains);
-    gather(policy, ROLE_TYPE, 0, &mut roles);
+    gather(policy, Kind::RoleType, 0, &mut roles);
     roles
 }
 
@@ -95,7 +90,7 @@ pub fn user_table(policy: &[u8]) -> [u32; USERS]
     ensures { UserTable (policy_of policy.now) result }
 {
     let mut roles = [OBJECT_ROLE; USERS];
-    gather(policy, USER_ROLE, 0, &mut roles);
+    gather(policy, Kind::UserRole, 0, &mut roles);
     roles
 }
 
@@ -103,13 +98,7 @@ pub fn user_table(policy: &[u8]) -> [u32; USERS]
 fn own_roles() -> [u32; ROLES]
     ensures { OwnRoles result }
 {
-    let mut roles = [0u32; ROLES];
-    let mut role = 0;
-    while role < ROLES {
-        roles[role] = with_bit(0, role as u32);
-        role += 1;
-    }
-    roles
+    array::from_fn(|role| with_bit(0, role as u32))
 }
 
 // For each role that role and those to which it may change.
@@ -118,6 +107,6 @@ pub fn role_changes(policy: &[u8]) -> [u32; ROLES]
     ensures { RoleChanges (policy_of policy.now) result }
 {
     let mut changes = own_roles();
-    gather(policy, ROLE_CHANGE, 0, &mut changes);
+    gather(policy, Kind::RoleChange, 0, &mut changes);
     changes
 }

@@ -1,4 +1,3 @@
 pub mod AnswerLaws
-pub mod Along
 pub mod Tests
 pub mod Cases

@@ -26,8 +26,7 @@ use Rattle.policy_links.specs.Chains.{LinksRise, ChainsByKind}
 use Rattle.policy_links.proofs.Walk.{Walk, walk_start, walk_step, walk_wrong, walk_end, walk_zero}
 use Rattle.policy_fields.specs.declared.Limits.{Limits}
 use Rattle.policy_fields.specs.Fields.{limits_of, WithinLimits, FieldsInRange}
-use Rattle.policy_expressions.specs.declared.Use.{Use}
-use Rattle.policy_expressions.specs.declared.Use.TheVariants.{Nothing, Node}
+use Rattle.std.specs.Prelude.{Option, None, Some}
 use Rattle.policy_expressions.specs.Nodes.{UsedWell, NodesInOrder}
 use Rattle.policy_expressions.proofs.Marks.{used_at, uses_at, Marks, marks_start_lem, marks_nothing, marks_node, marks_twice, marks_end}
 use Rattle.policy_sources.specs.Sources.{domain, AllowsFromDomains}
@@ -152,30 +151,30 @@ dec_well p i κ m =
     ((dec_le 1 m both dec_le m p.size both dec_eq (p.rec m).kind 9) both if_nine κ i m)
 
 -- the slot at q against the marks: no node; or a good one that is free, which is then marked
-abbrev pub used_b : Policy → ℕ → (ℕ → ℕ) → Use → Bool
-used_b p q used Nothing = true
-used_b p q used (Node n) = well_b p (q / 2) (p.rec (q / 2)).kind n && eqb (used n) 0
+abbrev pub used_b : Policy → ℕ → (ℕ → ℕ) → Option ℕ → Bool
+used_b p q used None = true
+used_b p q used (Some n) = well_b p (q / 2) (p.rec (q / 2)).kind n && eqb (used n) 0
 
-abbrev pub marked : (ℕ → ℕ) → Use → ℕ → ℕ
-marked used Nothing = used
-marked used (Node n) = moved used n 1
+abbrev pub marked : (ℕ → ℕ) → Option ℕ → ℕ → ℕ
+marked used None = used
+marked used (Some n) = moved used n 1
 
 abbrev pub marks_b : Policy → ℕ → ℕ → (ℕ → ℕ) → Bool
 marks_b p zero q used = true
 marks_b p (suc m) q used = used_b p q used (used_at p q) && marks_b p m (q + 1) (marked used (used_at p q))
 
-mark_step : (p : Policy) (q : ℕ) (used : ℕ → ℕ) → 2 ≤ q → q < 2 * p.size + 2 → Marks p q used → (rest : Bool) (t : Use) → used_at p q ≡ t
+mark_step : (p : Policy) (q : ℕ) (used : ℕ → ℕ) → 2 ≤ q → q < 2 * p.size + 2 → Marks p q used → (rest : Bool) (t : Option ℕ) → used_at p q ≡ t
     → (Marks p (q + 1) (marked used t) → Says rest (NodesInOrder p)) → Says (used_b p q used t && rest) (NodesInOrder p)
-mark_step p q used two high w rest Nothing e k = record { it = (k (marks_nothing p q used w two e)).it }
-mark_step p q used two high w rest (Node n) e k = record { it = go (used_b p q used (Node n)) refl }
+mark_step p q used two high w rest None e k = record { it = (k (marks_nothing p q used w two e)).it }
+mark_step p q used two high w rest (Some n) e k = record { it = go (used_b p q used (Some n)) refl }
   where
-    test : Says (used_b p q used (Node n)) (UsedWell p (q / 2) (p.rec (q / 2)).kind n × (used n ≡ 0))
+    test : Says (used_b p q used (Some n)) (UsedWell p (q / 2) (p.rec (q / 2)).kind n × (used n ≡ 0))
     test = dec_well p (q / 2) (p.rec (q / 2)).kind n both dec_eq (used n) 0
 
-    go : (t : Bool) → used_b p q used (Node n) ≡ t → Decides (t && rest) (NodesInOrder p)
+    go : (t : Bool) → used_b p q used (Some n) ≡ t → Decides (t && rest) (NodesInOrder p)
     go true d =
         let h = says_yes test d in
-        (k (marks_node p q used w two (marked used (Node n)) n e h.0 h.1
+        (k (marks_node p q used w two (marked used (Some n)) n e h.0 h.1
         (λ z. let o : moved used n 1 n ≡ 1 = moved_at used n 1 in let y : ◌≡◌ {A = ℕ} 1 0 = sym o ∙ z in omega (arith, y))
         (λ m x. moved_off used n 1 m x))).it
     go false d = λ N. ⊎_elim

@@ -1,47 +1,34 @@
 // Questions 1 to 6 and 14 of a policy image, in order.
 #![tactic(auto)]
 
-ghost use Rattle.std.specs.Prelude.{◌≡◌};
-ghost use Rattle.policy_check.specs.Inner.Answer.{PolicyAnswer, refusal_of};
+ghost use Rattle.policy_check.specs.Inner.Answer.{PolicyAnswer};
 
+use base::refusals::Refusal;
 use policy_expressions::nodes_in_order;
 use policy_fields::fields_in_range;
-use policy_image::counts::{Checked, check_counts};
+use policy_image::counts::{Counts, check_counts};
 use policy_links::{chains_by_kind, links_rise};
 use policy_sources::allows_from_domains;
 
-// Accepted with the image's counts, or refused with the number of the first question whose answer is no.
-pub fn check(image: &[u8]) -> Checked
+// The image's counts, or the refusal of the first question whose answer is no.
+pub fn check(image: &[u8]) -> Result<Counts, Refusal>
     ensures { PolicyAnswer image.now result }
 {
-    let counted = check_counts(image);
-    let Checked::Accepted(counts) = counted else {
-        return counted;
-    };
+    let counts = check_counts(image)?;
     if !links_rise(image) {
-        return Checked::Refused(3);
+        return Err(Refusal::PolicyLinks);
     }
     if !chains_by_kind(image, counts) {
-        return Checked::Refused(4);
+        return Err(Refusal::PolicyChains);
     }
     if !fields_in_range(image, counts) {
-        return Checked::Refused(5);
+        return Err(Refusal::PolicyFields);
     }
     if !nodes_in_order(image, counts) {
-        return Checked::Refused(6);
+        return Err(Refusal::PolicyNodes);
     }
     if !allows_from_domains(image) {
-        return Checked::Refused(14);
+        return Err(Refusal::PolicySources);
     }
-    Checked::Accepted(counts)
-}
-
-// The number of a refusal, or 0.
-pub fn refusal(checked: Checked) -> u32
-    ensures { result ≡ refusal_of checked }
-{
-    match checked {
-        Checked::Accepted(_) => 0,
-        Checked::Refused(k) => k,
-    }
+    Ok(counts)
 }

@@ -8,22 +8,22 @@ use Rattle.base.proofs.Numbers.{split_eq, split_le}
 use Rattle.policy_image.specs.declared.records.Record.{Record}
 use Rattle.policy_image.specs.Layout.{root_of, left_of, right_of}
 use Rattle.policy_image.specs.Policy.{Policy}
-use Rattle.policy_expressions.specs.declared.Use.TheVariants.{Nothing, Node}
+use Rattle.std.specs.Prelude.{None, Some}
 use Rattle.policy_expressions.specs.Nodes.{use_of, Uses, IsNode, NodesInOrder}
 
-pub use_left : (r : Record) → r.kind ≡ 9 → 1 ≤ r.a → r.a ≤ 3 → use_of r 0 ≡ Node (left_of r)
+pub use_left : (r : Record) → r.kind ≡ 9 → 1 ≤ r.a → r.a ≤ 3 → use_of r 0 ≡ Some (left_of r)
 unfolding use_of
 use_left r k a b = simp (ne_eqb r.kind 8 (omega arith), eq-eqb r.kind 9 k, le-leb 1 r.a a, le-leb r.a 3 b)
 
-pub use_right : (r : Record) → r.kind ≡ 9 → 2 ≤ r.a → r.a ≤ 3 → use_of r 1 ≡ Node (right_of r)
+pub use_right : (r : Record) → r.kind ≡ 9 → 2 ≤ r.a → r.a ≤ 3 → use_of r 1 ≡ Some (right_of r)
 unfolding use_of
 use_right r k a b = simp (eq-eqb r.kind 9 k, le-leb 2 r.a a, le-leb r.a 3 b)
 
-pub use_root : (r : Record) → r.kind ≡ 8 → use_of r 0 ≡ Node (root_of r)
+pub use_root : (r : Record) → r.kind ≡ 8 → use_of r 0 ≡ Some (root_of r)
 unfolding use_of
 use_root r k = simp (eq-eqb r.kind 8 k)
 
-pub use_none : (r : Record) → (r.kind ≡ 8 → ⊥) → (r.kind ≡ 9 → 1 ≤ r.a → r.a ≤ 3 → ⊥) → use_of r 0 ≡ Nothing
+pub use_none : (r : Record) → (r.kind ≡ 8 → ⊥) → (r.kind ≡ 9 → 1 ≤ r.a → r.a ≤ 3 → ⊥) → use_of r 0 ≡ None
 unfolding use_of
 use_none r n h =
     ⊎_elim
@@ -33,7 +33,7 @@ use_none r n h =
     (λ k. simp (ne_eqb r.kind 8 n, ne_eqb r.kind 9 k))
     (split_eq r.kind 9)
 
-pub use_none_right : (r : Record) → (r.kind ≡ 9 → 2 ≤ r.a → r.a ≤ 3 → ⊥) → use_of r 1 ≡ Nothing
+pub use_none_right : (r : Record) → (r.kind ≡ 9 → 2 ≤ r.a → r.a ≤ 3 → ⊥) → use_of r 1 ≡ None
 unfolding use_of
 use_none_right r h =
     ⊎_elim

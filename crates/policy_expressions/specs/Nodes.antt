@@ -1,13 +1,11 @@
 -- Question 6 of a policy (paper 01): "Are root, left and right, where used, kind 9 records, children lower than their node,
 -- no node used twice?"
-use Rattle.std.specs.Prelude.{ℕ, zero, suc, ◌≤◌, ◌<◌, ◌≡◌, Bool, true, false, ◌&&◌, eqb, leb}
+use Rattle.std.specs.Prelude.{ℕ, zero, suc, ◌≤◌, ◌<◌, ◌≡◌, Bool, true, false, ◌&&◌, eqb, leb, Option, None, Some}
 use Rattle.policy_image.specs.declared.records.Record.{Record}
 use Rattle.policy_image.specs.Layout.{root_of, left_of, right_of}
 use Rattle.policy_image.specs.Policy.{Policy}
-use Rattle.policy_expressions.specs.declared.Use.{Use}
-use Rattle.policy_expressions.specs.declared.Use.TheVariants.{Nothing, Node}
 
-abbrev pub pick : Bool → Use → Use → Use
+abbrev pub pick : Bool → Option ℕ → Option ℕ → Option ℕ
 pick true a b = a
 pick false a b = b
 
@@ -22,16 +20,16 @@ abbrev pub has_right : Record → Bool
 has_right r = eqb r.kind 9 && (leb 2 r.a && leb r.a 3)
 
 -- a record may use a node at two places: its root or its left at place 0, its right at place 1
-unfoldable pub use_of : Record → ℕ → Use
-use_of r zero = pick (has_root r) (Node (root_of r)) (pick (has_left r) (Node (left_of r)) Nothing)
-use_of r (suc zero) = pick (has_right r) (Node (right_of r)) Nothing
-use_of r (suc (suc s)) = Nothing
+unfoldable pub use_of : Record → ℕ → Option ℕ
+use_of r zero = pick (has_root r) (Some (root_of r)) (pick (has_left r) (Some (left_of r)) None)
+use_of r (suc zero) = pick (has_right r) (Some (right_of r)) None
+use_of r (suc (suc s)) = None
 
 -- record i of the policy uses node n at its place s, whether or not record i is used itself
 pub record Uses (p : Policy) (i s n : ℕ) : Type 0 where
   pub low : 1 ≤ i
   pub high : i ≤ p.size
-  pub at : use_of (p.rec i) s ≡ Node n
+  pub at : use_of (p.rec i) s ≡ Some n
 
 pub record IsNode (p : Policy) (n : ℕ) : Type 0 where
   pub low : 1 ≤ n

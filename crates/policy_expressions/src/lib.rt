@@ -8,57 +8,45 @@ ghost use Rattle.policy_image.specs.Inner.Reading.{Counted};
 ghost use Rattle.policy_expressions.specs.Nodes.{use_of, UsedWell, NodesInOrder};
 
 use policy_image::counts::Counts;
-use policy_image::kinds::{AND, CONSTRAINT, NODE, NOT, OR};
+use policy_image::kinds::{AND, Kind, NOT, OR};
 use policy_image::records::{Record, record_at};
 
-// What a record uses at one of its two places.
-#[derive(Clone, Copy)]
-pub enum Use {
-    Nothing,
-    Node(usize),
-}
-
-// What a record uses at place 0: a constraint its root, a node its left.
-fn first_use(r: Record) -> Use
+// The node that a record uses at place 0, if any: a constraint its root, an expression node its left.
+fn first_use(r: Record) -> Option<usize>
     requires { (r.d < 256) × (r.e < 256) }
     ensures { result ≡ use_of r 0 }
 {
-    let kind = r.kind;
-    let op = r.a;
-    match kind {
-        CONSTRAINT => Use::Node((r.d + 256 * r.e) as usize),
-        NODE => match op {
-            NOT..=OR => Use::Node((r.mask % 65536) as usize),
-            _ => Use::Nothing,
-        },
-        _ => Use::Nothing,
+    if r.is(Kind::Constraint) {
+        return Some((r.d + 256 * r.e) as usize);
+    }
+    if !r.is(Kind::Node) {
+        return None;
+    }
+    match r.a {
+        NOT..=OR => Some((r.mask % 65536) as usize),
+        _ => None,
     }
 }
 
-// What a record uses at place 1: a node its right.
-fn second_use(r: Record) -> Use
+// The node that a record uses at place 1, if any: an expression node its right.
+fn second_use(r: Record) -> Option<usize>
     ensures { result ≡ use_of r 1 }
 {
-    let kind = r.kind;
-    let op = r.a;
-    match kind {
-        NODE => match op {
-            AND..=OR => Use::Node((r.mask / 65536) as usize),
-            _ => Use::Nothing,
-        },
-        _ => Use::Nothing,
+    if !r.is(Kind::Node) {
+        return None;
+    }
+    match r.a {
+        AND..=OR => Some((r.mask / 65536) as usize),
+        _ => None,
     }
 }
 
-// What a record uses at place s.
-fn use_at(r: Record, s: usize) -> Use
+// The node that a record uses at place s, if any.
+fn use_at(r: Record, s: usize) -> Option<usize>
     requires { (r.d < 256) × (r.e < 256) × (s < 2) }
     ensures { result ≡ use_of r s }
 {
-    if s == 0 {
-        return first_use(r);
-    }
-    second_use(r)
+    if s == 0 { first_use(r) } else { second_use(r) }
 }
 
 // Whether what record i, of the given kind, uses at m is a node, and below i where record i is a node itself.
@@ -66,21 +54,10 @@ fn used_well(image: &[u8], counts: Counts, i: usize, kind: u32, m: usize) -> boo
     requires { Counted image.now counts }
     ensures { Decides result (UsedWell (policy_of image.now) i kind m) }
 {
-    if m < 1 {
-        return false;
-    }
-    if counts.records < m {
-        return false;
-    }
-    if record_at(image, m).kind != NODE {
-        return false;
-    }
-    if kind == NODE {
-        if i <= m {
-            return false;
-        }
-    }
-    true
+    1 <= m
+        && m <= counts.records
+        && record_at(image, m).is(Kind::Node)
+        && (kind != Kind::Node.number() || m < i)
 }
 
 // Question 6. The places of record i are numbered 2 * i and 2 * i + 1; used[m] is 1 where an earlier place uses node m.
@@ -90,12 +67,10 @@ pub fn nodes_in_order(image: &[u8], counts: Counts) -> bool
 {
     let n = counts.records;
     let mut used = [0u8; 4096];
-    let mut q = 2;
-    while q < 2 * n + 2 {
+    for q in 2..2 * n + 2 {
         let i = q / 2;
         let r = record_at(image, i);
-        let t = use_at(r, q % 2);
-        if let Use::Node(m) = t {
+        if let Some(m) = use_at(r, q % 2) {
             if !used_well(image, counts, i, r.kind, m) {
                 return false;
             }
@@ -104,7 +79,6 @@ pub fn nodes_in_order(image: &[u8], counts: Counts) -> bool
             }
             used[m] = 1;
         }
-        q += 1;
     }
     true
 }

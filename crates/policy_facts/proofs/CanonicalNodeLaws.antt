@@ -5,7 +5,7 @@ use mathlib.Core.Logic.{⊎_elim}
 use native.Mathlib.Omega.{arith}
 use Rattle.policy_image.specs.declared.records.Record.{Record}
 use Rattle.policy_image.specs.Policy.{Policy}
-use Rattle.policy_expressions.specs.declared.Use.TheVariants.{Nothing, Node}
+use Rattle.std.specs.Prelude.{None, Some}
 use Rattle.policy_expressions.specs.Nodes.{use_of, NodesInOrder}
 use Rattle.policy_expressions.proofs.UseLaws.{use_none, use_none_right}
 use Rattle.policy_lists.specs.Lists.{record_in, link_in}
@@ -13,18 +13,18 @@ use Rattle.policy_lists.proofs.StemNodeLaws.{use_any_next, stem_well, stem_once}
 use Rattle.policy_facts.specs.Canonical.{fact_record, canonical_node, canonical_list, canonical_of}
 use Rattle.policy_facts.proofs.CanonicalStemLaws.{FactRecord, canonical_begin, canonical_stems, canonical_is, canonical_nine}
 
-apart : {m : ℕ} → Nothing ≡ Node m → ⊥
+apart : {m : ℕ} → None ≡ Some m → ⊥
 apart e = let o : ◌≡◌ {A = ℕ} 0 1 = cc in omega arith
 
 -- a record of kinds 1 to 7 uses no node
-no_use : (r : Record) → r.kind ≤ 7 → (s m : ℕ) → use_of r s ≡ Node m → ⊥
+no_use : (r : Record) → r.kind ≤ 7 → (s m : ℕ) → use_of r s ≡ Some m → ⊥
 unfolding use_of
 no_use r h zero m e = apart (sym (use_none r (λ k. let z : ⊥ = omega arith in z) (λ k a b. let z : ⊥ = omega arith in z)) ∙ e)
 no_use r h (suc zero) m e = apart (sym (use_none_right r (λ k a b. let z : ⊥ = omega arith in z)) ∙ e)
 no_use r h (suc (suc s)) m e = apart e
 
 module _ (p : Policy) where
-  fact_uses : (i s m : ℕ) → FactRecord p i → use_of ((canonical_of p).rec i) s ≡ Node m → ⊥
+  fact_uses : (i s m : ℕ) → FactRecord p i → use_of ((canonical_of p).rec i) s ≡ Some m → ⊥
   fact_uses i s m F e =
       no_use (fact_record p F.kind F.key) F.range.high s m
       (ap (λ (r : Record). use_of r s) (sym F.same) ∙ sym (use_any_next (link_in (canonical_list p) i) (record_in (canonical_list p) i) s) ∙ e)

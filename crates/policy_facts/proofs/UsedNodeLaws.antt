@@ -7,7 +7,7 @@ use Rattle.base.proofs.BoolLaws.{true_or_false}
 use Rattle.policy_image.specs.declared.records.Record.{Record}
 use Rattle.policy_image.specs.Layout.{root_of, left_of, right_of}
 use Rattle.policy_image.specs.Policy.{Policy}
-use Rattle.policy_expressions.specs.declared.Use.TheVariants.{Node}
+use Rattle.std.specs.Prelude.{Some}
 use Rattle.policy_expressions.specs.Nodes.{has_root, has_left, has_right, use_of, IsNode, NodesInOrder}
 use Rattle.policy_lists.specs.Joined.{renumbered}
 use Rattle.policy_lists.proofs.RenumberUseLaws.{use_first, use_second, no_root_left, renumbered_agrees}
@@ -16,7 +16,7 @@ module _ (p : Policy) (N : NodesInOrder p) (i : ℕ) (low : 1 ≤ i) (high : i �
   abbrev r : Record
   r = p.rec i
 
-  used : (s n : ℕ) → use_of r s ≡ Node n → IsNode p n
+  used : (s n : ℕ) → use_of r s ≡ Some n → IsNode p n
   used s n e = (N.well i s n (record { low = low; high = high; at = e })).node
 
   used_root : has_root r ≡ true → IsNode p (root_of r)

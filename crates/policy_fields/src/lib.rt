@@ -10,8 +10,7 @@ ghost use Rattle.policy_fields.specs.Fields.{limits, range, node_limits, limits_
 use base::ranges::within;
 use policy_image::counts::Counts;
 use policy_image::kinds::{
-    ALLOW, AND, CONSTRAINT, DOMAIN, FLOW, NODE, NOT, OR, PERMISSIONS, ROLE_1, ROLE_2, ROLE_CHANGE,
-    ROLE_TYPE, SAME_TYPE, SAME_USER, TYPE_1, TYPE_2, USER_1, USER_2, USER_ROLE,
+    AND, Kind, NOT, OR, ROLE_1, ROLE_2, SAME_TYPE, SAME_USER, TYPE_1, TYPE_2, USER_1, USER_2,
 };
 use policy_image::records::{Record, record_at};
 
@@ -66,13 +65,13 @@ fn node_limits(n: Counts, op: u32) -> Limits
 fn allow_limits(n: Counts) -> Limits
     ensures { result ≡ limits_of n 4 0 }
 {
-    let class = Range {
-        low: 1,
-        high: n.classes,
-    };
-    let mut l = plain(n.types, 0, n.types, 4294967295);
-    l.c = class;
-    l
+    Limits {
+        c: Range {
+            low: 1,
+            high: n.classes,
+        },
+        ..plain(n.types, 0, n.types, 4294967295)
+    }
 }
 
 // The limits of a constraint: d and e are its root, which question 6 judges.
@@ -80,27 +79,30 @@ fn constraint_limits(n: Counts) -> Limits
     ensures { result ≡ limits_of n 8 0 }
 {
     let byte = Range { low: 0, high: 255 };
-    let mut l = plain(n.classes, 0, 0, 4294967295);
-    l.d = byte;
-    l.e = byte;
-    l
+    Limits {
+        d: byte,
+        e: byte,
+        ..plain(n.classes, 0, 0, 4294967295)
+    }
 }
 
 // The limits of a record, by its kind; op is its field a.
 fn kind_limits(n: Counts, kind: u32, op: u32) -> Limits
     ensures { result ≡ limits_of n kind op }
 {
+    let Some(kind) = Kind::of(kind) else {
+        return plain(0, 0, 0, 0);
+    };
     match kind {
-        DOMAIN => plain(n.types, 0, 0, 0),
-        PERMISSIONS => plain(n.classes, 0, 0, 4294967295),
-        FLOW => plain(n.classes, 1, 3, 4294967295),
-        ALLOW => allow_limits(n),
-        ROLE_TYPE => plain(n.roles, 1, n.types, 0),
-        USER_ROLE => plain(n.users, 1, n.roles, 0),
-        ROLE_CHANGE => plain(n.roles, 1, n.roles, 0),
-        CONSTRAINT => constraint_limits(n),
-        NODE => node_limits(n, op),
-        _ => plain(0, 0, 0, 0),
+        Kind::Domain => plain(n.types, 0, 0, 0),
+        Kind::Permissions => plain(n.classes, 0, 0, 4294967295),
+        Kind::Flow => plain(n.classes, 1, 3, 4294967295),
+        Kind::Allow => allow_limits(n),
+        Kind::RoleType => plain(n.roles, 1, n.types, 0),
+        Kind::UserRole => plain(n.users, 1, n.roles, 0),
+        Kind::RoleChange => plain(n.roles, 1, n.roles, 0),
+        Kind::Constraint => constraint_limits(n),
+        Kind::Node => node_limits(n, op),
     }
 }
 
@@ -108,22 +110,12 @@ fn kind_limits(n: Counts, kind: u32, op: u32) -> Limits
 fn record_in_range(l: Limits, r: Record) -> bool
     ensures { Decides result (WithinLimits l r) }
 {
-    if !within(l.a.low, l.a.high, r.a) {
-        return false;
-    }
-    if !within(l.b.low, l.b.high, r.b) {
-        return false;
-    }
-    if !within(l.c.low, l.c.high, r.c) {
-        return false;
-    }
-    if !within(l.d.low, l.d.high, r.d) {
-        return false;
-    }
-    if !within(l.e.low, l.e.high, r.e) {
-        return false;
-    }
-    within(l.mask.low, l.mask.high, r.mask)
+    within(l.a.low, l.a.high, r.a)
+        && within(l.b.low, l.b.high, r.b)
+        && within(l.c.low, l.c.high, r.c)
+        && within(l.d.low, l.d.high, r.d)
+        && within(l.e.low, l.e.high, r.e)
+        && within(l.mask.low, l.mask.high, r.mask)
 }
 
 // Question 5.
@@ -132,13 +124,11 @@ pub fn fields_in_range(image: &[u8], counts: Counts) -> bool
     ensures { Decides result (FieldsInRange (policy_of image.now)) }
 {
     let n = counts.records;
-    let mut i = 1;
-    while i <= n {
+    for i in 1..=n {
         let r = record_at(image, i);
         if !record_in_range(kind_limits(counts, r.kind, r.a), r) {
             return false;
         }
-        i += 1;
     }
     true
 }

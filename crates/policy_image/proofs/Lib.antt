@@ -3,3 +3,4 @@ pub mod LayoutLaws
 pub mod SizeLaws
 pub mod EncodingLaws
 pub mod Cases
+pub mod KindRange

@@ -4,3 +4,4 @@ pub mod Answer
 pub mod Counting
 pub mod Sizes
 pub mod Writable
+pub mod Kinds

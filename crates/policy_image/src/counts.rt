@@ -3,8 +3,9 @@ ghost use Rattle.base.specs.Inner.Decides.{Decides};
 ghost use Rattle.policy_image.specs.Counts.{CountsInRange};
 ghost use Rattle.policy_image.specs.Inner.Answer.{CountsAnswer};
 
-use base::bytes::{u16_at, wide};
+use base::bytes::u16_at;
 use base::ranges::within;
+use base::refusals::Refusal;
 
 // The bytes before the records, those of a record, and how many records there may be.
 pub const HEADER: usize = 24;
@@ -23,53 +24,40 @@ pub struct Counts {
     pub records: usize,
 }
 
-// The answer of a check of a policy image: accepted with its counts, or refused with a question's number.
-#[derive(Clone, Copy)]
-pub enum Checked {
-    Accepted(Counts),
-    Refused(u32),
-}
-
 // Question 2.
 fn counts_in_range(c: Counts) -> bool
     ensures { Decides result (CountsInRange c) }
 {
-    if !within(1, 255, c.types) {
-        return false;
-    }
-    if !within(1, 15, c.roles) {
-        return false;
-    }
-    if !within(1, 15, c.users) {
-        return false;
-    }
-    within(1, 31, c.classes)
+    within(1, 255, c.types)
+        && within(1, 15, c.roles)
+        && within(1, 15, c.users)
+        && within(1, 31, c.classes)
 }
 
-// Questions 1 and 2.
-pub fn check_counts(image: &[u8]) -> Checked
+// The counts of an image that passes questions 1 and 2.
+pub fn check_counts(image: &[u8]) -> Result<Counts, Refusal>
     ensures { CountsAnswer image.now result }
 {
     if image.len() < HEADER {
-        return Checked::Refused(1);
+        return Err(Refusal::PolicyLength);
     }
     let n = u16_at(image, 4) as usize;
     if MOST_RECORDS < n {
-        return Checked::Refused(1);
+        return Err(Refusal::PolicyLength);
     }
     if image.len() != HEADER + RECORD * n {
-        return Checked::Refused(1);
+        return Err(Refusal::PolicyLength);
     }
     let counts = Counts {
-        types: wide(image[0]),
-        roles: wide(image[1]),
-        users: wide(image[2]),
-        classes: wide(image[3]),
+        types: u32::from(image[0]),
+        roles: u32::from(image[1]),
+        users: u32::from(image[2]),
+        classes: u32::from(image[3]),
         records: n,
     };
     if counts_in_range(counts) {
-        Checked::Accepted(counts)
+        Ok(counts)
     } else {
-        Checked::Refused(2)
+        Err(Refusal::PolicyCounts)
     }
 }

@@ -1,29 +1,70 @@
-// The kinds of records and the operators of expression nodes, by the numbers that an image has for them.
+// The kinds of records, and the operators of expression nodes, by the numbers that an image has for them.
+ghost use Rattle.std.specs.Prelude.{◌≡◌, MatchOption};
+ghost use Rattle.base.specs.Ranges.{Within};
+ghost use Rattle.policy_image.specs.Inner.Kinds.{kind_number};
 
-pub const DOMAIN: u32 = 1;
+// The kinds of records, each with its chain.
+#[derive(Clone, Copy, Debug, PartialEq, Eq)]
+pub enum Kind {
+    Domain = 1,
+    Permissions,
+    Flow,
+    Allow,
+    RoleType,
+    UserRole,
+    RoleChange,
+    Constraint,
+    Node,
+}
 
-pub const PERMISSIONS: u32 = 2;
+impl Kind {
+    // All kinds, by their numbers.
+    pub const ALL: [Kind; 9] = [
+        Kind::Domain,
+        Kind::Permissions,
+        Kind::Flow,
+        Kind::Allow,
+        Kind::RoleType,
+        Kind::UserRole,
+        Kind::RoleChange,
+        Kind::Constraint,
+        Kind::Node,
+    ];
 
-pub const FLOW: u32 = 3;
+    // The number that an image has for the kind.
+    #[inline]
+    pub fn number(self) -> u32
+        ensures { result ≡ kind_number self }
+    {
+        self as u32
+    }
 
-pub const ALLOW: u32 = 4;
+    // The kind that has a number, if any has.
+    #[inline]
+    pub fn of(number: u32) -> Option<Kind>
+        ensures { MatchOption result (Within 1 9 number → ⊥) (λ k. number ≡ kind_number k) }
+    {
+        match number {
+            1 => Some(Kind::Domain),
+            2 => Some(Kind::Permissions),
+            3 => Some(Kind::Flow),
+            4 => Some(Kind::Allow),
+            5 => Some(Kind::RoleType),
+            6 => Some(Kind::UserRole),
+            7 => Some(Kind::RoleChange),
+            8 => Some(Kind::Constraint),
+            9 => Some(Kind::Node),
+            _ => None,
+        }
+    }
+}
 
-pub const ROLE_TYPE: u32 = 5;
+// What b of a flow record says: the permissions are write-like, read-like, or both.
+pub const WRITE_LIKE: u32 = 1;
 
-pub const USER_ROLE: u32 = 6;
+pub const READ_LIKE: u32 = 2;
 
-pub const ROLE_CHANGE: u32 = 7;
-
-pub const CONSTRAINT: u32 = 8;
-
-pub const NODE: u32 = 9;
-
-// The chains of three kinds, as heads are numbered.
-pub const DOMAINS: usize = 1;
-
-pub const ALLOWS: usize = 4;
-
-pub const CONSTRAINTS: usize = 8;
+pub const BOTH: u32 = 3;
 
 // Operators of a node: on the values of its children,
 pub const NOT: u32 = 1;
@@ -51,10 +92,3 @@ pub const ROLE_2: u32 = 10;
 pub const USER_1: u32 = 11;
 
 pub const USER_2: u32 = 12;
-
-// What b of a flow record says: the permissions are write-like, read-like, or both.
-pub const WRITE_LIKE: u32 = 1;
-
-pub const READ_LIKE: u32 = 2;
-
-pub const BOTH: u32 = 3;

@@ -1,12 +1,15 @@
 // The heads and the records of a policy image.
 ghost use Rattle.std.specs.Prelude.{◌≡◌, ◌≤◌, length};
+ghost use Rattle.base.specs.Inner.Decides.{Decides};
+ghost use Rattle.policy_image.specs.Inner.Kinds.{kind_number};
 ghost use Rattle.chains.specs.Inner.Links.{ShapeOf};
 ghost use Rattle.policy_image.specs.Layout.{PolicyExact, record_count, payload_of, decoded, policy_head};
 ghost use Rattle.policy_image.specs.Policy.{policy_of, policy_links};
 ghost use Rattle.policy_image.specs.Inner.Reading.{Bytes, Reads};
 
 use crate::counts::{HEADER, MOST_RECORDS, RECORD};
-use base::bytes::{u16_at, u32_at, wide};
+use crate::kinds::Kind;
+use base::bytes::{u16_at, u32_at};
 use chains::Shape;
 
 // A record, decoded. The bytes of the mask are also the numbers of an expression node's children.
@@ -20,6 +23,16 @@ pub struct Record {
     pub d: u32,
     pub e: u32,
     pub mask: u32,
+}
+
+impl Record {
+    // Whether the record is of the kind. Its number is any byte, until question 4 has been answered.
+    #[inline]
+    pub fn is(self, kind: Kind) -> bool
+        ensures { Decides result (self.kind ≡ kind_number kind) }
+    {
+        self.kind == kind.number()
+    }
 }
 
 // The rest of record k after its link, as a part of the image itself; the empty part where there is no such record.
@@ -62,12 +75,12 @@ fn decode(next: usize, p: &[u8]) -> Record
 {
     Record {
         next,
-        kind: wide(p[0]),
-        a: wide(p[1]),
-        b: wide(p[2]),
-        c: wide(p[3]),
-        d: wide(p[4]),
-        e: wide(p[5]),
+        kind: u32::from(p[0]),
+        a: u32::from(p[1]),
+        b: u32::from(p[2]),
+        c: u32::from(p[3]),
+        d: u32::from(p[4]),
+        e: u32::from(p[5]),
         mask: u32_at(p, 6),
     }
 }
@@ -81,10 +94,10 @@ pub fn record_at(image: &[u8], k: usize) -> Record
     decode(next, payload(image, k))
 }
 
-// The head of the chain of kind k.
-pub fn head_at(image: &[u8], k: usize) -> usize
-    requires { PolicyExact image.now × (1 ≤ k) × (k ≤ 9) }
-    ensures { result ≡ policy_head image.now k }
+// The head of the chain of a kind.
+pub fn head_at(image: &[u8], kind: Kind) -> usize
+    requires { PolicyExact image.now }
+    ensures { result ≡ policy_head image.now (kind_number kind) }
 {
-    chains::head_at(image, policy_shape(image), k)
+    chains::head_at(image, policy_shape(image), kind.number() as usize)
 }

@@ -1,2 +1,4 @@
 pub mod Walk
 pub mod KindLaws
+pub mod Walking
+pub mod Searches

@@ -8,6 +8,8 @@ ghost use Rattle.policy_image.specs.Policy.{policy_of};
 ghost use Rattle.policy_image.specs.Inner.Reading.{Counted};
 ghost use Rattle.policy_links.specs.Chains.{LinksRise, ChainsByKind};
 
+pub mod records;
+
 use chains::MOST_CHAINS;
 use policy_image::counts::Counts;
 use policy_image::records::{policy_shape, record_at};
@@ -24,14 +26,7 @@ pub fn links_rise(image: &[u8]) -> bool
 fn all_zero(c: [usize; MOST_CHAINS]) -> bool
     ensures { Decides result ((k : ℕ) → 1 ≤ k → k ≤ 9 → get_or c k 0 ≡ 0) }
 {
-    let mut k = 1;
-    while k < 10 {
-        if c[k] != 0 {
-            return false;
-        }
-        k += 1;
-    }
-    true
+    c[1..10].iter().all(|head| *head == 0)
 }
 
 // Question 4, where question 3 has been answered with yes: one pass, with a cursor on each chain that stands at the
@@ -40,10 +35,8 @@ pub fn chains_by_kind(image: &[u8], counts: Counts) -> bool
     requires { Counted image.now counts × LinksRise (policy_of image.now) }
     ensures { Decides result (ChainsByKind (policy_of image.now)) }
 {
-    let n = counts.records;
     let mut cursor = chains::heads(image, policy_shape(image));
-    let mut i = 1;
-    while i <= n {
+    for i in 1..=counts.records {
         let r = record_at(image, i);
         let k = r.kind as usize;
         match k {
@@ -57,7 +50,6 @@ pub fn chains_by_kind(image: &[u8], counts: Counts) -> bool
                 return false;
             }
         }
-        i += 1;
     }
     all_zero(cursor)
 }

@@ -6,7 +6,7 @@ use native.Mathlib.Omega.{arith}
 use lib.ListN.{length}
 use Rattle.policy_image.specs.declared.counts.Counts.{Counts}
 use Rattle.policy_image.specs.Policy.{Policy}
-use Rattle.policy_expressions.specs.declared.Use.TheVariants.{Node}
+use Rattle.std.specs.Prelude.{Some}
 use Rattle.policy_expressions.specs.Nodes.{use_of, IsNode, NodesInOrder}
 use Rattle.policy_lists.specs.Lists.{kind_list}
 use Rattle.policy_lists.specs.Joined.{larger_counts, nodes_upto, of_kinds_upto, makers_node, boards_node, joined_list, joined}
@@ -49,7 +49,7 @@ module _ (p q : Policy) where
 
   module _ (small : (joined p q).size < 65536) (N : NodesInOrder p) (M : NodesInOrder q) where
     -- the board's nodes stand behind the maker's
-    no_shared : (i s j t m : ℕ) → MakersRecord p q i → BoardsRecord p q j → use_of ((joined p q).rec i) s ≡ Node m → use_of ((joined p q).rec j) t ≡ Node m → ⊥
+    no_shared : (i s j t m : ℕ) → MakersRecord p q i → BoardsRecord p q j → use_of ((joined p q).rec i) s ≡ Some m → use_of ((joined p q).rec j) t ≡ Some m → ⊥
     no_shared i s j t m S T e f =
         let u = stem_uses counts (joined_list p q) small p (makers_node p q) (makers_begin p q) N makers_is i s m S e in
         let v = stem_uses counts (joined_list p q) small q (boards_node p q) (boards_begin p q) M boards_is j t m T f in

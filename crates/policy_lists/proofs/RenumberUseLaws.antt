@@ -8,25 +8,24 @@ use lib.Dec.{eqb, leb}
 use Rattle.base.proofs.BoolLaws.{clash, and_true, and_first, and_second}
 use Rattle.policy_image.specs.declared.records.Record.{Record}
 use Rattle.policy_image.specs.Layout.{root_of, left_of, right_of}
-use Rattle.policy_expressions.specs.declared.Use.{Use}
-use Rattle.policy_expressions.specs.declared.Use.TheVariants.{Nothing, Node}
+use Rattle.std.specs.Prelude.{Option, None, Some}
 use Rattle.policy_expressions.specs.Nodes.{pick, has_root, has_left, has_right, use_of}
 use Rattle.policy_lists.specs.Joined.{with_root, with_children, root_moved, left_moved, right_moved, renumbered}
 
-abbrev pub moved_use : (ℕ → ℕ) → Use → Use
-moved_use to Nothing = Nothing
-moved_use to (Node n) = Node (to n)
+abbrev pub moved_use : (ℕ → ℕ) → Option ℕ → Option ℕ
+moved_use to None = None
+moved_use to (Some n) = Some (to n)
 
 -- ---- what a record uses, by the answers on its kind and its operator
-pub use_first : (w : Record) (x y : Bool) → has_root w ≡ x → has_left w ≡ y → use_of w 0 ≡ pick x (Node (root_of w)) (pick y (Node (left_of w)) Nothing)
+pub use_first : (w : Record) (x y : Bool) → has_root w ≡ x → has_left w ≡ y → use_of w 0 ≡ pick x (Some (root_of w)) (pick y (Some (left_of w)) None)
 unfolding use_of
-use_first w x y a b = ap₂ (λ (x y : Bool). pick x (Node (root_of w)) (pick y (Node (left_of w)) Nothing)) a b
+use_first w x y a b = ap₂ (λ (x y : Bool). pick x (Some (root_of w)) (pick y (Some (left_of w)) None)) a b
 
-pub use_second : (w : Record) (z : Bool) → has_right w ≡ z → use_of w 1 ≡ pick z (Node (right_of w)) Nothing
+pub use_second : (w : Record) (z : Bool) → has_right w ≡ z → use_of w 1 ≡ pick z (Some (right_of w)) None
 unfolding use_of
-use_second w z c = ap (λ (z : Bool). pick z (Node (right_of w)) Nothing) c
+use_second w z c = ap (λ (z : Bool). pick z (Some (right_of w)) None) c
 
-use_later : (w : Record) (s : ℕ) → use_of w (suc (suc s)) ≡ Nothing
+use_later : (w : Record) (s : ℕ) → use_of w (suc (suc s)) ≡ None
 unfolding use_of
 use_later w s = refl
 
@@ -107,8 +106,8 @@ module _ (to : ℕ → ℕ) where
     -- by the kind and the operator, which w has from r
     as_moved : (w : Record) (x y z : Bool)
         → has_root r ≡ x → has_left r ≡ y → has_right r ≡ z → has_root w ≡ x → has_left w ≡ y → has_right w ≡ z
-        → pick x (Node (root_of w)) (pick y (Node (left_of w)) Nothing) ≡ moved_use to (pick x (Node (root_of r)) (pick y (Node (left_of r)) Nothing))
-        → pick z (Node (right_of w)) Nothing ≡ moved_use to (pick z (Node (right_of r)) Nothing)
+        → pick x (Some (root_of w)) (pick y (Some (left_of w)) None) ≡ moved_use to (pick x (Some (root_of r)) (pick y (Some (left_of r)) None))
+        → pick z (Some (right_of w)) None ≡ moved_use to (pick z (Some (right_of r)) None)
         → UsesMoved w
     as_moved w x y z a b c a' b' c' f g =
         record {
@@ -117,7 +116,7 @@ module _ (to : ℕ → ℕ) where
         }
 
     -- the left stands in two bytes, so what it becomes must fit them
-    module _ (fits : (n : ℕ) → use_of r 0 ≡ Node n → to n < 65536) where
+    module _ (fits : (n : ℕ) → use_of r 0 ≡ Some n → to n < 65536) where
       fits_left : has_root r ≡ false → has_left r ≡ true → to (left_of r) < 65536
       fits_left a b = fits (left_of r) (use_first r false true a b)
 
@@ -126,16 +125,16 @@ module _ (to : ℕ → ℕ) where
           moved_cases UsesMoved
           (λ a b c.
           as_moved (with_root (to (root_of r)) r) true false false a b c a b c
-          (ap Node (let n : ℕ = to (root_of r) in let e : n % 256 + 256 * (n / 256) ≡ n = omega arith in e)) refl)
+          (ap Some (let n : ℕ = to (root_of r) in let e : n % 256 + 256 * (n / 256) ≡ n = omega arith in e)) refl)
           (λ a b c.
           let h = fits_left a b in
           as_moved (with_children (to (left_of r)) (right_of r) r) false true false a b c a b c
-          (ap Node (let e : (to (left_of r) + 65536 * right_of r) % 65536 ≡ to (left_of r) = omega arith in e)) refl)
+          (ap Some (let e : (to (left_of r) + 65536 * right_of r) % 65536 ≡ to (left_of r) = omega arith in e)) refl)
           (λ a b c.
           let h = fits_left a b in
           as_moved (with_children (to (left_of r)) (to (right_of r)) r) false true true a b c a b c
-          (ap Node (let e : (to (left_of r) + 65536 * to (right_of r)) % 65536 ≡ to (left_of r) = omega arith in e))
-          (ap Node (let e : (to (left_of r) + 65536 * to (right_of r)) / 65536 ≡ to (right_of r) = omega arith in e)))
+          (ap Some (let e : (to (left_of r) + 65536 * to (right_of r)) % 65536 ≡ to (left_of r) = omega arith in e))
+          (ap Some (let e : (to (left_of r) + 65536 * to (right_of r)) / 65536 ≡ to (right_of r) = omega arith in e)))
           (λ a b c. as_moved r false false false a b c a b c refl refl)
 
       pub use_moved : (s : ℕ) → use_of (renumbered to r) s ≡ moved_use to (use_of r s)
@@ -144,12 +143,12 @@ module _ (to : ℕ → ℕ) where
       use_moved (suc (suc s)) = use_later (renumbered to r) s ∙ sym (ap (moved_use to) (use_later r s))
 
       -- so what the renumbered record uses is what `to` gives for a node that the record used
-      pub use_back : (s m : ℕ) → use_of (renumbered to r) s ≡ Node m → (n : ℕ) × (use_of r s ≡ Node n) × (m ≡ to n)
+      pub use_back : (s m : ℕ) → use_of (renumbered to r) s ≡ Some m → (n : ℕ) × (use_of r s ≡ Some n) × (m ≡ to n)
       use_back s m e = go (use_of r s) refl
         where
-          go : (u : Use) → use_of r s ≡ u → (n : ℕ) × (use_of r s ≡ Node n) × (m ≡ to n)
-          go Nothing h = let z : Node m ≡ Nothing = sym e ∙ use_moved s ∙ ap (moved_use to) h in let o : ◌≡◌ {A = ℕ} 0 1 = cc in let b : ⊥ = omega arith in absurd b
-          go (Node n) h = let z : Node m ≡ Node (to n) = sym e ∙ use_moved s ∙ ap (moved_use to) h in let o : m ≡ to n = cc in (n, h, o)
+          go : (u : Option ℕ) → use_of r s ≡ u → (n : ℕ) × (use_of r s ≡ Some n) × (m ≡ to n)
+          go None h = let z : Some m ≡ None = sym e ∙ use_moved s ∙ ap (moved_use to) h in let o : ◌≡◌ {A = ℕ} 0 1 = cc in let b : ⊥ = omega arith in absurd b
+          go (Some n) h = let z : Some m ≡ Some (to n) = sym e ∙ use_moved s ∙ ap (moved_use to) h in let o : m ≡ to n = cc in (n, h, o)
 
 -- two ways to renumber that agree on the nodes that a record uses
 pub renumbered_agrees : (to other : ℕ → ℕ) (r : Record) → (has_root r ≡ true → to (root_of r) ≡ other (root_of r)) → (has_left r ≡ true → to (left_of r) ≡ other (left_of r))

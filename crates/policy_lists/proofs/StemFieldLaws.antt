@@ -16,7 +16,7 @@ use Rattle.policy_image.specs.Layout.{root_of, left_of, right_of}
 use Rattle.policy_image.specs.Policy.{Policy}
 use Rattle.policy_fields.specs.declared.Limits.{Limits}
 use Rattle.policy_fields.specs.Fields.{limits_of, WithinLimits, Fits, FieldsInRange}
-use Rattle.policy_expressions.specs.declared.Use.TheVariants.{Node}
+use Rattle.std.specs.Prelude.{Some}
 use Rattle.policy_expressions.specs.Nodes.{has_root, has_left, has_right, use_of, IsNode, NodesInOrder}
 use Rattle.policy_lists.specs.Lists.{record_in, link_in, with_next, policy_from}
 use Rattle.policy_lists.specs.Joined.{with_root, with_children, renumbered}
@@ -46,7 +46,7 @@ with_next_lem : (l : Limits) (n : ℕ) (r : Record) → WithinLimits l r → Wit
 with_next_lem l n r F = record { a = F.a; b = F.b; c = F.c; d = F.d; e = F.e; mask = F.mask }
 
 -- ---- renumbering: where what `to` gives fits two bytes, the record stays within the ranges of its kind and operator
-module _ (c : Counts) (to : ℕ → ℕ) (r : Record) (fits : (s n : ℕ) → use_of r s ≡ Node n → to n < 65536) (F : Fits c r) where
+module _ (c : Counts) (to : ℕ → ℕ) (r : Record) (fits : (s n : ℕ) → use_of r s ≡ Some n → to n < 65536) (F : Fits c r) where
   fits_root : has_root r ≡ true → Fits c (with_root (to (root_of r)) r)
   fits_root a =
       let k = eqb-true r.kind 8 a in

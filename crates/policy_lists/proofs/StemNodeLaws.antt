@@ -10,7 +10,7 @@ use Rattle.base.proofs.Numbers.{split_le}
 use Rattle.policy_image.specs.declared.counts.Counts.{Counts}
 use Rattle.policy_image.specs.declared.records.Record.{Record}
 use Rattle.policy_image.specs.Policy.{Policy}
-use Rattle.policy_expressions.specs.declared.Use.TheVariants.{Node}
+use Rattle.std.specs.Prelude.{Some}
 use Rattle.policy_expressions.specs.Nodes.{use_of, Uses, IsNode, UsedWell, NodesInOrder}
 use Rattle.policy_lists.specs.Lists.{records_upto, of_kind_in, kind_list, record_in, link_in, with_next, policy_from}
 use Rattle.policy_lists.specs.Joined.{nodes_upto, renumbered}
@@ -62,23 +62,23 @@ module _ (c : Counts) (l : List Record) where
   -- the policy o that passes question 6, whose nodes are nodes of the result
   module _ (small : length l < 65536) (o : Policy) (to begin : ℕ → ℕ) (N : NodesInOrder o) (is : (n : ℕ) → IsNode o n → IsNode made (to n)) where
     -- nodes of the result have numbers that fit two bytes
-    pub stem_small : (i : ℕ) (S : Stems o to begin l i) (s n : ℕ) → use_of (o.rec S.of) s ≡ Node n → to n < 65536
+    pub stem_small : (i : ℕ) (S : Stems o to begin l i) (s n : ℕ) → use_of (o.rec S.of) s ≡ Some n → to n < 65536
     stem_small i S s n h =
         let w = N.well S.of s n (record { low = S.low; high = S.high; at = h }) in
         let k = (is n w.node).high in
         omega (arith, k, small)
 
-    pub stem_uses : (i s m : ℕ) (S : Stems o to begin l i) → use_of (made.rec i) s ≡ Node m → (n : ℕ) × Uses o S.of s n × (m ≡ to n)
+    pub stem_uses : (i s m : ℕ) (S : Stems o to begin l i) → use_of (made.rec i) s ≡ Some m → (n : ℕ) × Uses o S.of s n × (m ≡ to n)
     stem_uses i s m S e =
         let r : Record = o.rec S.of in
-        let u : use_of (renumbered to r) s ≡ Node m =
+        let u : use_of (renumbered to r) s ≡ Some m =
         ap (λ (x : Record). use_of x s) (sym S.same) ∙ sym (use_any_next (link_in l i) (record_in l i) s) ∙ e in
         let b = use_back to r (stem_small i S 0) s m u in
         (b.0, record { low = S.low; high = S.high; at = b.1 }, b.2)
 
     -- where its nodes stand in a row
     module _ (nine : (n : ℕ) → begin 9 + nodes_upto o n ≡ to n) where
-      pub stem_well : (i s m : ℕ) → Stems o to begin l i → use_of (made.rec i) s ≡ Node m → UsedWell made i (made.rec i).kind m
+      pub stem_well : (i s m : ℕ) → Stems o to begin l i → use_of (made.rec i) s ≡ Some m → UsedWell made i (made.rec i).kind m
       stem_well i s m S e =
           let u = stem_uses i s m S e in
           let w = N.well S.of s u.0 u.1 in
@@ -92,7 +92,7 @@ module _ (c : Counts) (l : List Record) where
                 omega (arith, a, b, nine u.0, u.2);
           }
 
-      pub stem_once : (i s j t m : ℕ) → Stems o to begin l i → Stems o to begin l j → use_of (made.rec i) s ≡ Node m → use_of (made.rec j) t ≡ Node m
+      pub stem_once : (i s j t m : ℕ) → Stems o to begin l i → Stems o to begin l j → use_of (made.rec i) s ≡ Some m → use_of (made.rec j) t ≡ Some m
           → (i ≡ j) × (s ≡ t)
       stem_once i s j t m S T e f =
           let u = stem_uses i s m S e in

@@ -13,7 +13,7 @@ use Rattle.policy_image.specs.Layout.{root_of, left_of, right_of}
 use Rattle.policy_image.specs.Policy.{Policy}
 use Rattle.policy_image.specs.Inner.Sizes.{most_records}
 use Rattle.policy_image.specs.Inner.Writable.{WritableRecord, WritableCounts, Writable}
-use Rattle.policy_expressions.specs.declared.Use.TheVariants.{Node}
+use Rattle.std.specs.Prelude.{Some}
 use Rattle.policy_expressions.specs.Nodes.{use_of, IsNode, NodesInOrder}
 use Rattle.policy_lists.specs.Lists.{record_in, link_in, with_next, policy_from}
 use Rattle.policy_lists.specs.Joined.{with_root, with_children, renumbered}
@@ -47,7 +47,7 @@ next_writable n r h R =
     record { next = h; bytes = record { kind = B.kind; a = B.a; b = B.b; c = B.c; d = B.d; e = B.e }; mask = R.mask }
 
 -- ---- renumbering, where what `to` gives fits two bytes
-pub renumbered_writable : (to : ℕ → ℕ) (r : Record) → ((s n : ℕ) → use_of r s ≡ Node n → to n < 65536) → WritableRecord r
+pub renumbered_writable : (to : ℕ → ℕ) (r : Record) → ((s n : ℕ) → use_of r s ≡ Some n → to n < 65536) → WritableRecord r
     → WritableRecord (renumbered to r)
 renumbered_writable to r fits R =
     moved_cases to r WritableRecord

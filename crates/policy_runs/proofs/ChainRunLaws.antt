@@ -5,7 +5,7 @@ use mathlib.Core.Logic.{◌⊎◌, inl, inr, ⊎_elim}
 use native.Mathlib.Omega.{arith}
 use Rattle.base.specs.Chain.{Meets, OnChain}
 use Rattle.base.specs.Ranges.{Within}
-use Rattle.base.proofs.ChainLaws.{Visit, visit_start, visit_less, left, meets_zero, meets_step, meets_next, meets_range}
+use Rattle.base.proofs.ChainLaws.{Visit, visit_start, meets_zero, meets_step, meets_next, meets_range}
 use Rattle.policy_image.specs.Policy.{Policy, policy_links}
 use Rattle.policy_links.specs.Chains.{LinksRise, ChainsByKind}
 use Rattle.policy_links.proofs.KindLaws.{OfKind, visit_kind, kind_chain}
@@ -79,6 +79,3 @@ module _ (o : Policy) (L : LinksRise o) (C : ChainsByKind o) (k : ℕ) (w : With
 
       pub next_none : (j : ℕ) → i < j → j ≤ before_cursor o.size i' → (o.rec j).kind ≡ k → ⊥
       next_none = none_before i i' next_high rest
-
-      pub cursor_less : left o.size i' < left o.size i
-      cursor_less = visit_less (policy_links o) k (L.heads k w.low w.high) L.nexts (λ j. j ≤ before_cursor o.size i) i d P i' e

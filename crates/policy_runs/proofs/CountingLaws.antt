@@ -30,23 +30,20 @@ module _ (rec : ℕ → Record) where
   pub counted_fits : {n : ℕ} {t : List ℕ} → CountedTo n t → (k : ℕ) → 1 ≤ k → k ≤ 9 → get_or t k 0 ≤ n
   counted_fits {n} C k a b = let m = most_length rec k n in let e = C.counts k a b in omega arith
 
-  -- record n + 1 is counted for its kind
-  counted_one : {n : ℕ} {t : List ℕ} → CountedTo n t → (k v : ℕ) → k ≡ (rec (suc n)).kind → Within 1 9 k → v ≡ get_or t k 0 + 1 → CountedTo (suc n) (set t k v)
-  counted_one {n} {t} C k v e w s =
-      record {
+  -- the next record is counted for its kind
+  pub counted_more : {n : ℕ} {t : List ℕ} → CountedTo n t → (i k v : ℕ) → i ≡ suc n → k ≡ (rec i).kind → Within 1 9 k → v ≡ get_or t k 0 + 1 → CountedTo i (set t k v)
+  counted_more {n} {t} C i k v next e w s =
+      let its = ap (λ (x : ℕ). (rec x).kind) (sym next) ∙ sym e in
+      subst (λ (x : ℕ). CountedTo x (set t k v)) (sym next) (record {
         size = length-set t k v ∙ C.size;
         counts = λ j a b. ⊎_elim
-            (λ (q : j ≡ k). ap (λ (i : ℕ). get_or (set t k v) i 0) q ∙ get_or-set_same t k v 0 (omega (arith, C.size, w.high)) ∙ s
+            (λ (q : j ≡ k). ap (λ (x : ℕ). get_or (set t k v) x 0) q ∙ get_or-set_same t k v 0 (omega (arith, C.size, w.high)) ∙ s
             ∙ (let h = C.counts k w.low w.high in
-            let l = place_length rec k n (sym e) in
-            subst (λ (i : ℕ). get_or t k 0 + 1 ≡ many i (suc n)) (sym q) (omega arith)))
-            (λ (d : j ≡ k → ⊥). get_or-set_other t k j v 0 d ∙ C.counts j a b ∙ sym (other_length rec j n (λ f. d (sym f ∙ sym e))))
+            let l = place_length rec k n its in
+            subst (λ (x : ℕ). get_or t k 0 + 1 ≡ many x (suc n)) (sym q) (omega arith)))
+            (λ (d : j ≡ k → ⊥). get_or-set_other t k j v 0 d ∙ C.counts j a b ∙ sym (other_length rec j n (λ f. d (sym f ∙ its))))
             (split_eq j k);
-      }
-
-  pub counted_more : {n : ℕ} {t : List ℕ} → CountedTo n t → (k v : ℕ) → k ≡ (rec (n + 1)).kind → Within 1 9 k → v ≡ get_or t k 0 + 1 → CountedTo (n + 1) (set t k v)
-  counted_more {n} {t} C k v =
-      subst (λ (i : ℕ). k ≡ (rec i).kind → Within 1 9 k → v ≡ get_or t k 0 + 1 → CountedTo i (set t k v)) (let e : suc n ≡ n + 1 = omega arith in e) (counted_one C k v)
+      })
 
 module _ (o : Policy) where
   -- ---- how many nodes there are up to each number
@@ -66,9 +63,9 @@ module _ (o : Policy) where
   pub numbered_fits : {n nodes : ℕ} {t : List ℕ} → NumberedTo n nodes t → nodes ≤ n
   numbered_fits {n} N = let m = most_length o.rec 9 n in let e = N.many in omega arith
 
-  module _ {n nodes : ℕ} {t : List ℕ} (N : NumberedTo n nodes t) (room : n + 1 ≤ most_records) where
-    entered : (i m : ℕ) → i ≡ suc n → m ≡ nodes_upto o i → NumberedTo i m (set t i m)
-    entered i m f e =
+  module _ {n nodes : ℕ} {t : List ℕ} (N : NumberedTo n nodes t) (i : ℕ) (next : i ≡ suc n) (room : i ≤ most_records) where
+    entered : (m : ℕ) → m ≡ nodes_upto o i → NumberedTo i m (set t i m)
+    entered m e =
         record {
           size = length-set t i m ∙ N.size;
           many = e;
@@ -78,17 +75,14 @@ module _ (o : Policy) where
               (split_eq j i);
         }
 
-    next : suc n ≡ n + 1
-    next = omega arith
-
-    pub numbered_node : (o.rec (n + 1)).kind ≡ 9 → NumberedTo (n + 1) (nodes + 1) (set t (n + 1) (nodes + 1))
+    pub numbered_node : (o.rec i).kind ≡ 9 → NumberedTo i (nodes + 1) (set t i (nodes + 1))
     numbered_node e =
-        entered (n + 1) (nodes + 1) (sym next)
-        (let l = place_length o.rec 9 n (ap (λ (i : ℕ). (o.rec i).kind) next ∙ e) in
+        entered (nodes + 1)
+        (let l = place_length o.rec 9 n (ap (λ (x : ℕ). (o.rec x).kind) (sym next) ∙ e) in
         let m = N.many in
-        subst (λ (i : ℕ). nodes + 1 ≡ nodes_upto o i) next (omega arith))
+        subst (λ (x : ℕ). nodes + 1 ≡ nodes_upto o x) (sym next) (omega arith))
 
-    pub numbered_other : ((o.rec (n + 1)).kind ≡ 9 → ⊥) → NumberedTo (n + 1) nodes (set t (n + 1) nodes)
+    pub numbered_other : ((o.rec i).kind ≡ 9 → ⊥) → NumberedTo i nodes (set t i nodes)
     numbered_other d =
-        entered (n + 1) nodes (sym next)
-        (subst (λ (i : ℕ). nodes ≡ nodes_upto o i) next (N.many ∙ sym (other_length o.rec 9 n (λ e. d (ap (λ (i : ℕ). (o.rec i).kind) (sym next) ∙ e)))))
+        entered nodes
+        (subst (λ (x : ℕ). nodes ≡ nodes_upto o x) (sym next) (N.many ∙ sym (other_length o.rec 9 n (λ e. d (ap (λ (x : ℕ). (o.rec x).kind) next ∙ e)))))

@@ -5,11 +5,11 @@ use mathlib.Core.List.{List, ◌++◌}
 use native.Mathlib.Omega.{arith}
 use lib.ListN.{length, get_or, drop}
 use Rattle.base.specs.Bytes.{byte_at}
-use Rattle.base.specs.Ranges.{Within}
 use Rattle.base.specs.Writing.{low16}
 use Rattle.base.specs.Inner.Fill.{Filled}
 use Rattle.base.proofs.FillLaws.{fill_then, fill_end}
 use Rattle.base.proofs.WritingLaws.{list_same}
+use Rattle.policy_image.specs.Inner.Kinds.{kind_number}
 use Rattle.policy_image.specs.declared.counts.Counts.{Counts}
 use Rattle.policy_image.specs.declared.records.Record.{Record}
 use Rattle.policy_image.specs.Layout.{PolicyExact, record_count, counts_of}
@@ -83,10 +83,10 @@ module _ {lists : ℕ → List Record} {c : Counts} (L : WritableLists lists c) 
 
 -- ---- a run of the image s, which a policy j has at its place, fits where the image of j does
 pub run_fits : {j : Policy} → Writable j → {s : List ℕ} → PolicyExact s → LinksRise (policy_of s) → ChainsByKind (policy_of s) → NodesInOrder (policy_of s)
-    → (run : Run) → RunIn j (policy_of s) run → Within 1 9 run.kind
-    → run.before + length (kind_list (policy_of s) run.kind) ≤ j.size → run.shift + length (kind_list (policy_of s) 9) ≤ j.size
+    → (run : Run) → RunIn j (policy_of s) run
+    → run.before + length (kind_list (policy_of s) (kind_number run.kind)) ≤ j.size → run.shift + length (kind_list (policy_of s) 9) ≤ j.size
     → (output : ℕ) (nodes : List ℕ) → image_size j.size ≤ output → NodeTable (policy_of s) nodes → RunFits s nodes run output
-run_fits {j} W {s} exact links chains order run R kind place shift output nodes room T =
+run_fits {j} W {s} exact links chains order run R place shift output nodes room T =
     let o : Policy = policy_of s in
     let few : j.size ≤ most_records = omega (arith, W.size, W.counts.records) in
     record {
@@ -94,7 +94,6 @@ run_fits {j} W {s} exact links chains order run R kind place shift output nodes 
       links = links;
       chains = chains;
       nodes = order;
-      kind = kind;
       table = T;
       most = omega (arith, place, few);
       room = omega (arith, size_le place, room);

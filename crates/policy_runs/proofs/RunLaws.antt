@@ -15,6 +15,7 @@ use Rattle.base.specs.Inner.Fill.{Filled}
 use Rattle.base.proofs.BoolLaws.{true_or_false}
 use Rattle.base.proofs.FillLaws.{fill_begin, fill_map, fill_then, fill_end}
 use Rattle.base.proofs.Numbers.{split_eq}
+use Rattle.policy_image.specs.Inner.Kinds.{kind_number}
 use Rattle.policy_image.specs.declared.records.Record.{Record}
 use Rattle.policy_image.specs.Layout.{record_count, root_of, left_of, right_of}
 use Rattle.policy_image.specs.Policy.{Policy, policy_of}
@@ -33,7 +34,7 @@ use Rattle.policy_runs.specs.Inner.Runs.{many_upto, run_place, run_record, run_b
 
 module _ (o : Policy) (run : Run) where
   abbrev many : ℕ → ℕ
-  many n = many_upto o run.kind n
+  many n = many_upto o (kind_number run.kind) n
 
   -- the run is written up to record n of its policy
   abbrev pub WrittenTo : ℕ → List ℕ → List ℕ → Type 0
@@ -42,15 +43,15 @@ module _ (o : Policy) (run : Run) where
   pub written_start : (old : List ℕ) → WrittenTo 0 old old
   written_start old = fill_end (fill_begin _ old _ 0) (sym size_none)
 
-  pub run_here : (n : ℕ) → (o.rec (suc n)).kind ≡ run.kind → run_bytes o run (suc n) ≡ run_bytes o run n ++ record_bytes (run_record o run n)
-  run_here n e = ap (λ (t : Bool). run_bytes o run n ++ cond t (record_bytes (run_record o run n)) []) (eq-eqb (o.rec (suc n)).kind run.kind e)
+  pub run_here : (n : ℕ) → (o.rec (suc n)).kind ≡ kind_number run.kind → run_bytes o run (suc n) ≡ run_bytes o run n ++ record_bytes (run_record o run n)
+  run_here n e = ap (λ (t : Bool). run_bytes o run n ++ cond t (record_bytes (run_record o run n)) []) (eq-eqb (o.rec (suc n)).kind (kind_number run.kind) e)
 
-  pub run_passed : (n : ℕ) → ((o.rec (suc n)).kind ≡ run.kind → ⊥) → run_bytes o run (suc n) ≡ run_bytes o run n ++ []
-  run_passed n d = ap (λ (t : Bool). run_bytes o run n ++ cond t (record_bytes (run_record o run n)) []) (ne_eqb (o.rec (suc n)).kind run.kind d)
+  pub run_passed : (n : ℕ) → ((o.rec (suc n)).kind ≡ kind_number run.kind → ⊥) → run_bytes o run (suc n) ≡ run_bytes o run n ++ []
+  run_passed n d = ap (λ (t : Bool). run_bytes o run n ++ cond t (record_bytes (run_record o run n)) []) (ne_eqb (o.rec (suc n)).kind (kind_number run.kind) d)
 
   -- one more of the kind
-  pub many_size : (n : ℕ) → (o.rec (suc n)).kind ≡ run.kind → size_of (many (suc n)) ≡ size_of (many n) + stride
-  many_size n e = ap size_of (place_length o.rec run.kind n e) ∙ size_more (many n)
+  pub many_size : (n : ℕ) → (o.rec (suc n)).kind ≡ kind_number run.kind → size_of (many (suc n)) ≡ size_of (many n) + stride
+  many_size n e = ap size_of (place_length o.rec (kind_number run.kind) n e) ∙ size_more (many n)
 
   pub run_length : (n : ℕ) → length (run_bytes o run n) ≡ size_of (many n)
   run_length zero = sym size_none
@@ -61,8 +62,8 @@ module _ (o : Policy) (run : Run) where
       let l = many_size n e in
       let r = record_length (run_record o run n) in
       ap length (run_here n e) ∙ length-append (run_bytes o run n) (record_bytes (run_record o run n)) ∙ omega arith)
-      (λ d. let l = ap size_of (other_length o.rec run.kind n d) in ap length (run_passed n d) ∙ length-append (run_bytes o run n) [] ∙ omega arith)
-      (split_eq (o.rec (suc n)).kind run.kind)
+      (λ d. let l = ap size_of (other_length o.rec (kind_number run.kind) n d) in ap length (run_passed n d) ∙ length-append (run_bytes o run n) [] ∙ omega arith)
+      (split_eq (o.rec (suc n)).kind (kind_number run.kind))
 
   -- ---- record n + 1
   module _ (n : ℕ) {old mid : List ℕ} (F : WrittenTo n old mid) where
@@ -70,7 +71,7 @@ module _ (o : Policy) (run : Run) where
     kept rest j h = sym (get_or-append (run_bytes o run n) rest 0 j (omega (arith, run_length n, h)))
 
     -- is of the kind, and is written
-    pub written_here : (o.rec (suc n)).kind ≡ run.kind → (at : ℕ) → at ≡ run_place o run n → (r : Record) → r ≡ run_record o run n → {new : List ℕ}
+    pub written_here : (o.rec (suc n)).kind ≡ kind_number run.kind → (at : ℕ) → at ≡ run_place o run n → (r : Record) → r ≡ run_record o run n → {new : List ℕ}
         → Filled (λ j v. v ≡ byte_at (record_bytes r) j) mid new (start_of at) 0 stride → WrittenTo (suc n) old new
     written_here e at p r m {new} G =
         subst (λ (l : List ℕ). Filled (λ j v. v ≡ byte_at l j) old new (start_of (suc run.before)) 0 (size_of (many (suc n)))) (sym (run_here n e))
@@ -82,17 +83,17 @@ module _ (o : Policy) (run : Run) where
         (sym (many_size n e)))
 
     -- is of another kind, and is passed over
-    written_passed : ((o.rec (suc n)).kind ≡ run.kind → ⊥) → WrittenTo (suc n) old mid
+    written_passed : ((o.rec (suc n)).kind ≡ kind_number run.kind → ⊥) → WrittenTo (suc n) old mid
     written_passed d =
         subst (λ (l : List ℕ). Filled (λ j v. v ≡ byte_at l j) old mid (start_of (suc run.before)) 0 (size_of (many (suc n)))) (sym (run_passed n d))
-        (fill_end (fill_map (λ j v b q. q ∙ kept [] j b) F) (ap size_of (sym (other_length o.rec run.kind n d))))
+        (fill_end (fill_map (λ j v b q. q ∙ kept [] j b) F) (ap size_of (sym (other_length o.rec (kind_number run.kind) n d))))
 
   pub written_as : {a b : ℕ} {old new : List ℕ} → a ≡ b → WrittenTo a old new → WrittenTo b old new
   written_as {a} {b} {old} {new} e F = subst (λ (x : ℕ). WrittenTo x old new) e F
 
   -- ---- records of other kinds, up to record m
   abbrev pub NoneTo : ℕ → ℕ → Type 0
-  NoneTo n m = (j : ℕ) → n < j → j ≤ m → (o.rec j).kind ≡ run.kind → ⊥
+  NoneTo n m = (j : ℕ) → n < j → j ≤ m → (o.rec j).kind ≡ kind_number run.kind → ⊥
 
   pub written_past : (n m : ℕ) → n ≤ m → NoneTo n m → {old new : List ℕ} → WrittenTo n old new → WrittenTo m old new
   written_past n zero h none F = written_as (let e : n ≡ 0 = omega arith in e) F
@@ -105,7 +106,7 @@ module _ (o : Policy) (run : Run) where
   many_past n zero h none = ap many (let e : 0 ≡ n = omega arith in e)
   many_past n (suc m) h none =
       ⊎_elim (λ (e : n ≡ suc m). ap many (sym e))
-      (λ (l : n < suc m). other_length o.rec run.kind m (none (suc m) l (omega arith)) ∙ many_past n m (omega (arith, l)) (λ j a b. none j a (omega arith)))
+      (λ (l : n < suc m). other_length o.rec (kind_number run.kind) m (none (suc m) l (omega arith)) ∙ many_past n m (omega (arith, l)) (λ j a b. none j a (omega arith)))
       (eq-or-lt_of_le h)
 
 -- record n + 1 is of the kind: it is one more, and has a place

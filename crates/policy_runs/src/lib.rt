@@ -6,6 +6,7 @@ pub mod tables;
 ghost use Rattle.std.specs.Prelude.{ℕ, suc, ◌+◌, ◌≤◌, ◌<◌, ◌≡◌, length, get_or};
 ghost use Rattle.base.specs.Bytes.{byte_at};
 ghost use Rattle.base.specs.Inner.Fill.{Filled};
+ghost use Rattle.policy_image.specs.Inner.Kinds.{kind_number};
 ghost use Rattle.policy_image.specs.Layout.{PolicyExact, record_count};
 ghost use Rattle.policy_image.specs.Policy.{policy_of};
 ghost use Rattle.policy_image.specs.Inner.Reading.{Bytes};
@@ -17,8 +18,9 @@ ghost use Rattle.policy_lists.specs.Inner.Places.{next_upto};
 ghost use Rattle.policy_runs.specs.Inner.Runs.{KindTable, NodeTable, run_bytes, RunFits, Movable, MovableNode};
 
 use policy_image::counts::MOST_RECORDS;
-use policy_image::kinds::{AND, CONSTRAINT, NODE, NOT, OR};
-use policy_image::records::{Record, head_at, record_at};
+use policy_image::kinds::{AND, Kind, NOT, OR};
+use policy_image::records::{Record, record_at};
+use policy_links::records::records_of;
 use policy_writing::put_record;
 
 // How many entries a table by kinds has, and one by record numbers: one more than the largest number, for entry 0.
@@ -30,7 +32,7 @@ pub const NUMBERS: usize = MOST_RECORDS + 1;
 // count of nodes up to one to give that node's number.
 #[derive(Clone, Copy)]
 pub struct Run {
-    pub kind: u32,
+    pub kind: Kind,
     pub before: usize,
     pub last: usize,
     pub shift: usize,
@@ -42,11 +44,8 @@ pub fn count_kinds(policy: &[u8], records: usize) -> [usize; KINDS]
     ensures { KindTable (policy_of policy.now) result }
 {
     let mut table = [0usize; KINDS];
-    let mut done: usize = 0;
-    while done < records {
-        done += 1;
-        let kind = record_at(policy, done).kind as usize;
-        table[kind] += 1;
+    for k in 1..=records {
+        table[record_at(policy, k).kind as usize] += 1;
     }
     table
 }
@@ -57,14 +56,12 @@ pub fn count_nodes(policy: &[u8], records: usize) -> [u16; NUMBERS]
     ensures { NodeTable (policy_of policy.now) result }
 {
     let mut table = [0u16; NUMBERS];
-    let mut nodes: usize = 0;
-    let mut done: usize = 0;
-    while done < records {
-        done += 1;
-        if record_at(policy, done).kind == NODE {
+    let mut nodes: u16 = 0;
+    for k in 1..=records {
+        if record_at(policy, k).is(Kind::Node) {
             nodes += 1;
         }
-        table[done] = nodes as u16;
+        table[k] = nodes;
     }
     table
 }
@@ -73,16 +70,7 @@ pub fn count_nodes(policy: &[u8], records: usize) -> [u16; NUMBERS]
 pub fn with_next(r: Record, next: usize) -> Record
     ensures { result ≡ with_next next r }
 {
-    Record {
-        next,
-        kind: r.kind,
-        a: r.a,
-        b: r.b,
-        c: r.c,
-        d: r.d,
-        e: r.e,
-        mask: r.mask,
-    }
+    Record { next, ..r }
 }
 
 // The record with a root.
@@ -91,14 +79,9 @@ fn with_root(r: Record, root: usize) -> Record
     ensures { result ≡ with_root root r }
 {
     Record {
-        next: r.next,
-        kind: r.kind,
-        a: r.a,
-        b: r.b,
-        c: r.c,
         d: (root % 256) as u32,
         e: (root / 256) as u32,
-        mask: r.mask,
+        ..r
     }
 }
 
@@ -108,14 +91,8 @@ fn with_children(r: Record, left: usize, right: usize) -> Record
     ensures { result ≡ with_children left right r }
 {
     Record {
-        next: r.next,
-        kind: r.kind,
-        a: r.a,
-        b: r.b,
-        c: r.c,
-        d: r.d,
-        e: r.e,
         mask: (left as u32) + 65536 * (right as u32),
+        ..r
     }
 }
 
@@ -132,15 +109,13 @@ fn renumber(r: Record, nodes: &[u16; NUMBERS], shift: usize) -> Record
     requires { Movable r nodes.now shift }
     ensures { result ≡ renumbered (λ n. shift + get_or nodes.now n 0) r }
 {
-    let kind = r.kind;
-    let operator = r.a;
-    if kind == CONSTRAINT {
+    if r.is(Kind::Constraint) {
         return with_root(r, moved((r.d + 256 * r.e) as usize, nodes, shift));
     }
-    if kind != NODE {
+    if !r.is(Kind::Node) {
         return r;
     }
-    match operator {
+    match r.a {
         NOT => with_children(
             r,
             moved((r.mask % 65536) as usize, nodes, shift),
@@ -166,17 +141,13 @@ pub fn next_upto(last: usize, i: usize) -> usize
 // Writes a run, along the chain of its kind, and gives the number of its last record, or that of the record before it where it has none.
 pub fn put_run(output: &mut [u8], policy: &[u8], nodes: &[u16; NUMBERS], run: Run) -> usize
     requires { RunFits policy.now nodes.now run (length output.old) }
-    ensures { (result ≡ run.before + length (kind_list (policy_of policy.now) run.kind)) × Filled (λ j v. v ≡ byte_at (run_bytes (policy_of policy.now) run (record_count policy.now)) j) output.old output.new (start_of (suc run.before)) 0 (size_of (length (kind_list (policy_of policy.now) run.kind))) }
+    ensures { (result ≡ run.before + length (kind_list (policy_of policy.now) (kind_number run.kind))) × Filled (λ j v. v ≡ byte_at (run_bytes (policy_of policy.now) run (record_count policy.now)) j) output.old output.new (start_of (suc run.before)) 0 (size_of (length (kind_list (policy_of policy.now) (kind_number run.kind)))) }
 {
-    let kind = run.kind as usize;
     let mut at = run.before;
-    let mut i = head_at(policy, kind);
-    while i != 0 {
-        let r = record_at(policy, i);
+    for r in records_of(policy, run.kind) {
         at += 1;
         let moved = renumber(r, nodes, run.shift);
         put_record(output, at, with_next(moved, next_upto(run.last, at)));
-        i = r.next;
     }
     at
 }

@@ -3,9 +3,12 @@ ghost use Rattle.std.specs.Prelude.{◌+◌, get_or};
 ghost use Rattle.policy_runs.specs.Inner.Tables.{Summed, FewOfEach, FewUpto, HeadTable};
 
 use crate::{KINDS, next_upto};
+use policy_image::kinds::Kind;
 
-// The last kind, as heads are numbered.
-pub const NODES: usize = 9;
+// The last two kinds, as tables by kinds are numbered.
+pub const CONSTRAINTS: usize = Kind::Constraint as usize;
+
+pub const NODES: usize = Kind::Node as usize;
 
 // For each kind, how many records of kinds up to it there are in all.
 pub fn ends_of(first: &[usize; KINDS], second: &[usize; KINDS]) -> [usize; KINDS]
@@ -13,10 +16,8 @@ pub fn ends_of(first: &[usize; KINDS], second: &[usize; KINDS]) -> [usize; KINDS
     ensures { Summed (λ k. get_or first.now k 0 + get_or second.now k 0) result 9 }
 {
     let mut ends = [0usize; KINDS];
-    let mut k: usize = 1;
-    while k <= NODES {
+    for k in 1..=NODES {
         ends[k] = ends[k - 1] + (first[k] + second[k]);
-        k += 1;
     }
     ends
 }
@@ -27,10 +28,8 @@ pub fn heads_of(ends: &[usize; KINDS]) -> [usize; KINDS]
     ensures { HeadTable ends.now result }
 {
     let mut heads = [0usize; KINDS];
-    let mut k: usize = 1;
-    while k <= NODES {
+    for k in 1..=NODES {
         heads[k] = next_upto(ends[k], ends[k - 1]);
-        k += 1;
     }
     heads
 }

@@ -12,11 +12,16 @@ use lib.Seq.{get_or-set_same, get_or-set_other}
 use Rattle.base.specs.Bits.{bit}
 use Rattle.base.proofs.BitLaws.{bit_zero}
 use Rattle.base.proofs.BoolLaws.{same_truth, clash}
-use Rattle.base.proofs.ChainLaws.{Visit, visit_map, visit_start, visit_step}
 use Rattle.base.proofs.Numbers.{split_eq, zeros}
-use Rattle.policy_image.specs.Policy.{Policy, policy_links}
+use Rattle.policy_image.specs.declared.records.Record.{Record}
+use Rattle.policy_image.specs.declared.kinds.Kind.TheVariants.{Domain}
+use Rattle.policy_image.specs.Layout.{policy_head, record_of}
+use Rattle.policy_image.specs.Policy.{policy_of}
+use Rattle.policy_links.specs.declared.records.Records.{Records}
+use Rattle.policy_links.specs.Inner.Walking.{GivesNext}
 use Rattle.policy_links.specs.Chains.{LinksRise, ChainsByKind}
-use Rattle.policy_links.proofs.KindLaws.{some_yes, some_record, visit_kind, visit_all}
+use Rattle.policy_links.proofs.KindLaws.{some_yes, some_record}
+use Rattle.policy_links.proofs.Walking.{Along, given_same, along_map, along_start, along_step, along_kind, along_end}
 use Rattle.policy_sources.specs.Sources.{domain}
 use Rattle.policy_sources.specs.Inner.Domains.{DomainTable}
 
@@ -24,10 +29,10 @@ use Rattle.policy_sources.specs.Inner.Domains.{DomainTable}
 abbrev Marked : List ℕ → ℕ → Type 0
 Marked l t = bit (get_or l t 0) 0 ≡ true
 
-pub record Marking (p : Policy) (l : List ℕ) (i : ℕ) : Type 0 where
+pub record Marking (s : List ℕ) (l : List ℕ) (it : Records) : Type 0 where
   pub size : length l ≡ 256
-  pub visit : Visit (policy_links p) 1 (λ j. Marked l (p.rec j).a) i
-  pub from : (t : ℕ) → Marked l t → domain p t ≡ true
+  pub along : Along s Domain (λ j. Marked l (record_of s j).a) it
+  pub from : (t : ℕ) → Marked l t → domain (policy_of s) t ≡ true
 
 -- the entry x is marked, and the others are as they were
 module _ (l : List ℕ) (x : ℕ) (room : x < length l) where
@@ -39,40 +44,41 @@ module _ (l : List ℕ) (x : ℕ) (room : x < length l) where
   marked_keeps t h =
       ⊎_elim (λ e. subst (Marked (set l x 1)) (sym e) marked_at) (λ n. ap (λ (v : ℕ). bit v 0) (get_or-set_other l x t 1 0 n) ∙ h) (split_eq t x)
 
-module _ (p : Policy) (L : LinksRise p) (C : ChainsByKind p) where
-  pub marking_start : (i : ℕ) → i ≡ p.head 1 → Marking p (replicate 256 0) i
-  marking_start i e =
+module _ (s : List ℕ) (L : LinksRise (policy_of s)) (C : ChainsByKind (policy_of s)) where
+  pub marking_start : {it : Records} → (it.image.now ≡ s) × (it.next ≡ policy_head s 1) → Marking s (replicate 256 0) it
+  marking_start e =
       record {
         size = refl;
-        visit = visit_start (policy_links p) 1 (L.heads 1 (omega arith) (omega arith)) L.nexts _ i e;
+        along = along_start s L Domain _ e;
         from = λ t h. absurd (clash h (ap (λ (v : ℕ). bit v 0) (zeros 256 t) ∙ bit_zero 0));
       }
 
-  -- record i marks its type x
-  pub marking_step : (l : List ℕ) (i : ℕ) → (i ≡ 0 → ⊥) → Marking p l i → (i' x : ℕ) → i' ≡ (p.rec i).next → x ≡ (p.rec i).a → x < length l
-      → Marking p (set l x 1) i'
+  -- record r marks its type
+  pub marking_step : (l : List ℕ) {it it' : Records} {r : Record} → Marking s l it → GivesNext it r it' → Marking s (set l r.a 1) it'
   unfolding domain
-  marking_step l i n m i' x next of room =
+  marking_step l {it} {it'} {r} m g =
+      let of = (given_same s m.along.image g).a in
+      let room : r.a < length l = omega (arith, m.size, g.read.bytes.a) in
+      let a = along_map s Domain _ (λ j. Marked (set l r.a 1) (record_of s j).a) (λ j h. marked_keeps l r.a room (record_of s j).a h) m.along in
+      let kind = along_kind s L Domain _ a g C in
       record {
-        size = length-set l x 1 ∙ m.size;
-        visit = visit_step (policy_links p) 1 (L.heads 1 (omega arith) (omega arith)) L.nexts _ i n
-            (visit_map (policy_links p) 1 i _ _ (λ j h. marked_keeps l x room (p.rec j).a h) m.visit) i' next
-            (subst (Marked (set l x 1)) of (marked_at l x room));
+        size = length-set l r.a 1 ∙ m.size;
+        along = along_step s L Domain _ a g (subst (Marked (set l r.a 1)) of (marked_at l r.a room));
         from = λ t h.
             ⊎_elim
-            (λ e. some_yes p 1 (λ r. eqb r.a t) i (visit_kind p L C 1 (omega arith) (omega arith) _ i n m.visit) (eq-eqb (p.rec i).a t (sym of ∙ sym e)))
-            (λ d. m.from t (ap (λ (v : ℕ). bit v 0) (sym (get_or-set_other l x t 1 0 d)) ∙ h))
-            (split_eq t x);
+            (λ e. some_yes (policy_of s) 1 (λ r. eqb r.a t) it.next kind (eq-eqb (record_of s it.next).a t (sym of ∙ sym e)))
+            (λ d. m.from t (ap (λ (v : ℕ). bit v 0) (sym (get_or-set_other l r.a t 1 0 d)) ∙ h))
+            (split_eq t r.a);
       }
 
   -- at the end the types that are marked are the domains
-  pub marking_end : (l : List ℕ) → Marking p l 0 → DomainTable p l
+  pub marking_end : (l : List ℕ) {it : Records} → Marking s l it → it.next ≡ 0 → DomainTable (policy_of s) l
   unfolding domain
-  marking_end l m =
+  marking_end l m z =
       record {
         at = λ t.
-            same_truth (bit (get_or l t 0) 0) (domain p t) (m.from t)
+            same_truth (bit (get_or l t 0) 0) (domain (policy_of s) t) (m.from t)
             (λ h.
-            let r = some_record p 1 (λ r. eqb r.a t) h in
-            subst (Marked l) (eqb-true (p.rec r.0).a t r.2) (visit_all p L C 1 (omega arith) (omega arith) _ m.visit r.0 r.1));
+            let r = some_record (policy_of s) 1 (λ r. eqb r.a t) h in
+            subst (Marked l) (eqb-true (record_of s r.0).a t r.2) (along_end s L Domain _ C m.along z r.0 r.1));
       }

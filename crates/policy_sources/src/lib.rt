@@ -9,8 +9,8 @@ ghost use Rattle.policy_sources.specs.Sources.{AllowsFromDomains};
 ghost use Rattle.policy_sources.specs.Inner.Domains.{DomainTable};
 
 use base::bits::has_bit;
-use policy_image::kinds::{ALLOWS, DOMAINS};
-use policy_image::records::{head_at, record_at};
+use policy_image::kinds::Kind;
+use policy_links::records::records_of;
 
 // How many entries a table by types has: one more than the largest number, for entry 0.
 pub const TYPES: usize = 256;
@@ -21,12 +21,8 @@ pub fn domain_table(image: &[u8]) -> [u32; TYPES]
     ensures { DomainTable (policy_of image.now) result }
 {
     let mut domains = [0u32; TYPES];
-    let mut i = head_at(image, DOMAINS);
-    while i != 0 {
-        let r = record_at(image, i);
-        let t = r.a as usize;
-        domains[t] = 1;
-        i = r.next;
+    for r in records_of(image, Kind::Domain) {
+        domains[r.a as usize] = 1;
     }
     domains
 }
@@ -37,14 +33,5 @@ pub fn allows_from_domains(image: &[u8]) -> bool
     ensures { Decides result (AllowsFromDomains (policy_of image.now)) }
 {
     let domains = domain_table(image);
-    let mut i = head_at(image, ALLOWS);
-    while i != 0 {
-        let r = record_at(image, i);
-        let source = r.a as usize;
-        if !has_bit(domains[source], 0) {
-            return false;
-        }
-        i = r.next;
-    }
-    true
+    records_of(image, Kind::Allow).all(|r| has_bit(domains[r.a as usize], 0))
 }

@@ -1,21 +1,14 @@
-// The answer of a call that writes a policy image, and the number that C gets for it.
+// The number that C gets for the answer of a call that writes a policy image: how many bytes are written, or the refusal.
 ghost use Rattle.std.specs.Prelude.{◌≡◌};
 ghost use Rattle.policy_writing.specs.Writing.{writing_number};
 
-#[derive(Clone, Copy)]
-pub enum Writing {
-    // the image is written: so many bytes
-    Written(u32),
-    // the number of the question whose answer is no
-    Refused(u32),
-}
+use base::refusals::Refusal;
 
-// The number that C gets for an answer.
-pub fn number(writing: Writing) -> u64
-    ensures { result ≡ writing_number writing }
+pub fn number(written: Result<u32, Refusal>) -> u64
+    ensures { result ≡ writing_number written }
 {
-    match writing {
-        Writing::Written(n) => 256 * (n as u64),
-        Writing::Refused(k) => 4 * (k as u64) + 3,
+    match written {
+        Ok(bytes) => 256 * u64::from(bytes),
+        Err(refusal) => refusal.code(),
     }
 }

@@ -64,10 +64,8 @@ pub fn put_header(out: &mut [u8], c: Counts, heads: &[usize; 10])
     ensures { Filled (λ j v. v ≡ byte_at (header_bytes c (λ k. get_or heads.now k 0)) j) out.old out.new 0 0 header_size }
 {
     put_counts(out, c);
-    let mut k: usize = 1;
-    while k <= 9 {
+    for k in 1..=9 {
         put_head(out, k, heads[k]);
-        k += 1;
     }
 }
 

@@ -13,7 +13,7 @@ ghost use Rattle.relations.specs.Inner.Facts.{AllowMask};
 use crate::facts::{Fact, is_given, united};
 use base::bits::has_bit;
 use context::Event;
-use policy_image::kinds::{ALLOW, DOMAIN, FLOW, PERMISSIONS, ROLE_CHANGE, ROLE_TYPE, USER_ROLE};
+use policy_image::kinds::Kind;
 
 // Whether the type is a domain.
 fn is_domain(policy: &[u8], t: u32) -> bool
@@ -23,7 +23,7 @@ fn is_domain(policy: &[u8], t: u32) -> bool
     is_given(
         policy,
         Fact {
-            kind: DOMAIN,
+            kind: Kind::Domain,
             a: t,
             b: 0,
             c: 0,
@@ -39,7 +39,7 @@ pub fn gamma(policy: &[u8], e: Event) -> bool
     let mask = united(
         policy,
         Fact {
-            kind: PERMISSIONS,
+            kind: Kind::Permissions,
             a: e.class,
             b: 0,
             c: 0,
@@ -56,7 +56,7 @@ pub fn flows_as(policy: &[u8], way: u32, e: Event) -> bool
     let mask = united(
         policy,
         Fact {
-            kind: FLOW,
+            kind: Kind::Flow,
             a: e.class,
             b: way,
             c: 0,
@@ -73,7 +73,7 @@ fn allow_mask(policy: &[u8], source: u32, target: u32, class: u32) -> u32
     united(
         policy,
         Fact {
-            kind: ALLOW,
+            kind: Kind::Allow,
             a: source,
             b: target,
             c: class,
@@ -99,7 +99,7 @@ pub fn rho(policy: &[u8], role: u32, t: u32) -> bool
     ensures { result ≡ ρ (policy_of policy.now) role t }
 {
     let f = Fact {
-        kind: ROLE_TYPE,
+        kind: Kind::RoleType,
         a: role,
         b: t,
         c: 0,
@@ -118,7 +118,7 @@ pub fn mu(policy: &[u8], user: u32, role: u32) -> bool
     ensures { result ≡ μ (policy_of policy.now) user role }
 {
     let f = Fact {
-        kind: USER_ROLE,
+        kind: Kind::UserRole,
         a: user,
         b: role,
         c: 0,
@@ -137,7 +137,7 @@ pub fn role_change(policy: &[u8], r1: u32, r2: u32) -> bool
     is_given(
         policy,
         Fact {
-            kind: ROLE_CHANGE,
+            kind: Kind::RoleChange,
             a: r1,
             b: r2,
             c: 0,

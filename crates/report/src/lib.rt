@@ -10,6 +10,7 @@ use goal_question::goal::{Outcome, goal_question};
 use std::fs::{self, Files};
 use std::io::{Print, Read};
 use std::str;
+use witness::unanswered::Unanswered;
 
 // One byte more than the largest images, so that a file that is longer is refused for its length.
 const POLICY_BYTES: usize = 49165;
@@ -48,42 +49,14 @@ fn read_image<R: Files>(rt: &R, name: &[u8], buf: &mut [u8]) -> usize
     }
 }
 
-fn print_number(rt: &impl Print, n: u32) {
-    let _ = rt.print(n);
-}
-
-fn print_end(rt: &impl Print) {
-    let _ = rt.write_all(b"\n");
-}
-
-fn print_space(rt: &impl Print) {
-    let _ = rt.write_all(b" ");
-}
-
 // "t r u"
 fn print_context(rt: &impl Print, x: Context) {
-    print_number(rt, x.ty);
-    print_space(rt);
-    print_number(rt, x.role);
-    print_space(rt);
-    print_number(rt, x.user);
-    print_end(rt);
+    let _ = println!(rt; "{} {} {}", x.ty, x.role, x.user);
 }
 
 // "c p"
 fn print_event(rt: &impl Print, e: Event) {
-    print_number(rt, e.class);
-    print_space(rt);
-    print_number(rt, e.perm);
-    print_end(rt);
-}
-
-// The word, and a number after it, on a line.
-fn print_line(rt: &impl Print, word: &[u8], n: u32) {
-    let _ = rt.write_all(word);
-    print_space(rt);
-    print_number(rt, n);
-    print_end(rt);
+    let _ = println!(rt; "{} {}", e.class, e.perm);
 }
 
 // The path of m steps, its contexts and events in turn.
@@ -91,33 +64,35 @@ fn print_path(rt: &impl Print, path: &[u32], m: u32)
     requires { 2 * m + 1 ≤ length path.now }
 {
     let last = m as usize;
-    let mut j: usize = 0;
-    while j < last {
+    for j in 0..last {
         print_context(rt, Context::decode(path[2 * j]));
         print_event(rt, Event::decode(path[2 * j + 1]));
-        j += 1;
     }
-    print_context(rt, Context::decode(path[2 * j]));
+    print_context(rt, Context::decode(path[2 * last]));
 }
 
 // The answer, and the path where one is shown.
-fn print_outcome(rt: &impl Print, outcome: Outcome, path: &[u32])
+fn print_outcome(rt: &impl Print, outcome: Result<Outcome, Unanswered>, path: &[u32])
     requires { Printable outcome path.now }
 {
     match outcome {
-        Outcome::Holds => {
-            let _ = rt.write_all(b"holds\n");
+        Ok(Outcome::Holds) => {
+            let _ = println!(rt; "holds");
         }
-        Outcome::Order(m) => {
-            print_line(rt, b"order", m);
+        Ok(Outcome::Order(m)) => {
+            let _ = println!(rt; "order {m}");
             print_path(rt, path, m);
         }
-        Outcome::Events(m) => {
-            print_line(rt, b"events", m);
+        Ok(Outcome::Events(m)) => {
+            let _ = println!(rt; "events {m}");
             print_path(rt, path, m);
         }
-        Outcome::Refused(k) => print_line(rt, b"refused", k),
-        Outcome::NoRoom(m) => print_line(rt, b"refused 12", m),
+        Err(Unanswered::Refused(refusal)) => {
+            let _ = println!(rt; "refused {}", refusal.number());
+        }
+        Err(Unanswered::NoRoom(m)) => {
+            let _ = println!(rt; "refused 12 {m}");
+        }
     }
 }
 

@@ -1,22 +1,23 @@
 // The search level by level: of the nodes in the queue, the events rising, and of each the types and their contexts rising.
+ghost use Rattle.std.specs.Prelude.{◌≡◌, ◌<◌, ◌^◌};
 ghost use Rattle.search_graph.specs.Inner.State.{Inv};
 ghost use Rattle.search_graph.specs.Inner.Tasks.{Given, graph_of};
 ghost use Rattle.search_graph.specs.Inner.Visits.{Visited};
-ghost use Rattle.search.specs.Inner.Found.{Searched};
+ghost use Rattle.search.specs.Inner.Found.{steps_to, Searched};
 
 use plan_tables::TYPES;
 use search_constraints::asked::MEMO;
 use search_constraints::marks::marks_of;
 use search_constraints::rows::pair_rows;
 use search_graph::arrival::{Arrival, arrive};
-use search_graph::task::Task;
+use search_graph::task::Query;
 use search_memory::first::first_step;
 use search_memory::opens::{OPENS, open_pairs, take_pairs};
 use search_memory::remember;
 use search_memory::turn::take_up;
 use search_steps::nearest::{NONE, kept_of};
 use search_steps::offers::next_offer;
-use search_steps::pairs::{PAIRS_END, next_pair, step_pairs};
+use search_steps::pairs::{StepRules, pairs_of, step_pairs};
 use search_steps::sweep::sweep_of;
 
 // A step into a bad end: the node it is from, its event, the end's node, and the number of steps to the node it is from.
@@ -28,18 +29,30 @@ pub struct LastStep {
     pub depth: u32,
 }
 
-// What a search finds: nothing; a start that is a bad end, by its code; or a step into a bad end.
+// The bad end that a search finds: a start, by its code; or the end of a step.
 #[derive(Clone, Copy)]
-pub enum LeastEnd {
-    Nothing,
+pub enum End {
     Start(u32),
-    At(LastStep),
+    Step(LastStep),
+}
+
+impl End {
+    // How many steps away it is.
+    pub fn steps(self) -> u32
+        requires { steps_to self < 2 ^ 32 }
+        ensures { result ≡ steps_to self }
+    {
+        match self {
+            End::Start(_) => 0,
+            End::Step(last) => last.depth + 1,
+        }
+    }
 }
 
 // What a search found, and how many nodes it visited: as many places of the queue list them.
 #[derive(Clone, Copy)]
 pub struct Sought {
-    pub found: LeastEnd,
+    pub found: Option<End>,
     pub visited: usize,
 }
 
@@ -52,21 +65,26 @@ pub const UNBOUNDED: u32 = 67108864;
 // would only meet nodes that are entered. From the states in shut no step is left to ask. Of a type that is not swept, opens has the pairs
 // that are left to enter, and memo what the constraints on them are.
 pub fn search_levels(
-    policy: &[u8],
-    plan: &[u32],
-    task: Task,
+    query: Query,
     bound: u32,
     seeded: usize,
     queue: &mut [u32],
     back: &mut [u32],
 ) -> Sought
-    requires { Given policy.now plan.now task × Inv (graph_of policy.now plan.now task) back.old queue.old 0 seeded seeded 0 }
-    ensures { Searched (graph_of policy.now plan.now task) bound back.new result.found × Visited queue.new back.new result.visited }
+    requires { Given query.policy.now query.plan.now query.task × Inv (graph_of query.policy.now query.plan.now query.task) back.old queue.old 0 seeded seeded 0 }
+    ensures { Searched (graph_of query.entry.policy.now query.entry.plan.now query.entry.task) bound back.new result.found × Visited queue.new back.new result.visited }
 {
+    let Query { policy, plan, task } = query;
     let counts = task.counts;
     let pairs = counts.roles * counts.users;
     let rows = pair_rows(counts);
     let marks = marks_of(policy);
+    let rules = StepRules {
+        policy,
+        plan,
+        rows: &rows,
+        marks: &marks,
+    };
     let mut memo = [0u64; MEMO];
     let mut opens = [0u64; OPENS];
     let mut swept = [0u64; TYPES];
@@ -79,7 +97,7 @@ pub fn search_levels(
     'search: loop {
         if tail <= head {
             break 'search Sought {
-                found: LeastEnd::Nothing,
+                found: None,
                 visited: tail,
             };
         }
@@ -90,7 +108,7 @@ pub fn search_levels(
         // a step from here arrives after depth + 1 steps
         if bound <= depth {
             break 'search Sought {
-                found: LeastEnd::Nothing,
+                found: None,
                 visited: tail,
             };
         }
@@ -103,18 +121,17 @@ pub fn search_levels(
             let sweep = sweep_of(counts, plan, offer);
             let kept = kept_of(node.asker, sweep.sets);
             let left = open_pairs(counts, plan, &mut opens, sweep.ty, kept);
-            let todo = step_pairs(policy, plan, &rows, &marks, &mut memo, x, sweep, &left);
-            let mut k = next_pair(&todo, 0, pairs);
-            while k < PAIRS_END {
+            let todo = step_pairs(rules, &mut memo, x, sweep, &left);
+            for k in pairs_of(&todo, pairs) {
                 match arrive(plan, task, state, sweep.sets, sweep.ty, sweep.start + k) {
                     Arrival::Broken(v) => {
                         break 'search Sought {
-                            found: LeastEnd::At(LastStep {
+                            found: Some(End::Step(LastStep {
                                 from: u,
                                 event: sweep.event,
                                 to: v,
-                                depth: depth,
-                            }),
+                                depth,
+                            })),
                             visited: tail,
                         };
                     }
@@ -128,7 +145,6 @@ pub fn search_levels(
                         }
                     }
                 }
-                k = next_pair(&todo, k + 1, pairs);
             }
             let none = take_pairs(counts, &mut opens, sweep.ty, kept, &todo);
             remember(&mut swept, sweep.ty, kept, none);

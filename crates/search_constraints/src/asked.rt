@@ -65,11 +65,7 @@ fn put_pairs(leaves: &mut [u64; LEAVES], side: usize, ty: u32, rows: &[u64; ROWS
 {
     leaves[side] = ty as u64;
     let first = ROLES_AT + SIDE * side;
-    let mut i: usize = 0;
-    while i < ROW {
-        leaves[first + i] = rows[at + i];
-        i += 1;
-    }
+    leaves[first..first + ROW].copy_from_slice(&rows[at..at + ROW]);
 }
 
 // The leaves of the pairs of x with the contexts of the type.

@@ -5,9 +5,9 @@ ghost use Rattle.policy_check.specs.Inner.Sound.{Sound};
 ghost use Rattle.search_constraints.specs.Inner.Pairs.{mark_entries, mark_of, told_of, Marked};
 
 use policy_image::kinds::{
-    ROLE_1, ROLE_2, SAME_ROLE, SAME_TYPE, SAME_USER, TYPE_1, TYPE_2, USER_1, USER_2,
+    Kind, ROLE_1, ROLE_2, SAME_ROLE, SAME_TYPE, SAME_USER, TYPE_1, TYPE_2, USER_1, USER_2,
 };
-use policy_image::records::{head_at, record_at};
+use policy_links::records::records_of;
 
 // By type, role and user. The first entry of each sort, which is no number of one, is for all: where two are compared with each other.
 pub const TYPE_MARKS: usize = 0;
@@ -20,9 +20,6 @@ pub const USER_MARKS: usize = 512;
 const NO_MARK: usize = 768;
 
 pub const MARKS: usize = NO_MARK + 1;
-
-// The nodes' chain.
-const NODES: usize = 9;
 
 // The entry that a node with the operator and the number b marks.
 fn mark_of(op: u32, b: u32) -> usize
@@ -50,12 +47,8 @@ pub fn marks_of(policy: &[u8]) -> [u8; MARKS]
     ensures { Marked (policy_of policy.now) result }
 {
     let mut marks = [0u8; MARKS];
-    let mut i = head_at(policy, NODES);
-    while i != 0 {
-        let r = record_at(policy, i);
-        let at = mark_of(r.a, r.b);
-        marks[at] = 1;
-        i = r.next;
+    for r in records_of(policy, Kind::Node) {
+        marks[mark_of(r.a, r.b)] = 1;
     }
     marks
 }

@@ -27,14 +27,12 @@ pub fn pair_rows(counts: Counts) -> [u64; ROWS]
 {
     let mut rows = [0u64; ROWS];
     let pairs = counts.roles * counts.users;
-    let mut i: u32 = 0;
-    while i < pairs {
+    for i in 0..pairs {
         let role = (i / counts.users + 1) as usize;
         let user = (i % counts.users + 1) as usize;
         let at = ROW * ((i / 64) as usize);
         put_bit(&mut rows, at + role, i % 64);
         put_bit(&mut rows, at + USERS_AT + user, i % 64);
-        i += 1;
     }
     rows
 }

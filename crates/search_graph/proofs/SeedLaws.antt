@@ -3,7 +3,7 @@ use mathlib.Core.Path.{◌≡◌, refl, sym, ◌∙◌, ap, ap₂, subst}
 use mathlib.Core.Bool.{Bool, true, false, not}
 use mathlib.Core.List.{List, []}
 use mathlib.Core.Logic.{⊎_elim}
-use Prim.Native.Nat.{ℕ, ◌+◌, ◌*◌, ◌^◌, ◌≤◌, ◌<◌}
+use Prim.Native.Nat.{ℕ, ◌+◌, ◌-◌, ◌*◌, ◌^◌, ◌≤◌, ◌<◌}
 use native.Mathlib.Nat.{mul-le-mul_right, zero-mul, lt_of_lt_of_le}
 use native.Mathlib.Decide.{dec_le}
 use native.Mathlib.Omega.{arith}
@@ -13,6 +13,7 @@ use lib.Dec.{T}
 use lib.ListN.{set}
 use lib.Seq.{get_or-set_other}
 use Rattle.base.specs.Bits.{bit}
+use Rattle.base.specs.Ranges.{Within}
 use Rattle.policy_image.specs.declared.counts.Counts.{Counts}
 use Rattle.policy_image.specs.Layout.{counts_of}
 use Rattle.context.specs.declared.Context.{Context}
@@ -26,7 +27,7 @@ use Rattle.goal_model.specs.Images.{in_range, meetsρμ}
 use Rattle.plan.specs.Inner.Plan.{PlanCounts, ruled}
 use Rattle.plan.specs.Inner.Sets.{sets_of}
 use Rattle.plan.specs.Inner.Meets.{held_by}
-use Rattle.context.proofs.TypeLaws.{of_below, start_le}
+use Rattle.context.proofs.TypeLaws.{of_below, start_le, start_next}
 use Rattle.plan.proofs.MeetsLaws.{held_is}
 use Rattle.search_graph.specs.declared.arrival.Arrival.{Arrival}
 use Rattle.search_graph.specs.declared.arrival.Arrival.TheVariants.{Enter, Dropped, Broken}
@@ -242,9 +243,8 @@ module _ {s plan : List ℕ} {t : Task} {back queue : List ℕ} {tail y : ℕ} (
           S.none z (omega arith) (subst (BadStart M₀ W₀) (sym q) b)
 
 -- .. whatever the policy
-pub record Sowing (plan : List ℕ) (t : Task) (count nodes : ℕ) (back queue : List ℕ) (tail y : ℕ) : Type 0 where
+pub record Sowing (plan : List ℕ) (t : Task) (nodes : ℕ) (back queue : List ℕ) (tail y : ℕ) : Type 0 where
   pub readable : Readable plan t
-  pub contexts : count ≡ context_count t.counts
   pub nodes_are : nodes ≡ context_count t.counts * states_in t
   pub few : nodes < 2 ^ 26
   pub below : y ≤ context_count t.counts
@@ -253,12 +253,11 @@ pub record Sowing (plan : List ℕ) (t : Task) (count nodes : ℕ) (back queue :
   pub clear : Cleared back (y * states_in t)
   pub by : (s : List ℕ) → Given s plan t → SowingBy s plan t back queue tail y
 
-pub sow_begin : {plan : List ℕ} {t : Task} {count nodes : ℕ} {back queue : List ℕ} → Readable plan t → count ≡ context_count t.counts → nodes ≡ context_count t.counts * states_in t
-    → Roomy t queue back → Sowing plan t count nodes back queue 0 0
-sow_begin R q p room =
+pub sow_begin : {plan : List ℕ} {t : Task} {nodes : ℕ} {back queue : List ℕ} → Readable plan t → nodes ≡ context_count t.counts * states_in t
+    → Roomy t queue back → Sowing plan t nodes back queue 0 0
+sow_begin R p room =
     record {
       readable = R;
-      contexts = q;
       nodes_are = p;
       few = omega (arith, R.nodes);
       below = omega arith;
@@ -268,23 +267,22 @@ sow_begin R q p room =
       by = λ s A. begin_by A room;
     }
 
-module _ {plan : List ℕ} {t : Task} {count nodes : ℕ} {back queue : List ℕ} {tail y : ℕ} (S : Sowing plan t count nodes back queue tail y) where
-  module _ {r : Arrival} (h : y < count) (Z : Beginning plan t y r) where
+module _ {plan : List ℕ} {t : Task} {nodes : ℕ} {back queue : List ℕ} {tail y : ℕ} (S : Sowing plan t nodes back queue tail y) where
+  module _ {o : ℕ} {r : Arrival} (H : OfType t.counts o y) (Z : Beginning plan t y r) where
     in_count : y < context_count t.counts
-    in_count = omega (arith, S.contexts)
+    in_count = of_below S.readable.sets.counts.countable H
 
     -- what the arrival is, for a policy
     begun : {r' : Arrival} → r ≡ r' → (s : List ℕ) → Given s plan t → Begins (model_by s plan t) t.counts (watch_by s plan t) (states_in t) y r'
     begun q s A = subst (Begins (model_by s plan t) t.counts (watch_by s plan t) (states_in t) y) q (Z.by s A)
 
-    pub sow_skip : r ≡ Dropped → Sowing plan t count nodes back queue tail (y + 1)
+    pub sow_skip : r ≡ Dropped → Sowing plan t nodes back queue tail (y + 1)
     sow_skip q =
         record {
           readable = S.readable;
-          contexts = S.contexts;
           nodes_are = S.nodes_are;
           few = S.few;
-          below = omega (arith, S.contexts);
+          below = omega (arith, in_count);
           full = omega (arith, S.full, next_block y (states_in t));
           fits = S.fits;
           clear = record { at = λ w lo. S.clear.at w (omega (arith, next_block y (states_in t))) };
@@ -296,19 +294,18 @@ module _ {plan : List ℕ} {t : Task} {count nodes : ℕ} {back queue : List ℕ
 
     module _ {v : ℕ} (q : r ≡ Enter v) where
       pub sow_within : v < context_count t.counts * states_in t
-      sow_within = let k : y + 1 ≤ context_count t.counts = omega (arith, S.contexts) in lt_of_lt_of_le (Z.high v q) (mul-le-mul_right (states_in t) k)
+      sow_within = let k : y + 1 ≤ context_count t.counts = omega (arith, in_count) in lt_of_lt_of_le (Z.high v q) (mul-le-mul_right (states_in t) k)
 
       pub sow_room : tail < context_count t.counts * states_in t
       sow_room = omega (arith, S.full, Z.low v q, sow_within)
 
-      pub sow_enter : Sowing plan t count nodes (set back v (nodes + 1)) (set queue tail v) (tail + 1) (y + 1)
+      pub sow_enter : Sowing plan t nodes (set back v (nodes + 1)) (set queue tail v) (tail + 1) (y + 1)
       sow_enter =
           record {
             readable = S.readable;
-            contexts = S.contexts;
             nodes_are = S.nodes_are;
             few = S.few;
-            below = omega (arith, S.contexts);
+            below = omega (arith, in_count);
             full = omega (arith, S.full, Z.low v q, Z.high v q);
             fits = omega (arith, sow_room, S.nodes_are);
             clear = record {
@@ -319,32 +316,36 @@ module _ {plan : List ℕ} {t : Task} {count nodes : ℕ} {back queue : List ℕ
           }
 
   -- a type is passed over
-  pub sow_pass : {o b : ℕ} → OfType t.counts o y → NoStart t.counts plan o → b ≡ first_place t.counts (o + 1) → Sowing plan t count nodes back queue tail b
-  sow_pass {o} {b} H Z q =
+  pub sow_pass : {o : ℕ} → y ≡ first_place t.counts o → Within 1 t.counts.types o → NoStart t.counts plan o
+      → Sowing plan t nodes back queue tail (first_place t.counts (o + 1))
+  sow_pass {o} e W Z =
       record {
         readable = S.readable;
-        contexts = S.contexts;
         nodes_are = S.nodes_are;
         few = S.few;
         below = most;
         full = omega (arith, S.full, more);
         fits = S.fits;
         clear = record { at = λ w lo. S.clear.at w (omega (arith, more)) };
-        by = λ s A. pass_by (S.by s A) b next most S.clear
-            (λ z lo hi. never_start A (record { type = H.type; low = omega (arith, H.low); high = omega (arith, q) }) Z);
+        by = λ s A. pass_by (S.by s A) (first_place t.counts (o + 1)) next most S.clear
+            (λ z lo hi. never_start A (record { type = W; low = subst (λ (k : ℕ). k ≤ z) e lo; high = hi }) Z);
       }
     where
-      next : y ≤ b
-      next = omega (arith, H.high)
+      next : y ≤ first_place t.counts (o + 1)
+      next = subst (λ (k : ℕ). k ≤ first_place t.counts (o + 1)) (sym e) (start_next S.readable.sets.counts.countable o)
 
-      most : b ≤ context_count t.counts
-      most = rw q (start_le S.readable.sets.counts.countable (o + 1) (omega (arith, H.type.high)))
+      most : first_place t.counts (o + 1) ≤ context_count t.counts
+      most = start_le S.readable.sets.counts.countable (o + 1) (omega (arith, W.high))
 
-      more : y * states_in t ≤ b * states_in t
+      more : y * states_in t ≤ first_place t.counts (o + 1) * states_in t
       more = mul-le-mul_right (states_in t) next
 
-  pub sow_end : count ≤ y → (s : List ℕ) → Given s plan t → SownNodes s plan t queue back tail
-  sow_end h s A = end_by (S.by s A) (omega (arith, S.contexts)) S.clear
+  pub sow_end : context_count t.counts ≤ y → (s : List ℕ) → Given s plan t → SownNodes s plan t queue back tail
+  sow_end h s A = end_by (S.by s A) h S.clear
+
+-- behind the last type stands no context
+pub last_type : (n : Counts) {o : ℕ} → n.types ≤ o → context_count n ≤ first_place n (o + 1)
+last_type n {o} h = let k : n.types ≤ o + 1 - 1 = omega arith in mul-le-mul_right n.users (mul-le-mul_right n.roles k)
 
 -- the node of a start is among those of its context
 module _ {plan : List ℕ} {t : Task} {o y state into : ℕ} (R : Readable plan t) (H : OfType t.counts o y) (S : into ≡ sets_of t.counts plan (context_at_index t.counts y))

@@ -1,28 +1,22 @@
 -- Types that have no context to start from.
 use mathlib.Core.Path.{◌≡◌, refl, sym, ◌∙◌, ap}
-use mathlib.Core.Bool.{Bool, false, not}
+use mathlib.Core.Bool.{Bool, false}
 use mathlib.Core.List.{List}
-use mathlib.Core.Logic.{inl, inr}
+use mathlib.Core.Logic.{inl}
 use Prim.Native.Nat.{ℕ, ◌-◌}
-use lib.Bits.{bit_and}
-use lib.Dec.{eqb}
 use Rattle.base.specs.Bits.{bit}
 use Rattle.base.proofs.BitLaws.{bit_or_lem}
 use Rattle.base.proofs.BoolLaws.{or_false}
 use Rattle.policy_image.specs.declared.counts.Counts.{Counts}
 use Rattle.context.specs.Inner.Places.{first_place}
 use Rattle.context.proofs.TypeLaws.{of_pair}
-use Rattle.plan.specs.Inner.Entries.{roles_at, holders_at, named_at, type_sets_at, pair_sets_at}
+use Rattle.plan.specs.Inner.Entries.{named_at, type_sets_at, pair_sets_at}
 use Rattle.plan.specs.Inner.Plan.{PlanCounts}
 use Rattle.plan.specs.Inner.Sets.{Falls}
 use Rattle.plan.proofs.SetLaws.{sets_few}
 use Rattle.search_graph.specs.Inner.Starts.{PairsStart, NoStart}
 
 module _ {n : Counts} {plan : List ℕ} {o : ℕ} where
-  -- no role may hold the type
-  pub unheld : roles_at plan o ≡ 0 → NoStart n plan o
-  unheld q = record { at = λ y H. inr (ap (λ (k : ℕ). not (eqb (bit_and k (holders_at plan (y - first_place n o))) 0)) q) }
-
   -- neither the type nor a pair is in σ0, and no record names the type with more
   pub outside : PlanCounts n → Falls plan → {b : Bool} → PairsStart n plan b → b ≡ false → named_at plan o ≡ 0 → bit (type_sets_at plan o) 0 ≡ false → NoStart n plan o
   outside C F P p e q =

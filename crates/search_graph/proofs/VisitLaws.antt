@@ -1,33 +1,13 @@
 -- Clearing what was visited.
 use mathlib.Core.Path.{◌≡◌, sym, ◌∙◌, ap}
 use mathlib.Core.List.{List}
-use mathlib.Core.Logic.{⊎_elim}
 use Prim.Native.Nat.{ℕ, ◌+◌, ◌≤◌, ◌<◌}
-use native.Mathlib.Decide.{ℕ_discrete, dec_le}
+use native.Mathlib.Decide.{ℕ_discrete}
 use native.Mathlib.Omega.{arith}
-use lib.ListN.{length, get_or, set, length-set, get_or-eq_default}
+use lib.ListN.{length, get_or, set, length-set}
 use lib.Seq.{get_or-set_same, get_or-set_other}
-use Rattle.base.proofs.Numbers.{below_or}
 use Rattle.search_graph.specs.Inner.State.{InQueue}
 use Rattle.search_graph.specs.Inner.Visits.{Cleared, Visited}
-
--- the entries below v are cleared
-pub record ClearedBelow (back : List ℕ) (v : ℕ) : Type 0 where
-  pub at : (w : ℕ) → w < v → get_or back w 0 ≡ 0
-
-pub clear_more : {back : List ℕ} {v : ℕ} → ClearedBelow back v → v < length back → ClearedBelow (set back v 0) (v + 1)
-clear_more {back} {v} C h =
-    record {
-      at = λ w hi. ⊎_elim (λ (q : w ≡ v). rw q (get_or-set_same back v 0 0 h))
-          (λ (k : w < v). get_or-set_other back v w 0 0 (λ q. omega arith) ∙ C.at w k) (below_or hi);
-    }
-
-pub clear_all : {back : List ℕ} {v : ℕ} → ClearedBelow back v → length back ≤ v → Cleared back 0
-clear_all {back} {v} C h = record { at = λ w _. go w (dec_le (length back) w) }
-  where
-    go : (w : ℕ) → Dec (length back ≤ w) → get_or back w 0 ≡ 0
-    go w (yes k) = get_or-eq_default back 0 k
-    go w (no k) = C.at w (omega arith)
 
 -- of the places of the queue below n, those below i are undone
 pub record Undoing (queue back : List ℕ) (i n : ℕ) : Type 0 where

@@ -9,7 +9,7 @@ use borrow.Author.Tests.{le-ltb}
 use lib.Dec.{ltb}
 use Rattle.base.specs.Bits.{bit}
 use Rattle.base.proofs.BitLaws.{bit_shr, bit_zero}
-use Rattle.base.proofs.BoolLaws.{clash, and_no}
+use Rattle.base.proofs.BoolLaws.{and_no}
 use Rattle.goal_image.specs.declared.check.Legs.{Legs}
 use Rattle.paths.specs.Model.{Model}
 use Rattle.paths.specs.Inner.Stages.{goes_on, entered, stage_after, Advanced}
@@ -19,7 +19,7 @@ use Rattle.paths.proofs.StageLaws.{advance_is}
 use Rattle.paths.proofs.TrackerLaws.{track_is, begin_is}
 use Rattle.search_graph.specs.declared.monitor.Mode.{Mode}
 use Rattle.search_graph.specs.declared.monitor.Mode.TheVariants.{Order, Events, Any}
-use Rattle.search_graph.specs.Inner.Watching.{LegsOf, is_order, stages_from, Started, Stepped, Judged}
+use Rattle.search_graph.specs.Inner.Watching.{LegsOf, stages_from, Started, Stepped, Judged}
 
 -- ---- states have at most n + 1 bits
 fits : (k r : ℕ) → ((i : ℕ) → k ≤ i → bit r i ≡ false) → r < 2 ^ k
@@ -65,7 +65,7 @@ module _ {l : Legs} where
   pub start_any : {into : ℕ} → Started Any l into 0
   start_any = record { small = pow_pos (suc l.count); is = λ M y L I. refl }
 
-  step_order : {state by into r : ℕ} → 0 < l.count → Tracked state into l.count r → Stepped Order l state by into r
+  pub step_order : {state by into r : ℕ} → 0 < l.count → Tracked state into l.count r → Stepped Order l state by into r
   step_order {state} {by} {into} {r} h t =
       record { small = tracked_small t; is = λ M e y L _ I. track_is M y into (some_leg L h) I.at e (subst (λ (k : ℕ). Tracked state into k r) (sym L.count) t) }
 
@@ -82,13 +82,8 @@ module _ {l : Legs} where
       record { small = advanced_small a; is = λ M e y L B I. omega (arith, fits 0 r (λ i h. a.at i ∙ none_after l.repeated (by / 2 ^ 7) into l.count i)) }
 
   -- .. by the two ways that a step goes: order's, and that of stages
-  pub step_tracked : {state by into r : ℕ} (m : Mode) → is_order m ≡ true → 0 < l.count → Tracked state into l.count r → Stepped m l state by into r
-  step_tracked Order z h t = step_order h t
-  step_tracked Events z h t = absurd (clash z refl)
-  step_tracked Any z h t = absurd (clash z refl)
-
-  pub step_advanced : {state by into r : ℕ} (m : Mode) → is_order m ≡ false → Advanced (stages_from m state) l.repeated (by / 2 ^ 7) into l.count r → Stepped m l state by into r
-  step_advanced Order z a = absurd (clash refl z)
+  pub step_advanced : {state by into r : ℕ} (m : Mode) → (m ≡ Order → ⊥) → Advanced (stages_from m state) l.repeated (by / 2 ^ 7) into l.count r → Stepped m l state by into r
+  step_advanced Order z a = absurd (z refl)
   step_advanced Events z a = step_events a
   step_advanced Any z a = step_any a
 

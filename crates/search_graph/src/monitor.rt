@@ -1,7 +1,7 @@
 // The monitors that a search runs, by its mode: the state at a start, after a step, and whether a state is bad at an end. They
 // read the sets that the context and the event are in: bit i for σi, bit 7 + i for γi.
 ghost use Rattle.std.specs.Prelude.{◌≡◌, ◌<◌, ◌≤◌};
-ghost use Rattle.search_graph.specs.Inner.Watching.{is_order, stages_from, Started, Stepped, Judged};
+ghost use Rattle.search_graph.specs.Inner.Watching.{stages_from, Started, Stepped, Judged};
 
 use crate::task::Task;
 use base::bits::has_bit;
@@ -30,24 +30,12 @@ pub fn start_state(task: Task, into: u32) -> u32
     }
 }
 
-// Whether order is looked for.
-fn is_order(mode: Mode) -> bool
-    ensures { result ≡ is_order mode }
-{
-    match mode {
-        Mode::Order => true,
-        Mode::Events => false,
-        Mode::Any => false,
-    }
-}
-
 // The stages that a step goes on from, where order is not looked for: none, where any end is.
 fn stages_from(mode: Mode, state: u32) -> u32
     ensures { result ≡ stages_from mode state }
 {
     match mode {
-        Mode::Order => state,
-        Mode::Events => state,
+        Mode::Order | Mode::Events => state,
         Mode::Any => 0,
     }
 }
@@ -58,7 +46,7 @@ pub fn step_state(task: Task, state: u32, by: u32, into: u32) -> u32
     ensures { Stepped task.mode task.legs state by into result }
 {
     let mode = task.mode;
-    if is_order(mode) {
+    if let Mode::Order = mode {
         return track(state, into, task.legs.count);
     }
     advance(

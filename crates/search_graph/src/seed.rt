@@ -42,30 +42,26 @@ pub fn seed(plan: &[u32], task: Task, queue: &mut [u32], back: &mut [u32]) -> Se
     ensures { AllSown plan.now task queue.new back.new result }
 {
     let counts = task.counts;
-    let count = Context::count(counts);
-    let nodes = count * states_in(task);
+    let nodes = Context::count(counts) * states_in(task);
     let paired = pairs_start(counts, plan);
     let mut tail: usize = 0;
-    let mut y: u32 = 0;
-    while y < count {
-        let ty = Context::at(y, counts).ty;
+    for ty in 1..=counts.types {
         if !may_start(counts, plan, paired, ty) {
-            y = first_place(counts, ty + 1);
             continue;
         }
-        match start_at(plan, task, ty, y) {
-            Arrival::Broken(_) => {
-                return Seeded::Start(y, tail);
-            }
-            Arrival::Dropped => {}
-            Arrival::Enter(v) => {
-                let at = v as usize;
-                back[at] = nodes + 1;
-                queue[tail] = v;
-                tail += 1;
+        for y in first_place(counts, ty)..first_place(counts, ty + 1) {
+            match start_at(plan, task, ty, y) {
+                Arrival::Broken(_) => {
+                    return Seeded::Start(y, tail);
+                }
+                Arrival::Dropped => {}
+                Arrival::Enter(v) => {
+                    back[v as usize] = nodes + 1;
+                    queue[tail] = v;
+                    tail += 1;
+                }
             }
         }
-        y += 1;
     }
     Seeded::Nodes(tail)
 }

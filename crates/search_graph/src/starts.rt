@@ -14,14 +14,9 @@ pub fn pairs_start(counts: Counts, plan: &[u32]) -> bool
     ensures { PairsStart counts plan.now result }
 {
     let pairs = (counts.roles * counts.users) as usize;
-    let mut i: usize = 0;
-    while i < pairs {
-        if has_bit(plan[PAIR_SETS_START + i], 0) {
-            return true;
-        }
-        i += 1;
-    }
-    false
+    plan[PAIR_SETS_START..PAIR_SETS_START + pairs]
+        .iter()
+        .any(|sets| has_bit(*sets, 0))
 }
 
 // Whether a context of the type may be a start: some role may hold the type, and it is in σ0, or named with a role or a user, or some pair is.
@@ -30,14 +25,6 @@ pub fn may_start(counts: Counts, plan: &[u32], paired: bool, ty: u32) -> bool
     ensures { result ≡ false → NoStart counts plan.now ty }
 {
     let own = ty as usize;
-    if plan[ROLES_START + own] == 0 {
-        return false;
-    }
-    if paired {
-        return true;
-    }
-    if plan[NAMED_START + own] != 0 {
-        return true;
-    }
-    has_bit(plan[TYPE_SETS_START + own], 0)
+    plan[ROLES_START + own] != 0
+        && (paired || plan[NAMED_START + own] != 0 || has_bit(plan[TYPE_SETS_START + own], 0))
 }

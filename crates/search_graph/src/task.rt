@@ -14,6 +14,26 @@ pub struct Task {
     pub mode: Mode,
 }
 
+// A task, and what it is asked of: a policy, and the plan that was made of it.
+#[derive(Clone, Copy)]
+pub struct Query<'a> {
+    pub policy: &'a [u8],
+    pub plan: &'a [u32],
+    pub task: Task,
+}
+
+impl<'a> Query<'a> {
+    // The same query, in another mode.
+    pub fn with_mode(self, mode: Mode) -> Query<'a>
+        ensures { result ≡ record self.entry { task = record self.entry.task { mode = mode } } }
+    {
+        Query {
+            task: Task { mode, ..self.task },
+            ..self
+        }
+    }
+}
+
 // The number of states of so many bits.
 pub fn state_count(bits: u32) -> u32
     requires { bits ≤ 6 }
@@ -27,8 +47,7 @@ fn state_bits(mode: Mode, legs: u32) -> u32
     ensures { result ≡ state_bits mode legs }
 {
     match mode {
-        Mode::Order => legs,
-        Mode::Events => legs,
+        Mode::Order | Mode::Events => legs,
         Mode::Any => 0,
     }
 }

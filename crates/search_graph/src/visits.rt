@@ -5,11 +5,7 @@ ghost use Rattle.search_graph.specs.Inner.Visits.{Cleared, Visited};
 pub fn clear(back: &mut [u32])
     ensures { Cleared back.new 0 }
 {
-    let mut v: usize = 0;
-    while v < back.len() {
-        back[v] = 0;
-        v += 1;
-    }
+    back.fill(0);
 }
 
 // Undoes a search that visited so many nodes: none is visited any more.
@@ -17,10 +13,7 @@ pub fn undo(queue: &[u32], back: &mut [u32], count: usize)
     requires { Visited queue.now back.old count }
     ensures { Cleared back.new 0 }
 {
-    let mut i: usize = 0;
-    while i < count {
-        let v = queue[i] as usize;
-        back[v] = 0;
-        i += 1;
+    for v in &queue[..count] {
+        back[*v as usize] = 0;
     }
 }

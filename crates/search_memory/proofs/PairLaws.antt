@@ -181,63 +181,61 @@ inner_jump {s} {plan} {t} {z} {u} {v} {o} {pairs} {from} {k} T I lf N =
         kept_same : kept_of v.asker (event_sets_at plan (o.step / 4096)) ≡ kept_by t.mode plan (state_of (states_in t) u) (o.step / 4096)
         kept_same = kept_is A I.within.stands I.within.asker (event_sets_at plan (o.step / 4096))
 
--- the search stands at pair k of the set, or behind the last one
-pub record Pairing (s plan : List ℕ) (t : Task) (z : Search) (u : ℕ) (v : Node) (o : Offer) (pairs : List ℕ) (k : ℕ) : Type 0 where
-  pub inner : Inner s plan t z u v o (first_place t.counts (o.step % 4096) + up_to t.counts k)
+-- the search went through the pairs of the set before from
+pub record Pairing (s plan : List ℕ) (t : Task) (z : Search) (u : ℕ) (v : Node) (o : Offer) (pairs : List ℕ) (from : ℕ) : Type 0 where
+  pub inner : Inner s plan t z u v o (first_place t.counts (o.step % 4096) + from)
   pub todo : Todo s plan t z.opens v o pairs
-  pub has : k < pairs_end → in_pairs pairs k ≡ true
+  pub high : from ≤ pair_count t.counts
 
-pub pairing_begin : {s plan : List ℕ} {t : Task} {z : Search} {u : ℕ} {v : Node} {o : Offer} {opens' among pairs : List ℕ} {k : ℕ} → Middle s plan t z u v o → o.step < steps_end
+pub pairing_begin : {s plan : List ℕ} {t : Task} {z : Search} {u : ℕ} {v : Node} {o : Offer} {opens' among pairs : List ℕ} {from : ℕ} → from ≡ 0 → Middle s plan t z u v o → o.step < steps_end
     → SlotOpened t.counts plan z.opens opens' (o.step % 4096) (kept_of v.asker (event_sets_at plan (o.step / 4096))) among
-    → StepPairs (ruled s plan) (policy_of s).counts v.x (o.step / 4096) (o.step % 4096) among pairs 4 → NextPair pairs 0 (pair_count t.counts) k
-    → Pairing s plan t (swept_to z z.swept opens') u v o pairs k
-pairing_begin {s} {plan} {t} {z} {u} {v} {o} {opens'} {among} {pairs} {k} M h P F N =
-    record { inner = inner_jump T (subst (Inner s plan t (swept_to z z.swept opens') u v o) (sym (add-zero (first_place t.counts (o.step % 4096)))) I) (omega arith) N; todo = T; has = N.has }
+    → StepPairs (ruled s plan) (policy_of s).counts v.x (o.step / 4096) (o.step % 4096) among pairs 4 → Pairing s plan t (swept_to z z.swept opens') u v o pairs from
+pairing_begin {s} {plan} {t} {z} {u} {v} {o} {opens'} {among} {pairs} q M h P F =
+    record {
+      inner = subst (λ (i : ℕ). Inner s plan t (swept_to z z.swept opens') u v o (first_place t.counts (o.step % 4096) + i)) (sym q) (subst (Inner s plan t (swept_to z z.swept opens') u v o) (sym (add-zero (first_place t.counts (o.step % 4096)))) I);
+      todo = todo_of I P F;
+      high = omega (arith, q);
+    }
   where
     I : Inner s plan t (swept_to z z.swept opens') u v o (first_place t.counts (o.step % 4096))
     I = inner_begin M h P
 
-    T : Todo s plan t opens' v o pairs
-    T = todo_of I P F
-
-module _ {s plan : List ℕ} {t : Task} {z : Search} {u : ℕ} {v : Node} {o : Offer} {pairs : List ℕ} {k : ℕ} (L : Pairing s plan t z u v o pairs k) where
+module _ {s plan : List ℕ} {t : Task} {z : Search} {u : ℕ} {v : Node} {o : Offer} {pairs : List ℕ} {from : ℕ} (L : Pairing s plan t z u v o pairs from) where
   type₀ : Within 1 t.counts.types (o.step % 4096)
   type₀ = other_type L.inner.within.given L.inner.ahead
 
   end₀ : first_place t.counts (o.step % 4096 + 1) ≡ first_place t.counts (o.step % 4096) + pair_count t.counts
   end₀ = start_pairs t.counts (o.step % 4096) type₀.low
 
-  -- behind the last pair
-  pub pairing_end : pairs_end ≤ k → first_place t.counts (o.step % 4096 + 1) ≤ first_place t.counts (o.step % 4096) + up_to t.counts k
-  pairing_end h =
+  -- no pair is left
+  pub pairing_end : NextPair pairs from (pair_count t.counts) pairs_end → Inner s plan t z u v o (first_place t.counts (o.step % 4096 + 1))
+  pairing_end N =
       let few = pairs_few L.inner.within.given.planned.policy.counts in
-      let q = up_to_end t.counts k (omega arith) in
-      omega (arith, end₀)
+      subst (Inner s plan t z u v o) (ap (λ (i : ℕ). first_place t.counts (o.step % 4096) + i) (up_to_end t.counts pairs_end (omega arith)) ∙ sym end₀)
+      (inner_jump L.todo L.inner L.high N)
 
   -- at a pair
-  module _ (h : k < pairs_end) where
+  module _ {k : ℕ} (N : NextPair pairs from (pair_count t.counts) k) (h : k < pairs_end) where
     pub pair_low : k < pair_count t.counts
-    pair_low = (L.todo.flows k h (L.has h)).0
+    pair_low = (L.todo.flows k h (N.has h)).0
 
     pub pair_inner : Inner s plan t z u v o (first_place t.counts (o.step % 4096) + k)
-    pair_inner = subst (λ (i : ℕ). Inner s plan t z u v o (first_place t.counts (o.step % 4096) + i)) (up_to_pair t.counts k pair_low) L.inner
+    pair_inner = subst (λ (i : ℕ). Inner s plan t z u v o (first_place t.counts (o.step % 4096) + i)) (up_to_pair t.counts k pair_low) (inner_jump L.todo L.inner L.high N)
 
     pub pair_below : first_place t.counts (o.step % 4096) + k < first_place t.counts (o.step % 4096 + 1)
     pair_below = let e = end₀ in let l = pair_low in omega arith
 
     pub pair_flows : flow (ruled s plan) (event_of (o.step / 4096)) v.x (context_at_index t.counts (first_place t.counts (o.step % 4096) + k)) ≡ true
-    pair_flows = ap (flow (ruled s plan) (event_of (o.step / 4096)) v.x) (pair_context L.inner.within.given type₀ pair_low) ∙ (L.todo.flows k h (L.has h)).1
+    pair_flows = ap (flow (ruled s plan) (event_of (o.step / 4096)) v.x) (pair_context L.inner.within.given type₀ pair_low) ∙ (L.todo.flows k h (N.has h)).1
 
-    -- the next pair, with what is entered
-    pub pair_next : {back' queue' : List ℕ} {tail' k' : ℕ} → Memory s plan t back' z.swept z.spent z.opens
-        → Done s plan t (entered_to z back' queue' tail') u (o.step / 4096) ((first_place t.counts (o.step % 4096) + k + 1) * states_in t) → NextPair pairs (k + 1) (pair_count t.counts) k'
-        → Pairing s plan t (entered_to z back' queue' tail') u v o pairs k'
-    pair_next {back'} {queue'} {tail'} N d P =
+    -- the next is looked for behind it, with what is entered
+    pub pair_next : {back' queue' : List ℕ} {tail' : ℕ} → Memory s plan t back' z.swept z.spent z.opens
+        → Done s plan t (entered_to z back' queue' tail') u (o.step / 4096) ((first_place t.counts (o.step % 4096) + k + 1) * states_in t)
+        → Pairing s plan t (entered_to z back' queue' tail') u v o pairs (k + 1)
+    pair_next {back'} {queue'} {tail'} M d =
         record {
-          inner = inner_jump L.todo
-              (subst (Inner s plan t (entered_to z back' queue' tail') u v o) (let e : first_place t.counts (o.step % 4096) + k + 1 ≡ first_place t.counts (o.step % 4096) + (k + 1) = omega arith in e)
-              (inner_next pair_inner pair_below N d))
-              (let l = pair_low in omega arith) P;
+          inner = subst (Inner s plan t (entered_to z back' queue' tail') u v o) (let e : first_place t.counts (o.step % 4096) + k + 1 ≡ first_place t.counts (o.step % 4096) + (k + 1) = omega arith in e)
+              (inner_next pair_inner pair_below M d);
           todo = L.todo;
-          has = P.has;
+          high = let l = pair_low in omega arith;
         }

@@ -39,16 +39,14 @@ fn held_word(counts: Counts, plan: &[u32], ty: u32, word: u32) -> u64
     let own = plan[ROLES_START + (ty as usize)];
     let first = 64 * word;
     let mut r: u64 = 0;
-    let mut j: u32 = 0;
-    while j < 64 {
+    for j in 0..64 {
         if first + j >= pairs {
             return r;
         }
         let pair = HOLDERS_START + ((first + j) as usize);
         if own & plan[pair] != 0 {
-            r = r | (1 << j);
+            r |= 1 << j;
         }
-        j += 1;
     }
     r
 }
@@ -58,10 +56,8 @@ fn put_held(counts: Counts, plan: &[u32], opens: &mut [u64; OPENS], first: usize
     requires { PlanCounts counts × (plan_entries ≤ length plan.now) × (length opens.old ≡ open_entries) × (first + 4 ≤ open_entries) × (ty < type_entries) }
     ensures { (length opens.new ≡ open_entries) × Filled (λ w v. HeldWord counts plan.now ty w v) opens.old opens.new first 0 4 }
 {
-    let mut w: u32 = 0;
-    while w < 4 {
+    for w in 0..4 {
         opens[first + (w as usize)] = held_word(counts, plan, ty, w);
-        w += 1;
     }
 }
 
@@ -104,15 +100,13 @@ pub fn take_pairs(
 {
     let first = SLOTS + 4 * slot_of(counts.types, ty, kept);
     let mut none = true;
-    let mut w: usize = 0;
-    while w < 4 {
+    for w in 0..4 {
         let old = opens[first + w];
         let left = old & (old ^ pairs[w]);
         opens[first + w] = left;
         if left != 0 {
             none = false;
         }
-        w += 1;
     }
     none
 }

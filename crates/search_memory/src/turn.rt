@@ -33,9 +33,9 @@ pub fn take_up(plan: &[u32], task: Task, u: u32, spent: &[u64; TYPES]) -> Node
     let own = x.ty as usize;
     let mode = task.mode;
     Node {
-        x: x,
+        x,
         asker: Asker {
-            state: state,
+            state,
             keeps: keeps_of(mode),
             spent: has_member(spent[own], state),
         },

@@ -1,5 +1,5 @@
 -- The nearest step of a block: entry by entry, up to the first of a class whose steps are all farther.
-use mathlib.Core.Path.{◌≡◌, refl, sym, ◌∙◌, ap, ap₂, subst}
+use mathlib.Core.Path.{◌≡◌, refl, sym, ◌∙◌, ap, subst}
 use mathlib.Core.Bool.{Bool, true, false, not, ◌&&◌, ◌||◌}
 use mathlib.Core.List.{List}
 use mathlib.Core.Logic.{◌⊎◌, inl, inr, ⊎_elim}
@@ -7,10 +7,11 @@ use Prim.Native.Nat.{ℕ, zero, suc, ◌+◌, ◌*◌, ◌/◌, ◌%◌, ◌^◌
 use native.Mathlib.Nat.{eq-or-lt_of_le}
 use native.Mathlib.Omega.{arith}
 use borrow.Author.Tests.{ne_eqb}
+use lib.Dec.{eqb}
 use lib.Bits.{bit_and, bit_or, and_le_l}
 use lib.ListN.{get_or}
 use Rattle.base.specs.Bits.{bit}
-use Rattle.base.specs.Inner.Masks.{Lowest, With, Without}
+use Rattle.base.specs.Inner.Masks.{Taken}
 use Rattle.base.proofs.BitLaws.{bit_and_lem, bit_or_lem, bit_ext, bit_zero}
 use Rattle.base.proofs.BoolLaws.{and_true, and_first, or_true, true_or_false, clash}
 use Rattle.base.proofs.Numbers.{split_le, split_eq}
@@ -88,20 +89,20 @@ pub record Opening (plan : List ℕ) (a : Asker) (swept k mask from left : ℕ) 
       → (bit left q ≡ true) ⊎ (closed a (event_sets_at plan (32 * (k / 4096) + q)) swept ≡ true)
 
 module _ {plan : List ℕ} {a : Asker} {swept k mask from : ℕ} where
-  pub open_begin : Opening plan a swept k mask from mask
-  open_begin = record { among = λ q b. b; rest = λ q l b f. inl b }
+  pub open_begin : {left : ℕ} → left ≡ mask → Opening plan a swept k mask from left
+  open_begin e = subst (Opening plan a swept k mask from) (sym e) record { among = λ q b. b; rest = λ q l b f. inl b }
 
-  module _ {left p : ℕ} (O : Opening plan a swept k mask from left) (L : Lowest left p) where
-    pub open_more : {one left' : ℕ} → (from ≤ first_step k + 4096 * p → closed a (event_sets_at plan ((first_step k + 4096 * p) / 4096)) swept ≡ true) → With 0 p one
-        → Without left one left' → Opening plan a swept k mask from left'
-    open_more {one} {left'} c I W =
+  module _ {left p left' : ℕ} (O : Opening plan a swept k mask from left) (T : Taken left p left') where
+    pub open_more : (from ≤ first_step k + 4096 * p → closed a (event_sets_at plan ((first_step k + 4096 * p) / 4096)) swept ≡ true)
+        → Opening plan a swept k mask from left'
+    open_more c =
         record {
-          among = λ q b. O.among q (and_first (bit left q) (not (bit one q)) (sym (W.at q) ∙ b));
+          among = λ q b. O.among q (and_first (bit left q) (not (eqb p q)) (sym (T.at q) ∙ b));
           rest = λ q l b f. ⊎_elim
               (λ (z : bit left q ≡ true). ⊎_elim
               (λ (e : p ≡ q). inr (subst (λ (i : ℕ). closed a (event_sets_at plan (32 * (k / 4096) + i)) swept ≡ true) e
               (subst (λ (i : ℕ). closed a (event_sets_at plan i) swept ≡ true) (event_of_lem k p) (c (subst (λ (i : ℕ). from ≤ first_step k + 4096 * i) (sym e) f)))))
-              (λ (d : p ≡ q → ⊥). inl (W.at q ∙ and_true (bit left q) (not (bit one q)) z (ap not (I.at q ∙ ap₂ (λ (u v : Bool). u || v) (bit_zero q) (ne_eqb p q d)))))
+              (λ (d : p ≡ q → ⊥). inl (T.at q ∙ and_true (bit left q) (not (eqb p q)) z (ap not (ne_eqb p q d))))
               (split_eq p q))
               inr
               (O.rest q l b f);
@@ -112,12 +113,12 @@ module _ {plan : List ℕ} {a : Asker} {swept k mask from : ℕ} where
         → (first_step k + 4096 * p < below → closed a (event_sets_at plan ((first_step k + 4096 * p) / 4096)) swept ≡ false) → OpenStep plan a swept k mask from below (first_step k + 4096 * p)
     open_stop lk f c =
         record {
-          high = omega (arith, L.small);
-          by = λ _. record { perm = p; small = L.small; bears = O.among p L.has; is = refl };
+          high = omega (arith, T.least.small);
+          by = λ _. record { perm = p; small = T.least.small; bears = O.among p T.least.has; is = refl };
           low = f;
           unclosed = c;
           least = λ q l b g. ⊎_elim
-              (λ (z : bit left q ≡ true). inl (⊎_elim (λ (h : p ≤ q). let w : first_step k + 4096 * p ≤ first_step k + 4096 * q = omega arith in w) (λ (h : q < p). absurd (L.before q h z)) (split_le p q)))
+              (λ (z : bit left q ≡ true). inl (⊎_elim (λ (h : p ≤ q). let w : first_step k + 4096 * p ≤ first_step k + 4096 * q = omega arith in w) (λ (h : q < p). absurd (T.least.before q h z)) (split_le p q)))
               inr
               (O.rest q l b g);
         }

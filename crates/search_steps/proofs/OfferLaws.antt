@@ -1,11 +1,10 @@
 -- From the nearest step of a block to the next step that flows, and from an entry to whether it flows.
 use Prim.Native.Nat.{ℕ, ◌+◌, ◌*◌, ◌/◌, ◌%◌, ◌≤◌, ◌<◌}
-use mathlib.Core.Bool.{Bool, true, false, not, ◌&&◌, ◌||◌}
+use mathlib.Core.Bool.{Bool, true, false, ◌&&◌, ◌||◌}
 use mathlib.Core.List.{List}
 use mathlib.Core.Logic.{◌⊎◌, inl, inr, ⊎_elim}
 use mathlib.Core.Path.{◌≡◌, sym, ap, ap₂, subst, ◌∙◌}
 use native.Mathlib.Omega.{arith}
-use borrow.Author.Tests.{not-true, not-false}
 use lib.Bits.{bit_or}
 use lib.ListN.{get_or}
 use Rattle.base.specs.Bits.{bit}
@@ -318,29 +317,24 @@ module _ {p : Policy} {plan : List ℕ} {e entry : ℕ} (x y : Context) (hx : me
       (sym (bit_or_lem (writes_at plan entry) (reads_at plan entry) (e % 32)) ∙ O.some)
 
 -- ---- the conditions, one by one
-module _ (p : Policy) (x y : Context) (e : ℕ) (m : Bool) {d : Event} (q : d ≡ event_of e) (hm : not m ≡ false) (k : Bool) (hk : k ≡ constraints_hold p d x y) where
-  pub not_held : not k ≡ true → false ≡ (m && conditions p (event_of e) x y)
+module _ (p : Policy) (x y : Context) (e : ℕ) (m : Bool) {d : Event} (q : d ≡ event_of e) (hm : m ≡ true) (k : Bool) (hk : k ≡ constraints_hold p d x y) where
+  pub not_held : k ≡ false → false ≡ (m && conditions p (event_of e) x y)
   not_held h =
-      let z : constraints_hold p (event_of e) x y ≡ false = ap (λ (i : Event). constraints_hold p i x y) (sym q) ∙ sym hk ∙ not-true k h in
-      rw (not-false m hm, z)
+      let z : constraints_hold p (event_of e) x y ≡ false = ap (λ (i : Event). constraints_hold p i x y) (sym q) ∙ sym hk ∙ h in
+      rw (hm, z)
 
-  module _ (h : not k ≡ false) (t : Bool) (ht : t ≡ is_transition d) where
+  module _ (h : k ≡ true) (t : Bool) (ht : t ≡ is_transition d) where
     holds : constraints_hold p (event_of e) x y ≡ true
-    holds = ap (λ (i : Event). constraints_hold p i x y) (sym q) ∙ sym hk ∙ not-false k h
+    holds = ap (λ (i : Event). constraints_hold p i x y) (sym q) ∙ sym hk ∙ h
 
     is : is_transition (event_of e) ≡ t
     is = ap is_transition (sym q) ∙ sym ht
 
-    pub no_rule : not t ≡ true → true ≡ (m && conditions p (event_of e) x y)
-    no_rule n = sym (ap₂ ◌&&◌ (not-false m hm) (ap₂ ◌&&◌ holds (rule_free p (event_of e) x y (is ∙ not-true t n))))
+    pub no_rule : t ≡ false → true ≡ (m && conditions p (event_of e) x y)
+    no_rule n = sym (ap₂ ◌&&◌ hm (ap₂ ◌&&◌ holds (rule_free p (event_of e) x y (is ∙ n))))
 
-    pub by_rule : {r : Bool} → not t ≡ false → r ≡ may_become p x y → r ≡ (m && conditions p (event_of e) x y)
-    by_rule n hr = hr ∙ sym (ap₂ ◌&&◌ (not-false m hm) (ap₂ ◌&&◌ holds (rule_asked p (event_of e) x y (is ∙ not-false t n))))
-
-pub roles_few : {s : List ℕ} {n : Counts} {x : Context} → Ready s n → ContextInRange n x → x.role < 16
-roles_few {s} {n} {x} R h =
-    let o : n.roles ≤ 15 = subst (λ (k : Counts). k.roles ≤ 15) (sym R.same) R.sound.range.roles.high in
-    omega (arith, h.role.high)
+    pub by_rule : {r : Bool} → t ≡ true → r ≡ may_become p x y → r ≡ (m && conditions p (event_of e) x y)
+    by_rule n hr = hr ∙ sym (ap₂ ◌&&◌ hm (ap₂ ◌&&◌ holds (rule_asked p (event_of e) x y (is ∙ n))))
 
 pub event_few : {s : List ℕ} {plan : List ℕ} {t e o entry : ℕ} → Sound s → Offering (ruled s plan) plan t e o entry → e < event_entries
 event_few S O = omega (arith, O.event.high, S.range.classes.high)

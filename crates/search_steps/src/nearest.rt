@@ -4,7 +4,7 @@ ghost use Rattle.std.specs.Prelude.{◌≡◌, ◌+◌, ◌≤◌, ◌<◌, leng
 ghost use Rattle.plan.specs.Inner.Regions.{event_entries, block_entries, plan_entries, type_codes};
 ghost use Rattle.search_steps.specs.Inner.Nearest.{step_code, steps_end, key_codes, state_codes, kept_of, closed, OpenStep, AskedMask, Skipped, StepBlock, Cursor, OfferedAt, Resumes, SameEvent, Nearest};
 
-use base::bits::{has_bit, has_member, lowest, with_bit, without};
+use base::bits::{bits_of, has_bit, has_member};
 use goal_image::sets::{EVENT_CHAINS, EXCEPTED_EVENTS};
 use plan::regions::{EVENT_SETS_START, KEYS_START, LEADS_START, SPECIAL_START, TYPE_CODES};
 
@@ -53,10 +53,7 @@ fn is_closed(a: Asker, by: u32, swept: u64) -> bool
     requires { a.state < state_codes }
     ensures { result ≡ closed a by swept }
 {
-    if has_bit(by, EXCEPTED_EVENTS) {
-        return true;
-    }
-    has_member(swept, kept_of(a, by))
+    has_bit(by, EXCEPTED_EVENTS) || has_member(swept, kept_of(a, by))
 }
 
 // The first entry from a on whose class is not below the class.
@@ -64,14 +61,12 @@ fn skip(plan: &[u32], stop: usize, a: usize, class: u32) -> usize
     requires { (a ≤ stop) × (stop ≤ block_entries) × (plan_entries ≤ length plan.now) }
     ensures { Skipped plan.now stop a class result }
 {
-    let mut j = a;
-    while j < stop {
+    for j in a..stop {
         if class <= plan[KEYS_START + j] / TYPE_CODES {
             return j;
         }
-        j += 1;
     }
-    j
+    stop
 }
 
 // The nearest step of an entry from a step on that is not closed. Those not below a step are of no use, and none of them is tested.
@@ -85,9 +80,7 @@ fn open_step(plan: &[u32], a: Asker, swept: u64, key: u32, mask: u32, from: u32,
         }
     }
     let first = step_code(32 * (key / TYPE_CODES), key % TYPE_CODES);
-    let mut left = mask;
-    while left != 0 {
-        let q = lowest(left);
+    for q in bits_of(mask) {
         let step = first + TYPE_CODES * q;
         if from <= step {
             if below <= step {
@@ -101,7 +94,6 @@ fn open_step(plan: &[u32], a: Asker, swept: u64, key: u32, mask: u32, from: u32,
                 return step;
             }
         }
-        left = without(left, with_bit(0, q));
     }
     NONE
 }
@@ -134,14 +126,13 @@ pub fn nearest(
     let first = skip(plan, stop, start, from / CLASS_STEPS);
     let mut step = NONE;
     let mut entry = first;
-    let mut j = first;
-    while j < stop {
+    for j in first..stop {
         let key = plan[KEYS_START + j];
         if step < CLASS_STEPS * (key / TYPE_CODES) {
             return Offer {
                 start: first,
-                entry: entry,
-                step: step,
+                entry,
+                step,
             };
         }
         let other = (key % TYPE_CODES) as usize;
@@ -151,12 +142,11 @@ pub fn nearest(
             step = open;
             entry = j;
         }
-        j += 1;
     }
     Offer {
         start: first,
-        entry: entry,
-        step: step,
+        entry,
+        step,
     }
 }
 
@@ -176,8 +166,7 @@ fn same_event(
 {
     let e = step / TYPE_CODES;
     let by = plan[EVENT_SETS_START + (e as usize)];
-    let mut j = entry + 1;
-    while j < stop {
+    for j in entry + 1..stop {
         let key = plan[KEYS_START + j];
         if key / TYPE_CODES != step / CLASS_STEPS {
             return stop;
@@ -188,7 +177,6 @@ fn same_event(
                 return j;
             }
         }
-        j += 1;
     }
     stop
 }
@@ -211,7 +199,7 @@ pub fn nearest_after(
     if entry < stop {
         return Offer {
             start: offer.start,
-            entry: entry,
+            entry,
             step: step_code(e, plan[KEYS_START + entry] % TYPE_CODES),
         };
     }

@@ -31,11 +31,11 @@ pub fn sweep_of(counts: Counts, plan: &[u32], offer: Offer) -> Sweep
     let event = offer.step / TYPE_CODES;
     let ty = offer.step % TYPE_CODES;
     Sweep {
-        event: event,
+        event,
         sets: plan[EVENT_SETS_START + (event as usize)],
         special: is_special(plan, event),
         entry: offer.entry,
-        ty: ty,
+        ty,
         start: first_place(counts, ty),
     }
 }

@@ -31,18 +31,10 @@ fn may_act(policy: &[u8], plan: &[u32], event: u32, may: bool, x: Context, y: Co
     requires { Sound policy.now × Conditions (ruled policy.now plan.now) plan.now × (event < event_entries) × (x.role < role_entries) × (y.role < role_entries) }
     ensures { result ≡ (may && (constraints_hold (ruled policy.now plan.now) (event_of event) x y && role_rule (ruled policy.now plan.now) (event_of event) x y)) }
 {
-    if !may {
-        return false;
-    }
     let e = Event::decode(event);
-    if !constraints_hold(policy, e, x, y) {
-        return false;
-    }
-    if !e.is_transition() {
-        return true;
-    }
     let role = x.role as usize;
-    has_bit(plan[CHANGES_START + role], y.role)
+    may && constraints_hold(policy, e, x, y)
+        && (!e.is_transition() || has_bit(plan[CHANGES_START + role], y.role))
 }
 
 // Whether the event flows from x to y, both of which meet ρ and μ: the entry says which way it may.
@@ -52,11 +44,8 @@ fn flows_by(policy: &[u8], plan: &[u32], event: u32, entry: usize, x: Context, y
 {
     let perm = event % 32;
     let out = has_bit(plan[WRITES_START + entry], perm);
-    if may_act(policy, plan, event, out, x, y) {
-        return true;
-    }
     let back = has_bit(plan[READS_START + entry], perm);
-    may_act(policy, plan, event, back, y, x)
+    may_act(policy, plan, event, out, x, y) || may_act(policy, plan, event, back, y, x)
 }
 
 // Whether the event flows from x to the context at the place, which meets ρ and μ, and to whose type the entry offers it.
@@ -73,8 +62,5 @@ pub fn is_target(
     requires { Ready policy.now counts × Planned policy.now counts plan.now × ContextInRange counts x × (place < context_count counts) × Facing (ruled policy.now plan.now) plan.now x event (context_at_index counts place).ty entry special × (meetsρμ (ruled policy.now plan.now) (context_at_index counts place) ≡ true) }
     ensures { result ≡ flow (ruled policy.now plan.now) (event_of event) x (context_at_index counts place) }
 {
-    if !special {
-        return true;
-    }
-    flows_by(policy, plan, event, entry, x, Context::at(place, counts))
+    !special || flows_by(policy, plan, event, entry, x, Context::at(place, counts))
 }

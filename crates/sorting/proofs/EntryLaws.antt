@@ -3,15 +3,16 @@ use mathlib.Core.Path.{◌≡◌, sym, ◌∙◌, ap, subst}
 use mathlib.Core.Bool.{true, cond}
 use mathlib.Core.Logic.{⊎_elim}
 use mathlib.Core.List.{List}
-use Prim.Native.Nat.{ℕ, ◌+◌, ◌-◌, ◌<◌}
+use Prim.Native.Nat.{ℕ, ◌+◌, ◌-◌, ◌≤◌, ◌<◌}
 use native.Mathlib.Omega.{arith}
-use borrow.Author.Tests.{ltb-true, lt-ltb}
+use borrow.Author.Tests.{ltb-true, lt-ltb, le-ltb}
 use lib.Bits.{bit_or}
 use lib.Dec.{ltb}
-use lib.ListN.{length, get_or, set}
+use lib.ListN.{length, get_or, set, take, get_or-eq_default}
+use Rattle.std.proofs.lemmas.List.{get_or-take, length-take}
 use lib.Seq.{get_or-set_same, get_or-set_other}
 use Rattle.base.specs.Bits.{bit}
-use Rattle.base.proofs.Numbers.{split_eq, below_or}
+use Rattle.base.proofs.Numbers.{split_eq, split_le, below_or}
 use Rattle.sorting.specs.Inner.Order.{Ordered}
 use Rattle.sorting.specs.Inner.Entries.{code_in, HasCode, Gives, Bears, RisingKeys, CodesRise, Placed, EntryKeys, Unites}
 use Rattle.sorting.proofs.MaskLaws.{bit_or_cases, bit_or_left, bit_or_right, bit_where, bit_there}
@@ -38,6 +39,33 @@ module _ {keys : List ℕ} {m code : ℕ} (R : CodesRise keys m code) (some : m 
             ⊎_elim (λ (e : j ≡ m - 1). omega (arith, n, ap (λ (x : ℕ). get_or keys x 0) e))
             (λ (d : j ≡ m - 1 → ⊥). omega (arith, n, R.sorted.rising j (m - 1) (omega arith) (omega (arith, d)) (omega (arith, some)))) (split_eq j (m - 1));
       }
+
+-- ---- the entries so far are the first m of a list
+taken_length : (keys : List ℕ) (m : ℕ) → m ≤ length keys → length (take m keys) ≡ m
+taken_length keys m room = omega (arith, length-take m keys)
+
+pub codes_taken : {keys : List ℕ} {m code : ℕ} → m ≤ length keys → CodesRise keys m code → CodesRise (take m keys) (length (take m keys)) code
+codes_taken {keys} {m} room R =
+    rw (taken_length keys m room)
+    (record {
+      sorted = record { rising = λ i j a l h. rw (get_or-take m keys i 0 (omega arith), get_or-take m keys j 0 h) (R.sorted.rising i j a l h) };
+      most = λ j l. rw (get_or-take m keys j 0 l) (R.most j l);
+    })
+
+pub placed_taken : {keys : List ℕ} {m code r : ℕ} → m ≤ length keys → Placed (take m keys) (length (take m keys)) code r → Placed keys m code r
+placed_taken {keys} {m} {r = r} room P =
+    let e = taken_length keys m room in
+    record {
+      low = omega (arith, P.low);
+      high = omega (arith, P.high);
+      same = λ l. omega (arith, get_or-take m keys r 0 l, P.same (omega arith));
+      below = λ j l. omega (arith, get_or-take m keys j 0 (omega (arith, P.high)), P.below j l);
+    }
+
+pub mask_taken : (masks : List ℕ) (m at : ℕ) → get_or (take m masks) at 0 ≡ cond (ltb at m) (get_or masks at 0) 0
+mask_taken masks m at =
+    ⊎_elim (λ (h : m ≤ at). rw (le-ltb at m h) (get_or-eq_default (take m masks) 0 (omega (arith, length-take m masks))))
+    (λ (l : at < m). rw (lt-ltb at m l, get_or-take m masks at 0 l)) (split_le m at)
 
 -- what an entry's mask becomes
 abbrev pub joined : List ℕ → ℕ → ℕ → ℕ → ℕ

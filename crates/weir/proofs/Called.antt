@@ -14,9 +14,8 @@ use Rattle.policy_image.specs.Policy.{policy_of}
 use Rattle.policy_image.specs.Cases.Weir.{weir, weir_allow31}
 use Rattle.policy_check.specs.Questions.{policy_questions}
 use Rattle.policy_check.proofs.Cases.{w9_refused, w10_short, w10_empty, w11}
-use Rattle.policy_writing.specs.declared.answer.Writing.TheVariants as writing
 use Rattle.policy_writing.specs.Writing.{writing_number}
-use Rattle.policy_writing.proofs.WritingLaws.{one_writing}
+use Rattle.policy_writing.proofs.WritingLaws.{refused_writing}
 use Rattle.join.specs.Join.{joined_image, join_questions, JoinPromise}
 use Rattle.context.specs.declared.Context.{Context}
 use Rattle.context.specs.declared.Event.{Event}
@@ -26,10 +25,14 @@ use Rattle.goal_image.specs.Questions.{goal_questions}
 use Rattle.goal_image.proofs.Cases as goals
 use Rattle.paths.specs.Paths.{Holds, OrderAt, EventsAt}
 use Rattle.goal_model.specs.Images.{model}
-use Rattle.bare_questions.specs.declared.Answer.TheVariants as answer
 use Rattle.bare_questions.specs.Bare.{BareAnswer, number_of}
-use Rattle.bare_questions.proofs.BareLaws.{last, one_answer}
+use Rattle.bare_questions.proofs.BareLaws.{last, refused_number}
+use Rattle.std.specs.Prelude.{Result, Ok, Err}
+use Rattle.base.specs.Refusals.{question_number}
+use Rattle.witness.specs.declared.unanswered.Unanswered.{Unanswered}
+use Rattle.witness.specs.declared.unanswered.Unanswered.TheVariants as unanswered
 use Rattle.goal_question.specs.declared.goal.Outcome.{Outcome}
+use Rattle.base.specs.declared.refusals.Refusal.{Refusal}
 use Rattle.goal_question.specs.declared.goal.Outcome.TheVariants as outcome
 use Rattle.goal_question.specs.GoalQuestion.{WorkFits, all_questions, GoalPromise, outcome_number}
 use Rattle.goal_question.proofs.GoalLaws.{order_one, events_one, not_both, not_holds_order, not_holds_events, not_holds, least_one, either}
@@ -44,51 +47,51 @@ use Rattle.weir.proofs.Theorem.{w12_first, w12_second, w5_slice}
 
 -- ---- one outcome for each answer of the definitions
 module _ (s g : List ℕ) (work1 work2 : ℕ) where
-  pub refused_only : {k : ℕ} (before after : List ℕ) (r : Outcome) → RefusedWith (all_questions s g work1 work2) k → GoalPromise s g work1 work2 before after r
-      → (r ≡ outcome.Refused k) × (after ≡ before)
-  refused_only b a outcome.Holds h p = absurd (passed_not_refused (all_questions s g work1 work2) _ p.0.0 h)
-  refused_only b a (outcome.Order m) h p = absurd (passed_not_refused (all_questions s g work1 work2) _ p.0.0 h)
-  refused_only b a (outcome.Events m) h p = absurd (passed_not_refused (all_questions s g work1 work2) _ p.0.0 h)
-  refused_only b a (outcome.Refused i) h p = (ap outcome.Refused (one_number (all_questions s g work1 work2) i _ p.0 h), p.1)
-  refused_only b a (outcome.NoRoom m) h p = absurd (passed_not_refused (all_questions s g work1 work2) _ (either p.0).0 h)
+  pub refused_only : {k : ℕ} (before after : List ℕ) (r : Result Outcome Unanswered) → RefusedWith (all_questions s g work1 work2) k → GoalPromise s g work1 work2 before after r
+      → ((i : Refusal) × (r ≡ Err (unanswered.Refused i)) × (question_number i ≡ k)) × (after ≡ before)
+  refused_only b a (Ok outcome.Holds) h p = absurd (passed_not_refused (all_questions s g work1 work2) _ p.0.0 h)
+  refused_only b a (Ok (outcome.Order m)) h p = absurd (passed_not_refused (all_questions s g work1 work2) _ p.0.0 h)
+  refused_only b a (Ok (outcome.Events m)) h p = absurd (passed_not_refused (all_questions s g work1 work2) _ p.0.0 h)
+  refused_only b a (Err (unanswered.Refused i)) h p = ((i, refl, one_number (all_questions s g work1 work2) (question_number i) _ p.0 h), p.1)
+  refused_only b a (Err (unanswered.NoRoom m)) h p = absurd (passed_not_refused (all_questions s g work1 work2) _ (either p.0).0 h)
 
   module _ (all : AllYes (all_questions s g work1 work2)) where
-    pub holds_only : (before after : List ℕ) (r : Outcome) → Holds (model s g) → GoalPromise s g work1 work2 before after r → (r ≡ outcome.Holds) × (after ≡ before)
-    holds_only b a outcome.Holds h p = (refl, p.1)
-    holds_only b a (outcome.Order m) h p = absurd (not_holds_order (model s g) m h p.0.1)
-    holds_only b a (outcome.Events m) h p = absurd (not_holds_events (model s g) m h p.0.1)
-    holds_only b a (outcome.Refused k) h p = absurd (passed_not_refused (all_questions s g work1 work2) k all p.0)
-    holds_only b a (outcome.NoRoom m) h p = absurd (not_holds (model s g) m h (either p.0).1)
+    pub holds_only : (before after : List ℕ) (r : Result Outcome Unanswered) → Holds (model s g) → GoalPromise s g work1 work2 before after r → (r ≡ Ok outcome.Holds) × (after ≡ before)
+    holds_only b a (Ok outcome.Holds) h p = (refl, p.1)
+    holds_only b a (Ok (outcome.Order m)) h p = absurd (not_holds_order (model s g) m h p.0.1)
+    holds_only b a (Ok (outcome.Events m)) h p = absurd (not_holds_events (model s g) m h p.0.1)
+    holds_only b a (Err (unanswered.Refused k)) h p = absurd (passed_not_refused (all_questions s g work1 work2) (question_number k) all p.0)
+    holds_only b a (Err (unanswered.NoRoom m)) h p = absurd (not_holds (model s g) m h (either p.0).1)
 
-    pub order_only : {m : ℕ} (before after : List ℕ) (r : Outcome) → OrderAt (model s g) m → 2 * m + 1 ≤ length before → GoalPromise s g work1 work2 before after r
-        → r ≡ outcome.Order m
-    order_only b a outcome.Holds h room p = absurd (not_holds_order (model s g) _ p.0.1 h)
-    order_only b a (outcome.Order i) h room p = ap outcome.Order (order_one (model s g) i _ p.0.1 h)
-    order_only b a (outcome.Events i) h room p = absurd (not_both (model s g) _ i h p.0.1)
-    order_only b a (outcome.Refused k) h room p = absurd (passed_not_refused (all_questions s g work1 work2) k all p.0)
-    order_only {m} b a (outcome.NoRoom i) h room p = let e : i ≡ m = least_one (model s g) i m (either p.0).1 (inl h) in absurd (omega (arith, p.1))
+    pub order_only : {m : ℕ} (before after : List ℕ) (r : Result Outcome Unanswered) → OrderAt (model s g) m → 2 * m + 1 ≤ length before → GoalPromise s g work1 work2 before after r
+        → r ≡ Ok (outcome.Order m)
+    order_only b a (Ok outcome.Holds) h room p = absurd (not_holds_order (model s g) _ p.0.1 h)
+    order_only b a (Ok (outcome.Order i)) h room p = ap (λ m. Ok (outcome.Order m)) (order_one (model s g) i _ p.0.1 h)
+    order_only b a (Ok (outcome.Events i)) h room p = absurd (not_both (model s g) _ i h p.0.1)
+    order_only b a (Err (unanswered.Refused k)) h room p = absurd (passed_not_refused (all_questions s g work1 work2) (question_number k) all p.0)
+    order_only {m} b a (Err (unanswered.NoRoom i)) h room p = let e : i ≡ m = least_one (model s g) i m (either p.0).1 (inl h) in absurd (omega (arith, p.1))
 
-    pub events_only : {m : ℕ} (before after : List ℕ) (r : Outcome) → EventsAt (model s g) m → 2 * m + 1 ≤ length before → GoalPromise s g work1 work2 before after r
-        → r ≡ outcome.Events m
-    events_only b a outcome.Holds h room p = absurd (not_holds_events (model s g) _ p.0.1 h)
-    events_only b a (outcome.Order i) h room p = absurd (not_both (model s g) i _ p.0.1 h)
-    events_only b a (outcome.Events i) h room p = ap outcome.Events (events_one (model s g) i _ p.0.1 h)
-    events_only b a (outcome.Refused k) h room p = absurd (passed_not_refused (all_questions s g work1 work2) k all p.0)
-    events_only {m} b a (outcome.NoRoom i) h room p = let e : i ≡ m = least_one (model s g) i m (either p.0).1 (inr h) in absurd (omega (arith, p.1))
+    pub events_only : {m : ℕ} (before after : List ℕ) (r : Result Outcome Unanswered) → EventsAt (model s g) m → 2 * m + 1 ≤ length before → GoalPromise s g work1 work2 before after r
+        → r ≡ Ok (outcome.Events m)
+    events_only b a (Ok outcome.Holds) h room p = absurd (not_holds_events (model s g) _ p.0.1 h)
+    events_only b a (Ok (outcome.Order i)) h room p = absurd (not_both (model s g) i _ p.0.1 h)
+    events_only b a (Ok (outcome.Events i)) h room p = ap (λ m. Ok (outcome.Events m)) (events_one (model s g) i _ p.0.1 h)
+    events_only b a (Err (unanswered.Refused k)) h room p = absurd (passed_not_refused (all_questions s g work1 work2) (question_number k) all p.0)
+    events_only {m} b a (Err (unanswered.NoRoom i)) h room p = let e : i ≡ m = least_one (model s g) i m (either p.0).1 (inr h) in absurd (omega (arith, p.1))
 
-    pub short_only : {m : ℕ} (before after : List ℕ) (r : Outcome) → OrderAt (model s g) m ⊎ EventsAt (model s g) m → length before < 2 * m + 1
-        → GoalPromise s g work1 work2 before after r → (r ≡ outcome.NoRoom m) × (after ≡ before)
-    short_only {m} b a outcome.Holds h short p = absurd (not_holds (model s g) m p.0.1 h)
-    short_only {m} b a (outcome.Order i) h short p = let e : i ≡ m = least_one (model s g) i m (inl p.0.1) h in absurd (omega (arith, p.1.room))
-    short_only {m} b a (outcome.Events i) h short p = let e : i ≡ m = least_one (model s g) i m (inr p.0.1) h in absurd (omega (arith, p.1.room))
-    short_only b a (outcome.Refused k) h short p = absurd (passed_not_refused (all_questions s g work1 work2) k all p.0)
-    short_only {m} b a (outcome.NoRoom i) h short p = (ap outcome.NoRoom (least_one (model s g) i m (either p.0).1 h), p.2)
+    pub short_only : {m : ℕ} (before after : List ℕ) (r : Result Outcome Unanswered) → OrderAt (model s g) m ⊎ EventsAt (model s g) m → length before < 2 * m + 1
+        → GoalPromise s g work1 work2 before after r → (r ≡ Err (unanswered.NoRoom m)) × (after ≡ before)
+    short_only {m} b a (Ok outcome.Holds) h short p = absurd (not_holds (model s g) m p.0.1 h)
+    short_only {m} b a (Ok (outcome.Order i)) h short p = let e : i ≡ m = least_one (model s g) i m (inl p.0.1) h in absurd (omega (arith, p.1.room))
+    short_only {m} b a (Ok (outcome.Events i)) h short p = let e : i ≡ m = least_one (model s g) i m (inr p.0.1) h in absurd (omega (arith, p.1.room))
+    short_only b a (Err (unanswered.Refused k)) h short p = absurd (passed_not_refused (all_questions s g work1 work2) (question_number k) all p.0)
+    short_only {m} b a (Err (unanswered.NoRoom i)) h short p = (ap (λ m. Err (unanswered.NoRoom m)) (least_one (model s g) i m (either p.0).1 h), p.2)
 
 -- ---- the numbers that C gets
 pub refuses : {k : ℕ} (s g : List ℕ) (work1 work2 : ℕ) → RefusedWith (all_questions s g work1 work2) k → Refuses s g work1 work2 k
 refuses s g work1 work2 h b a n G =
     let r = refused_only s g work1 work2 b a G.answer h G.promised in
-    (G.number ∙ ap outcome_number r.0, r.1)
+    (G.number ∙ ap outcome_number r.0.1 ∙ ap (λ (m : ℕ). 4 * m + 3) r.0.2, r.1)
 
 module _ (s g : List ℕ) (all : AllYes (all_questions s g 32 32)) where
   pub says_holds : Holds (model s g) → SaysHolds s g
@@ -118,7 +121,7 @@ module _ (s g : List ℕ) (all : AllYes (all_questions s g 32 32)) where
       }
 
 -- ---- W5's path, W9 and W10
-pub called_path : (s : List ℕ) → ((before after : List ℕ) (r : Outcome) → 3 ≤ length before → GoalPromise s goal_g 32 32 before after r → W5Slice before after r)
+pub called_path : (s : List ℕ) → ((before after : List ℕ) (r : Result Outcome Unanswered) → 3 ≤ length before → GoalPromise s goal_g 32 32 before after r → W5Slice before after r)
     → (before after : List ℕ) (n : ℕ) → 3 ≤ length before → Gives s goal_g 32 32 before after n → Prints before after
 called_path s slice before after n room G =
     let z = slice before after G.answer room G.promised in
@@ -128,7 +131,7 @@ called_path s slice before after n room G =
 bare_refuses : {k : ℕ} (s : List ℕ) → RefusedWith (policy_questions s) k → (x y : Context) (e : Event) (holds : Bool) (n : ℕ)
     → Numbered number_of (BareAnswer s x y e holds) n → n ≡ 4 * k + 3
 bare_refuses {k} s r x y e holds n N =
-    N.number ∙ ap number_of (one_answer s x y e holds N.answer (answer.Refused k) N.promised (refused_first (policy_questions s) (last s x y e) k r))
+    N.number ∙ refused_number s x y e holds N.answer k N.promised (refused_first (policy_questions s) (last s x y e) k r)
 
 policy_refuses : {k : ℕ} (s : List ℕ) → RefusedWith (policy_questions s) k → (g : List ℕ) (work1 work2 : ℕ) → Refuses s g work1 work2 k
 policy_refuses {k} s r g work1 work2 =
@@ -141,8 +144,8 @@ join_room s t before = ask 15 (record_count s + record_count t ≤ 4095) ∷ ask
 module _ (s t before after : List ℕ) (n k : ℕ) (N : Numbered writing_number (JoinPromise s t before after) n) where
   join_refuses : RefusedWith (join_questions s t (length before)) k → (n ≡ 4 * k + 3) × (after ≡ before)
   join_refuses r =
-      let o = one_writing (join_questions s t (length before)) (joined_image s t) before after before N.answer (writing.Refused k) N.promised (r, refl) in
-      (N.number ∙ ap writing_number o.0, o.1)
+      let o = refused_writing (join_questions s t (length before)) (joined_image s t) before after N.answer k N.promised r in
+      (N.number ∙ o.0, o.1)
 
   maker_refuses : RefusedWith (policy_questions s) k → (n ≡ 4 * k + 3) × (after ≡ before)
   maker_refuses r = join_refuses (refused_first (policy_questions s) (policy_questions t ++ join_room s t before) k r)
@@ -171,16 +174,16 @@ refused_later k (q ∷ qs) rs a (inr r) = refused_later k qs rs a.1 r.1
 empty_passed : (g : List ℕ) (work1 work2 : ℕ) (before after : List ℕ) (n k : ℕ) → Gives empty g work1 work2 before after n → (k ≤ 6) ⊎ (k ≡ 14) → n ≡ 4 * k + 3 → ⊥
 empty_passed g work1 work2 before after n k G of_policy e = go G.answer G.promised G.number
   where
-    go : (r : Outcome) → GoalPromise empty g work1 work2 before after r → n ≡ outcome_number r → ⊥
-    go outcome.Holds p q = omega arith
-    go (outcome.Order m) p q = omega arith
-    go (outcome.Events m) p q = omega arith
-    go (outcome.Refused i) p q =
-        let l = refused_among (λ k. (7 ≤ k) × (k ≤ 11)) i (goal_questions (counts_of empty) g ++ (ask 11 (WorkFits empty g work1 work2) ∷ [])) (omega arith)
-        (refused_later i (policy_questions empty) (goal_questions (counts_of empty) g ++ (ask 11 (WorkFits empty g work1 work2) ∷ [])) w10_empty.it p.0) in
+    go : (r : Result Outcome Unanswered) → GoalPromise empty g work1 work2 before after r → n ≡ outcome_number r → ⊥
+    go (Ok outcome.Holds) p q = omega arith
+    go (Ok (outcome.Order m)) p q = omega arith
+    go (Ok (outcome.Events m)) p q = omega arith
+    go (Err (unanswered.Refused i)) p q =
+        let l = refused_among (λ k. (7 ≤ k) × (k ≤ 11)) (question_number i) (goal_questions (counts_of empty) g ++ (ask 11 (WorkFits empty g work1 work2) ∷ [])) (omega arith)
+        (refused_later (question_number i) (policy_questions empty) (goal_questions (counts_of empty) g ++ (ask 11 (WorkFits empty g work1 work2) ∷ [])) w10_empty.it p.0) in
         ⊎_elim (λ h. omega arith) (λ h. omega arith) of_policy
-    go (outcome.NoRoom zero) p q = ⊎_elim (λ h. omega arith) (λ h. omega arith) of_policy
-    go (outcome.NoRoom (suc m)) p q = ⊎_elim (λ h. omega arith) (λ h. omega arith) of_policy
+    go (Err (unanswered.NoRoom zero)) p q = ⊎_elim (λ h. omega arith) (λ h. omega arith) of_policy
+    go (Err (unanswered.NoRoom (suc m))) p q = ⊎_elim (λ h. omega arith) (λ h. omega arith) of_policy
 
 -- THE SECOND THEOREM: the same twelve, of the outward calls
 pub weir_called : WeirCalled

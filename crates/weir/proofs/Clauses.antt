@@ -7,6 +7,7 @@ use mathlib.Core.Path.{◌≡◌, refl, sym, ap, subst}
 use native.Mathlib.Omega.{arith}
 use lib.Dec.{T}
 use lib.ListN.{get_or}
+use Rattle.std.proofs.Common.{Ok}
 use Rattle.base.specs.Numbers.{Numbered}
 use Rattle.base.specs.Bits.{bit}
 use Rattle.base.specs.Questions.{RefusedWith}
@@ -32,7 +33,9 @@ use Rattle.paths.proofs.Monitors.{order_verdict, events_verdict}
 use Rattle.goal_model.specs.Images.{in_range, meetsρμ, model}
 use Rattle.goal_model.specs.Cases.OwnGoals.{write_only}
 use Rattle.goal_model.proofs.Cover.{finite}
-use Rattle.bare_questions.specs.declared.Answer.TheVariants as answer
+use Rattle.std.specs.Prelude.{Result, Err}
+use Rattle.witness.specs.declared.unanswered.Unanswered.{Unanswered}
+use Rattle.witness.specs.declared.unanswered.Unanswered.TheVariants as unanswered
 use Rattle.goal_question.specs.declared.goal.Outcome.{Outcome}
 use Rattle.goal_question.specs.declared.goal.Outcome.TheVariants as outcome
 use Rattle.bare_questions.specs.Bare.{bare_questions, AuthorizationAnswer, number_of}
@@ -164,19 +167,19 @@ told {A} number n r q e h = subst (λ (o : A). n ≡ number o) e h
 w5_not_0 : Numbered outcome_number (GoalPromise weir_allow41 goal_g 32 32 [] []) 0 → ⊥
 w5_not_0 N = go N.answer N.promised N.number
   where
-    go : (r : Outcome) → GoalPromise weir_allow41 goal_g 32 32 [] [] r → 0 ≡ outcome_number r → ⊥
-    go outcome.Holds p q = not_always_holds [] [] p
-    go (outcome.Order m) p q = omega arith
-    go (outcome.Events m) p q = omega arith
-    go (outcome.Refused k) p q = omega arith
-    go (outcome.NoRoom m) p q = omega arith
+    go : (r : Result Outcome Unanswered) → GoalPromise weir_allow41 goal_g 32 32 [] [] r → 0 ≡ outcome_number r → ⊥
+    go (Ok outcome.Holds) p q = not_always_holds [] [] p
+    go (Ok (outcome.Order m)) p q = omega arith
+    go (Ok (outcome.Events m)) p q = omega arith
+    go (Err (unanswered.Refused k)) p q = omega arith
+    go (Err (unanswered.NoRoom m)) p q = omega arith
 
-w1_holds : GoalPromise weir goal_g 32 32 [] [] outcome.Holds
+w1_holds : GoalPromise weir goal_g 32 32 [] [] (Ok outcome.Holds)
 w1_holds = ((w1_enough, w1), refl)
 
 w1_not_1 : Numbered outcome_number (GoalPromise weir goal_g 32 32 [] []) 1 → ⊥
 w1_not_1 N =
-    let e = told outcome_number 1 N.answer outcome.Holds (one_outcome weir goal_g 32 32 [] [] [] N.answer outcome.Holds N.promised w1_holds) N.number in
+    let e = told outcome_number 1 N.answer (Ok outcome.Holds) (one_outcome weir goal_g 32 32 [] [] [] N.answer (Ok outcome.Holds) N.promised w1_holds) N.number in
     omega arith
 
 -- ---- the bare questions
@@ -190,14 +193,14 @@ user_2_writes_not = refl
 
 reads_not_1 : Numbered number_of (AuthorizationAnswer weir (at 4 2 1) (at 1 1 1) (event 2 0)) 1 → ⊥
 reads_not_1 N =
-    let q = one_answer weir (at 4 2 1) (at 1 1 1) (event 2 0) _ N.answer answer.No N.promised reads_not in
-    let z = told number_of 1 N.answer answer.No q N.number in
+    let q = one_answer weir (at 4 2 1) (at 1 1 1) (event 2 0) _ N.answer (Ok false) N.promised reads_not in
+    let z = told number_of 1 N.answer (Ok false) q N.number in
     omega arith
 
 reads_not_0 : Numbered number_of (AuthorizationAnswer weir (at 2 2 1) (at 1 1 1) (event 2 0)) 0 → ⊥
 reads_not_0 N =
-    let q = one_answer weir (at 2 2 1) (at 1 1 1) (event 2 0) _ N.answer answer.Yes N.promised reads in
-    let z = told number_of 0 N.answer answer.Yes q N.number in
+    let q = one_answer weir (at 2 2 1) (at 1 1 1) (event 2 0) _ N.answer (Ok true) N.promised reads in
+    let z = told number_of 0 N.answer (Ok true) q N.number in
     omega arith
 
 -- THE FOURTH THEOREM
@@ -216,7 +219,7 @@ clauses =
       order_shown =
           record {
             hold = (w5_enough, w5, no_step_order);
-            rejected = λ p. let z : ◌≡◌ {A = ℕ} 65 64 = (w5_slice no_step no_step (outcome.Order 1) (omega arith) p).e0 in omega arith;
+            rejected = λ p. let z : ◌≡◌ {A = ℕ} 65 64 = (w5_slice no_step no_step (Ok (outcome.Order 1)) (omega arith) p).e0 in omega arith;
           };
       shown_whole = record { hold = (omega arith, behind short zeros refl, longer_path); rejected = λ s. let z : ◌≡◌ {A = ℕ} 4 3 = s.whole in omega arith };
       shown_rest = record { hold = changed_path; rejected = λ s. let z : ◌≡◌ {A = ℕ} 8 7 = s.rest 3 (omega arith) in omega arith };

@@ -6,6 +6,8 @@ use mathlib.Core.Logic.{inl, inr}
 use mathlib.Core.Path.{◌≡◌, refl, sym, ap, ap₂, subst, ◌∙◌}
 use native.Mathlib.Omega.{arith}
 use lib.ListN.{length, take, drop}
+use Rattle.std.proofs.Common.{Result, Ok}
+use Rattle.base.specs.declared.refusals.Refusal.{Refusal}
 use Rattle.base.specs.Questions.{Question, ask, AllYes, RefusedWith}
 use Rattle.base.proofs.QuestionLaws.{passed_both, refused_first, refused_then}
 use Rattle.policy_image.specs.Layout.{record_count}
@@ -15,13 +17,12 @@ use Rattle.policy_sources.specs.Sources.{domain}
 use Rattle.policy_check.specs.Questions.{policy_questions}
 use Rattle.policy_check.proofs.Cases.{weir_accepted}
 use Rattle.relations.specs.Relations.{ρ}
-use Rattle.policy_writing.specs.declared.answer.Writing.{Writing}
-use Rattle.policy_writing.specs.declared.answer.Writing.TheVariants as writing
 use Rattle.policy_writing.specs.Writing.{writing_number}
-use Rattle.policy_writing.proofs.WritingLaws.{one_writing}
+use Rattle.policy_writing.proofs.WritingLaws.{one_writing, refused_writing}
 use Rattle.join.specs.Join.{joined_image, join_questions, JoinPromise}
 use Rattle.goal_image.specs.Cases.WeirGoal.{goal_g}
 use Rattle.paths.specs.Paths.{OrderAt}
+use Rattle.witness.specs.declared.unanswered.Unanswered.{Unanswered}
 use Rattle.goal_question.specs.declared.goal.Outcome.{Outcome}
 use Rattle.goal_question.specs.GoalQuestion.{GoalPromise}
 use Rattle.weir.specs.Cases.Weir.{W5Slice, Answered}
@@ -74,7 +75,7 @@ module _ {s t image : List ℕ} (j : JoinIs s t image) (P : List ℕ → Type 0)
   of_joined : P image → P (joined_image s t)
   of_joined h = subst P (sym j.joined) h
 
-read_slice : (before after : List ℕ) (r : Outcome) → 3 ≤ length before → GoalPromise weir_read goal_g 32 32 before after r → W5Slice before after r
+read_slice : (before after : List ℕ) (r : Result Outcome Unanswered) → 3 ≤ length before → GoalPromise weir_read goal_g 32 32 before after r → W5Slice before after r
 read_slice = slice_of_one weir_read answers.read_enough answers.read_order answers.read_covers
 
 -- ---- the two sides of 15: 4,095 records and one more, 4,094 and one more
@@ -101,7 +102,7 @@ join_cases =
       read_before = record { accepted = w1_enough; answer = w1 };
       read_after = of_joined images.read (λ s. Answered s goal_g (λ M. OrderAt M 1)) (record { accepted = answers.read_enough; answer = answers.read_order });
       read_slice = of_joined images.read
-          (λ s. (before after : List ℕ) (r : Outcome) → 3 ≤ length before → GoalPromise s goal_g 32 32 before after r → W5Slice before after r) read_slice;
+          (λ s. (before after : List ℕ) (r : Result Outcome Unanswered) → 3 ≤ length before → GoalPromise s goal_g 32 32 before after r → W5Slice before after r) read_slice;
       taken = images.taken;
       taken_before = answers.taken_before;
       taken_after = of_joined images.taken (λ s. answers.two_reads_one s ≡ false) answers.taken_after;
@@ -151,17 +152,19 @@ join_cases =
 -- ---- the answers and the numbers that the call gives
 module _ (s t before after : List ℕ) (n : ℕ) (G : GivesJoin s t before after n) where
   -- any answer with an output that the promise allows is the one that was given
-  given : (last : List ℕ) (w : Writing) → JoinPromise s t before last w → (n ≡ writing_number w) × (after ≡ last)
+  given : (last : List ℕ) (w : Result ℕ Refusal) → JoinPromise s t before last w → (n ≡ writing_number w) × (after ≡ last)
   given last w p =
       let r = one_writing (join_questions s t (length before)) (joined_image s t) before after last G.answer w G.promised p in
       (G.number ∙ ap writing_number r.0, r.1)
 
   said_refused : (k : ℕ) → RefusedWith (join_questions s t (length before)) k → (n ≡ 4 * k + 3) × (after ≡ before)
-  said_refused k r = given before (writing.Refused k) (r, refl)
+  said_refused k r =
+      let o = refused_writing (join_questions s t (length before)) (joined_image s t) before after G.answer k G.promised r in
+      (G.number ∙ o.0, o.1)
 
   said_written : AllYes (join_questions s t (length before))
       → (n ≡ 256 * length (joined_image s t)) × (after ≡ joined_image s t ++ drop (length (joined_image s t)) before)
-  said_written a = given (joined_image s t ++ drop (length (joined_image s t)) before) (writing.Written (length (joined_image s t))) (a, refl, refl)
+  said_written a = given (joined_image s t ++ drop (length (joined_image s t)) before) (Ok (length (joined_image s t))) (a, refl, refl)
 
 pub refuses : (s t : List ℕ) (k : ℕ) → JoinRefused s t k → RefusesJoin s t k
 refuses s t k r before after n G = said_refused s t before after n G k (r (length before))

@@ -4,7 +4,10 @@ use mathlib.Core.List.{List, [], ◌∷◌, ◌++◌}
 use mathlib.Core.Path.{◌≡◌, refl, ap}
 use native.Mathlib.Omega.{arith}
 use lib.ListN.{length, get_or}
-use Rattle.base.proofs.QuestionLaws.{passed_not_refused, one_number}
+use Rattle.base.specs.declared.refusals.Refusal.TheVariants.{OutputSlice, PolicyCounts, PolicyLength, TooManyRecords}
+use Rattle.base.proofs.QuestionLaws.{passed_not_refused}
+use Rattle.base.specs.Refusals.{question_number}
+use Rattle.base.proofs.RefusalLaws.{one_refusal}
 use Rattle.policy_image.specs.Cases.Weir.{weir}
 use Rattle.policy_check.proofs.Cases.{w10_empty}
 use Rattle.join.specs.Join.{joined_image, join_questions}
@@ -56,15 +59,15 @@ join_clauses =
           record { hold = (enough images.nothing 26 (omega arith), refl); rejected = λ p. let z : ◌≡◌ {A = ℕ} 26 24 = p.1 in omega arith };
       written_bytes =
           record { hold = (enough images.nothing 26 (omega arith), refl); rejected = λ p. cleared p.2 };
-      refused_first = λ k. record {
+      refused_first = λ r. record {
         hold = refl;
-        rejected = λ p. passed_not_refused (join_questions empty empty 24) k join_cases.nothing_enough p.0;
+        rejected = λ p. passed_not_refused (join_questions empty empty 24) (question_number r) join_cases.nothing_enough p.0;
       };
       refused_unchanged = record { hold = join_cases.nothing_16; rejected = λ p. let z : ◌≡◌ {A = ℕ} 1 170 = ap (λ (l : List ℕ). get_or l 0 0) p.1 in omega arith };
-      refused_maker = λ k before after p. one_number (join_questions no_type [] (length before)) k 2 p.0 (join_cases.two_before_1.1 (length before));
-      refused_board = λ k before after p. one_number (join_questions weir states_many (length before)) k 1 p.0 (join_cases.one_before_15.1 (length before));
-      refused_15 = λ s t before after k a b more p. one_number (join_questions s t (length before)) k 15 p.0 (join_cases.fifteen s t a b more (length before));
-      refused_16 = λ k after p. one_number (join_questions empty empty 23) k 16 p.0 join_cases.nothing_16;
+      refused_maker = λ r before after p. one_refusal (join_questions no_type [] (length before)) r PolicyCounts p.0 (join_cases.two_before_1.1 (length before));
+      refused_board = λ r before after p. one_refusal (join_questions weir states_many (length before)) r PolicyLength p.0 (join_cases.one_before_15.1 (length before));
+      refused_15 = λ s t before after r a b more p. one_refusal (join_questions s t (length before)) r TooManyRecords p.0 (join_cases.fifteen s t a b more (length before));
+      refused_16 = λ r after p. one_refusal (join_questions empty empty 23) r OutputSlice p.0 join_cases.nothing_16;
       number_promised =
           record { hold = refl; rejected = λ N. let z = (join_called.nothing_exact (blank 24) 67 N).0 in omega arith };
       number_told =

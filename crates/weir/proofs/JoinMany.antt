@@ -13,7 +13,7 @@ use Rattle.policy_image.specs.Inner.Writable.{WritableRecord, Writable}
 use Rattle.policy_image.proofs.EncodingLaws.{count_written, image_length}
 use Rattle.policy_links.proofs.KindLaws.{every_yes}
 use Rattle.policy_fields.specs.Fields.{Fits, FieldsInRange}
-use Rattle.policy_expressions.specs.declared.Use.TheVariants.{Nothing, Node}
+use Rattle.std.specs.Prelude.{None, Some}
 use Rattle.policy_expressions.specs.Nodes.{use_of, Uses, NodesInOrder}
 use Rattle.policy_sources.specs.Sources.{domain, AllowsFromDomains}
 use Rattle.policy_check.specs.Questions.{policy_questions}
@@ -41,7 +41,7 @@ times_turn zero = tt
 times_turn (suc n) = (omega arith, omega arith, times_turn n)
 
 -- ---- the policy
-apart : {m : ℕ} → Nothing ≡ Node m → ⊥
+apart : {m : ℕ} → None ≡ Some m → ⊥
 apart {m} e = let z : ◌≡◌ {A = ℕ} 0 1 = cc in omega arith
 
 module _ (n : ℕ) where
@@ -61,7 +61,7 @@ module _ (n : ℕ) where
       }
 
   -- a domain record uses no node
-  no_use : (k s m : ℕ) → use_of (with_next k domain_one) s ≡ Node m → ⊥
+  no_use : (k s m : ℕ) → use_of (with_next k domain_one) s ≡ Some m → ⊥
   unfolding use_of
   no_use k zero m e = apart e
   no_use k (suc zero) m e = apart e

@@ -32,6 +32,8 @@ use Rattle.paths.proofs.Decide.{holds_by, events_by}
 use Rattle.goal_model.specs.Images.{model}
 use Rattle.goal_model.proofs.Cover.{Step, context, step as flows_by, uncovered, finite, every_step, all_in, any_context, context_back}
 use Rattle.goal_model.proofs.Cases.{step}
+use Rattle.std.specs.Prelude.{Result}
+use Rattle.witness.specs.declared.unanswered.Unanswered.{Unanswered}
 use Rattle.goal_question.specs.declared.goal.Outcome.{Outcome}
 use Rattle.goal_question.specs.GoalQuestion.{all_questions, GoalPromise}
 use Rattle.least_steps.specs.LeastSteps.{FlowPath, NoFlowPath, NoneShorter}
@@ -269,7 +271,7 @@ steps_changed = are changed_accepted (omega arith) (at 1 1 1) (at 4 1 1) (omega 
 same_printed : (before after : List ℕ) (n : ℕ) → 5 ≤ length before → Gives weir_same_role goal_g 32 32 before after n → PrintsTwo before after
 same_printed before after n room G =
     let r = events_only weir_same_role goal_g 32 32 same_enough {m = 2} before after G.answer same_now room G.promised in
-    let h = (subst (λ (o : Outcome). GoalPromise weir_same_role goal_g 32 32 before after o) r G.promised).1 in
+    let h = (subst (λ (o : Result Outcome Unanswered). GoalPromise weir_same_role goal_g 32 32 before after o) r G.promised).1 in
     let q = same_path (contexts_in after) (events_in after) h.path in
     record { whole = h.whole; x0 = q.0; e0 = q.1; x1 = q.2; e1 = q.3; x2 = q.4; rest = h.rest }
 

@@ -18,9 +18,10 @@ use Rattle.context.specs.declared.Context.{Context}
 use Rattle.context.specs.Codes.{context_at as at}
 use Rattle.access.proofs.Cases.{readers_accepted}
 use Rattle.paths.specs.Slice.{contexts_in, events_in, Shows}
-use Rattle.least_steps.specs.declared.Steps.TheVariants as steps
+use Rattle.std.specs.Prelude.{Some, None, Ok, Err}
+use Rattle.witness.specs.declared.unanswered.Unanswered.TheVariants as unanswered
 use Rattle.least_steps.specs.LeastSteps.{FlowPath, NoFlowPath, NoneShorter, BothInRange, StepsFit, steps_questions, steps_number}
-use Rattle.least_steps.proofs.StepsLaws.{shown_some, given}
+use Rattle.least_steps.proofs.StepsLaws.{shown_some, given, refused_steps}
 use Rattle.weir.specs.Cases.Goals.{weir_allow41}
 use Rattle.weir.specs.Cases.StepsPolicies.{two_users, weir_constrained, weir_apart, no_root}
 use Rattle.weir.specs.Cases.Steps.{StepsAre, NoSteps, StepsCases, GivesSteps, SaysNone, RefusesSteps, SaysSteps, PrintsThree, PrintsOne, StepsCalled}
@@ -107,23 +108,23 @@ steps_cases =
 -- ---- the numbers that the call gives
 pub refuses : {k : ℕ} (s : List ℕ) (x y : Context) (work1 work2 : ℕ) → RefusedWith (steps_questions s x y work1 work2) k → RefusesSteps s x y work1 work2 k
 refuses {k} s x y work1 work2 h b a n G =
-    let r = given s x y work1 work2 b a (steps.Refused k) G.answer h G.promised in
-    (G.number ∙ ap steps_number r.0, r.1.1)
+    let r = refused_steps s x y work1 work2 b a k G.answer h G.promised in
+    (G.number ∙ r.0, r.1)
 
 module _ {s : List ℕ} {x y : Context} {work : ℕ} where
   pub says_none : NoSteps s x y work → SaysNone s x y work
   says_none h b a n G =
-      let r = given s x y work work b a steps.None G.answer (h.asked, h.none) G.promised in
+      let r = given s x y work work b a (Ok None) G.answer (h.asked, h.none) G.promised in
       (G.number ∙ ap steps_number r.0, r.1.2)
 
   pub says_steps : {m : ℕ} → StepsAre s x y work m → SaysSteps s x y work m
   says_steps {m} h =
       record {
         room = λ b a n room G.
-            let r = given s x y work work b a (steps.Shown m) G.answer (h.asked, h.some, h.least, room) G.promised in
+            let r = given s x y work work b a (Ok (Some m)) G.answer (h.asked, h.some, h.least, room) G.promised in
             (G.number ∙ ap steps_number r.0, r.1.2);
         no_room = λ b a n short G.
-            let r = given s x y work work b a (steps.NoRoom m) G.answer (h.asked, h.some, h.least, short) G.promised in
+            let r = given s x y work work b a (Err (unanswered.NoRoom m)) G.answer (h.asked, h.some, h.least, short) G.promised in
             let q = G.number ∙ ap steps_number r.0 in
             (omega arith, r.1.4);
       }

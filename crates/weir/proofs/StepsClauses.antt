@@ -7,6 +7,7 @@ use native.Mathlib.Nat.{le_refl}
 use native.Mathlib.Omega.{arith}
 use lib.Dec.{T}
 use lib.ListN.{length, get_or-eq_default}
+use Rattle.base.specs.Refusals.{question_number}
 use Rattle.base.specs.Questions.{RefusedWith}
 use Rattle.base.proofs.QuestionLaws.{passed_not_refused}
 use Rattle.policy_image.specs.Layout.{counts_of, record_count}
@@ -103,9 +104,9 @@ steps_clauses =
             hold = (there.asked, there.least);
             rejected = λ p. let z : ◌≡◌ {A = ℕ} 0 273 = (paths.three_path (contexts_in more_zeros) (events_in more_zeros) p.2.path).0 in omega arith;
           };
-      refused_first = λ k. record {
+      refused_first = λ r. record {
         hold = refl;
-        rejected = λ p. passed_not_refused (steps_questions weir (at 1 1 1) (at 4 2 1) 8 8) k there.asked p.0;
+        rejected = λ p. passed_not_refused (steps_questions weir (at 1 1 1) (at 4 2 1) 8 8) (question_number r) there.asked p.0;
       };
       refused_unchanged = record { hold = steps_cases.first_11 8; rejected = λ p. changed (sym p.1) };
       no_room_asked =

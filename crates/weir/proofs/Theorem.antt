@@ -16,6 +16,10 @@ use Rattle.access.proofs.NoDomain.{w9_nothing, w9_authorized, w9_flow}
 use Rattle.goal_image.specs.Cases.WeirGoal.{goal_g}
 use Rattle.goal_model.specs.Images.{model}
 use Rattle.goal_model.proofs.Cover.{uncovered}
+use Rattle.std.specs.Prelude.{Result, Ok, Err}
+use Rattle.base.specs.Refusals.{question_number}
+use Rattle.witness.specs.declared.unanswered.Unanswered.{Unanswered}
+use Rattle.witness.specs.declared.unanswered.Unanswered.TheVariants as unanswered
 use Rattle.goal_question.specs.declared.goal.Outcome.{Outcome}
 use Rattle.goal_question.specs.declared.goal.Outcome.TheVariants as outcome
 use Rattle.paths.specs.Paths.{IsPath, OrderAt}
@@ -36,23 +40,23 @@ w12_second work = refused_11 weir goal_g work 31 weir_accepted g_accepted (λ h.
 
 -- ---- W5 by answer, count and path slice: of any image that has W5's steps, and W5's answer to G
 module _ (s : List ℕ) (all : AllYes (all_questions s goal_g 32 32)) (broken : OrderAt (model s goal_g) 1) (covered : T (not (uncovered (policy_of s) steps41))) where
-  pub slice_of_one : (before after : List ℕ) (r : Outcome) → 3 ≤ length before → GoalPromise s goal_g 32 32 before after r → W5Slice before after r
-  slice_of_one before after outcome.Holds room p = absurd (not_holds_order (model s goal_g) 1 p.0.1 broken)
-  slice_of_one before after (outcome.Order m) room p = shown m (order_one (model s goal_g) m 1 p.0.1 broken) p.1
+  pub slice_of_one : (before after : List ℕ) (r : Result Outcome Unanswered) → 3 ≤ length before → GoalPromise s goal_g 32 32 before after r → W5Slice before after r
+  slice_of_one before after (Ok outcome.Holds) room p = absurd (not_holds_order (model s goal_g) 1 p.0.1 broken)
+  slice_of_one before after (Ok (outcome.Order m)) room p = shown m (order_one (model s goal_g) m 1 p.0.1 broken) p.1
     where
-      shown : (m : ℕ) → m ≡ 1 → Shows (IsPath (model s goal_g)) m before after → W5Slice before after (outcome.Order m)
+      shown : (m : ℕ) → m ≡ 1 → Shows (IsPath (model s goal_g)) m before after → W5Slice before after (Ok (outcome.Order m))
       shown m e h =
           let k : Shows (IsPath (model s goal_g)) 1 before after = subst (λ (i : ℕ). Shows (IsPath (model s goal_g)) i before after) e h in
           let q = w5_path s covered (contexts_in after) (events_in after) k.path in
-          record { answer = ap outcome.Order e; whole = k.whole; x0 = q.0; e0 = q.1; x1 = q.2; rest = k.rest }
-  slice_of_one before after (outcome.Events m) room p = absurd (not_both (model s goal_g) 1 m broken p.0.1)
-  slice_of_one before after (outcome.Refused k) room p = absurd (passed_not_refused (all_questions s goal_g 32 32) k all p.0)
-  slice_of_one before after (outcome.NoRoom m) room p =
+          record { answer = ap (λ m. Ok (outcome.Order m)) e; whole = k.whole; x0 = q.0; e0 = q.1; x1 = q.2; rest = k.rest }
+  slice_of_one before after (Ok (outcome.Events m)) room p = absurd (not_both (model s goal_g) 1 m broken p.0.1)
+  slice_of_one before after (Err (unanswered.Refused k)) room p = absurd (passed_not_refused (all_questions s goal_g 32 32) (question_number k) all p.0)
+  slice_of_one before after (Err (unanswered.NoRoom m)) room p =
       let e = least_one (model s goal_g) m 1 (either p.0).1 (inl broken) in
       let short = p.1 in
       absurd (omega arith)
 
-pub w5_slice : (before after : List ℕ) (r : Outcome) → 3 ≤ length before → GoalPromise weir_allow41 goal_g 32 32 before after r → W5Slice before after r
+pub w5_slice : (before after : List ℕ) (r : Result Outcome Unanswered) → 3 ≤ length before → GoalPromise weir_allow41 goal_g 32 32 before after r → W5Slice before after r
 w5_slice = slice_of_one weir_allow41 w5_enough w5 covers41
 
 -- THE THEOREM

@@ -6,6 +6,8 @@ use mathlib.Core.Logic.{⊎_elim}
 use mathlib.Core.Path.{◌≡◌, refl, sym, ap, subst, ◌∙◌}
 use native.Mathlib.Omega.{arith}
 use lib.ListN.{length, drop}
+use Rattle.std.proofs.Common.{Result, Ok}
+use Rattle.base.specs.declared.refusals.Refusal.{Refusal}
 use Rattle.base.specs.Questions.{AllYes, RefusedWith}
 use Rattle.base.proofs.Numbers.{split_le}
 use Rattle.base.proofs.QuestionLaws.{passed_not_refused, one_number}
@@ -16,10 +18,8 @@ use Rattle.policy_image.proofs.EncodingLaws.{image_length}
 use Rattle.policy_check.specs.Questions.{policy_questions}
 use Rattle.policy_check.proofs.Cases.{w9_refused}
 use Rattle.policy_facts.specs.Canonical.{canonical_of}
-use Rattle.policy_writing.specs.declared.answer.Writing.{Writing}
-use Rattle.policy_writing.specs.declared.answer.Writing.TheVariants as writing
 use Rattle.policy_writing.specs.Writing.{writing_number}
-use Rattle.policy_writing.proofs.WritingLaws.{one_writing}
+use Rattle.policy_writing.proofs.WritingLaws.{one_writing, refused_writing}
 use Rattle.context.specs.Codes.{context_at as at, event_at as event}
 use Rattle.access.specs.Authorization.{authorized}
 use Rattle.canonical.specs.Canonical.{canonical_image, canonical_questions, CanonicalPromise}
@@ -144,17 +144,19 @@ canonical_cases =
 -- ---- the answers and the numbers that the call gives
 module _ (s before after : List ℕ) (n : ℕ) (G : GivesCanonical s before after n) where
   -- any answer with an output that the promise allows is the one that was given
-  given : (last : List ℕ) (w : Writing) → CanonicalPromise s before last w → (n ≡ writing_number w) × (after ≡ last)
+  given : (last : List ℕ) (w : Result ℕ Refusal) → CanonicalPromise s before last w → (n ≡ writing_number w) × (after ≡ last)
   given last w p =
       let r = one_writing (canonical_questions s (length before)) (canonical_image s) before after last G.answer w G.promised p in
       (G.number ∙ ap writing_number r.0, r.1)
 
   said_refused : (k : ℕ) → RefusedWith (canonical_questions s (length before)) k → (n ≡ 4 * k + 3) × (after ≡ before)
-  said_refused k r = given before (writing.Refused k) (r, refl)
+  said_refused k r =
+      let o = refused_writing (canonical_questions s (length before)) (canonical_image s) before after G.answer k G.promised r in
+      (G.number ∙ o.0, o.1)
 
   said_written : AllYes (canonical_questions s (length before))
       → (n ≡ 256 * length (canonical_image s)) × (after ≡ canonical_image s ++ drop (length (canonical_image s)) before)
-  said_written a = given (canonical_image s ++ drop (length (canonical_image s)) before) (writing.Written (length (canonical_image s))) (a, refl, refl)
+  said_written a = given (canonical_image s ++ drop (length (canonical_image s)) before) (Ok (length (canonical_image s))) (a, refl, refl)
 
 refuses : (s : List ℕ) (k : ℕ) → CanonicalRefused s k → RefusesCanonical s k
 refuses s k r before after n G = said_refused s before after n G k (r (length before))

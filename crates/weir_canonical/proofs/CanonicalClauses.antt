@@ -4,7 +4,10 @@ use mathlib.Core.List.{List, ◌++◌}
 use mathlib.Core.Path.{◌≡◌, refl, sym, ap, ◌∙◌}
 use native.Mathlib.Omega.{arith}
 use lib.ListN.{length, get_or, drop}
-use Rattle.base.proofs.QuestionLaws.{passed_not_refused, one_number}
+use Rattle.base.specs.declared.refusals.Refusal.TheVariants.{OutputSlice, PolicyCounts, TooManyRecords}
+use Rattle.base.proofs.QuestionLaws.{passed_not_refused}
+use Rattle.base.specs.Refusals.{question_number}
+use Rattle.base.proofs.RefusalLaws.{one_refusal}
 use Rattle.canonical.specs.Canonical.{canonical_image, canonical_questions}
 use Rattle.weir.specs.Cases.Goals.{empty}
 use Rattle.weir.specs.Cases.JoinPolicies.{no_type, blank, blank_then}
@@ -72,17 +75,17 @@ canonical_clauses =
                 let z : ◌≡◌ {A = ℕ} 0 7 = ap (λ (l : List ℕ). get_or l 24 0) (p.2 ∙ ap (λ (i : List ℕ). i ++ drop 24 (blank_then 7 9)) empty_written) in
                 omega arith;
           };
-      refused_first = λ k. record {
+      refused_first = λ r. record {
         hold = refl;
-        rejected = λ p. passed_not_refused (canonical_questions empty 24) k canonical_cases.nothing_enough p.0;
+        rejected = λ p. passed_not_refused (canonical_questions empty 24) (question_number r) canonical_cases.nothing_enough p.0;
       };
       refused_unchanged =
           record { hold = canonical_cases.nothing_16; rejected = λ p. let z : ◌≡◌ {A = ℕ} 1 170 = ap (λ (l : List ℕ). get_or l 0 0) p.1 in omega arith };
-      refused_policy = λ k before after p.
-          one_number (canonical_questions (crowded 0 one_flow 4094) (length before)) k 2 p.0 (canonical_cases.two_before_15.1 (length before));
-      refused_15 = λ k before after p.
-          one_number (canonical_questions (crowded 1 one_flow 4094) (length before)) k 15 p.0 (canonical_cases.crowded_15.1 (length before));
-      refused_16 = λ k after p. one_number (canonical_questions empty 23) k 16 p.0 canonical_cases.nothing_16;
+      refused_policy = λ r before after p.
+          one_refusal (canonical_questions (crowded 0 one_flow 4094) (length before)) r PolicyCounts p.0 (canonical_cases.two_before_15.1 (length before));
+      refused_15 = λ r before after p.
+          one_refusal (canonical_questions (crowded 1 one_flow 4094) (length before)) r TooManyRecords p.0 (canonical_cases.crowded_15.1 (length before));
+      refused_16 = λ r after p. one_refusal (canonical_questions empty 23) r OutputSlice p.0 canonical_cases.nothing_16;
       number_promised =
           record { hold = refl; rejected = λ N. let z = (canonical_called.nothing_exact (blank 24) 67 N).0 in omega arith };
       number_told =

@@ -24,7 +24,7 @@ use Rattle.policy_image.specs.Inner.Writable.{WritableRecord, Writable}
 use Rattle.policy_image.proofs.EncodingLaws.{count_written, counts_written, written_exact}
 use Rattle.policy_links.proofs.KindLaws.{every_yes}
 use Rattle.policy_fields.specs.Fields.{Fits, FieldsInRange}
-use Rattle.policy_expressions.specs.declared.Use.TheVariants.{Nothing, Node}
+use Rattle.std.specs.Prelude.{None, Some}
 use Rattle.policy_expressions.specs.Nodes.{pick, has_root, has_left, has_right, use_of, Uses, NodesInOrder}
 use Rattle.policy_sources.specs.Sources.{domain, AllowsFromDomains}
 use Rattle.policy_check.specs.Questions.{policy_questions}
@@ -76,17 +76,17 @@ node_crowding =
       allow = λ e. omega arith;
     }
 
-apart : {m : ℕ} → Nothing ≡ Node m → ⊥
+apart : {m : ℕ} → None ≡ Some m → ⊥
 apart {m} e = let z : ◌≡◌ {A = ℕ} 0 1 = cc in omega arith
 
 -- a record that uses no node, whatever its next
-no_use : (r : Record) → Crowding r → (next s m : ℕ) → use_of (with_next next r) s ≡ Node m → ⊥
+no_use : (r : Record) → Crowding r → (next s m : ℕ) → use_of (with_next next r) s ≡ Some m → ⊥
 unfolding use_of
 no_use r C next zero m e =
     apart
-    (sym (ap (λ (t : Bool). pick t (Node (root_of r)) (pick (has_left r) (Node (left_of r)) Nothing)) C.root
-    ∙ ap (λ (t : Bool). pick t (Node (left_of r)) Nothing) C.left) ∙ e)
-no_use r C next (suc zero) m e = apart (sym (ap (λ (t : Bool). pick t (Node (right_of r)) Nothing) C.right) ∙ e)
+    (sym (ap (λ (t : Bool). pick t (Some (root_of r)) (pick (has_left r) (Some (left_of r)) None)) C.root
+    ∙ ap (λ (t : Bool). pick t (Some (left_of r)) None) C.left) ∙ e)
+no_use r C next (suc zero) m e = apart (sym (ap (λ (t : Bool). pick t (Some (right_of r)) None) C.right) ∙ e)
 no_use r C next (suc (suc s)) m e = apart e
 
 -- records that are the same, as lists

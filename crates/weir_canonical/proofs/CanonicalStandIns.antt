@@ -5,12 +5,14 @@ use mathlib.Core.List.{List, [], ◌∷◌, ◌++◌}
 use mathlib.Core.Path.{◌≡◌, refl, ap, subst, ◌∙◌}
 use native.Mathlib.Omega.{arith}
 use lib.ListN.{length, get_or, take, drop}
+use Rattle.std.proofs.Common.{Result, Ok, Err}
+use Rattle.base.specs.declared.refusals.Refusal.{Refusal}
+use Rattle.base.specs.declared.refusals.Refusal.TheVariants.{OutputSlice, TooManyRecords}
 use Rattle.base.specs.Questions.{RefusedWith}
+use Rattle.base.specs.Refusals.{question_number}
 use Rattle.base.proofs.QuestionLaws.{passed_not_refused, one_number}
-use Rattle.policy_writing.specs.declared.answer.Writing.{Writing}
-use Rattle.policy_writing.specs.declared.answer.Writing.TheVariants as writing
 use Rattle.policy_writing.specs.Writing.{WritingPromise}
-use Rattle.policy_writing.proofs.WritingLaws.{one_writing}
+use Rattle.policy_writing.proofs.WritingLaws.{one_writing, refused_writing}
 use Rattle.canonical.specs.Canonical.{canonical_image, canonical_questions, CanonicalPromise}
 use Rattle.weir.specs.Cases.Goals.{empty}
 use Rattle.weir.specs.Cases.JoinPolicies.{no_type, leaning, blank, blank_then}
@@ -23,10 +25,10 @@ use Rattle.weir_canonical.proofs.CanonicalQuestions.{enough}
 use Rattle.weir_canonical.proofs.Canonical.{crowded_not_15, canonical_cases, canonical_called}
 
 -- ---- where the canonical image is known and there is room for it, the output begins with it, whatever is answered
-only_canonical : {s image : List ℕ} → CanonicalIs s image → (before after : List ℕ) (w : Writing) → length image ≤ length before → CanonicalPromise s before after w
-    → (w ≡ writing.Written (length image)) × (after ≡ image ++ drop (length image) before)
+only_canonical : {s image : List ℕ} → CanonicalIs s image → (before after : List ℕ) (w : Result ℕ Refusal) → length image ≤ length before → CanonicalPromise s before after w
+    → (w ≡ Ok (length image)) × (after ≡ image ++ drop (length image) before)
 only_canonical {s} {image} c before after w h p =
-    one_writing (canonical_questions s (length before)) image before after (image ++ drop (length image) before) w (writing.Written (length image))
+    one_writing (canonical_questions s (length before)) image before after (image ++ drop (length image) before) w (Ok (length image))
     (subst (λ (i : List ℕ). WritingPromise (canonical_questions s (length before)) i before after w) c.written p) (enough c (length before) h, refl, refl)
 
 -- so bytes that differ from it are kept out
@@ -38,13 +40,15 @@ kept_out {s} {image} {wrong} c e =
     }
 
 -- ---- where it is refused, the output is as it was
-only_refused : (s before after : List ℕ) (k : ℕ) (w : Writing) → RefusedWith (canonical_questions s (length before)) k → CanonicalPromise s before after w → after ≡ before
+only_refused : (s before after : List ℕ) (k : ℕ) (w : Result ℕ Refusal) → RefusedWith (canonical_questions s (length before)) k → CanonicalPromise s before after w → after ≡ before
 only_refused s before after k w r p =
-    (one_writing (canonical_questions s (length before)) (canonical_image s) before after before w (writing.Refused k) p (r, refl)).1
+    (refused_writing (canonical_questions s (length before)) (canonical_image s) before after w k p r).1
 
 -- .. and the number is that one
-other_number : {s : List ℕ} {k : ℕ} → CanonicalRefused s k → (before after : List ℕ) (j : ℕ) → CanonicalPromise s before after (writing.Refused j) → j ≡ k
-other_number {s} {k} r before after j p = one_number (canonical_questions s (length before)) j k p.0 (r (length before))
+other_number : {s : List ℕ} {k : ℕ} → CanonicalRefused s k → (before after : List ℕ) (q : Refusal) → CanonicalPromise s before after (Err q)
+    → question_number q ≡ k
+other_number {s} {k} r before after q p =
+    one_number (canonical_questions s (length before)) (question_number q) k p.0 (r (length before))
 
 -- THE THIRTEENTH THEOREM
 pub canonical_stand_ins : CanonicalStandIns
@@ -123,15 +127,15 @@ canonical_stand_ins =
           let e = only_refused (crowded 1 one_flow 4094) (0 ∷ []) (1 ∷ []) 15 w (canonical_cases.crowded_15.1 1) p in
           let z : ◌≡◌ {A = ℕ} 1 0 = ap (λ (l : List ℕ). get_or l 0 0) e in
           omega arith;
-      not_15_before_policy = λ before after p. let e = other_number canonical_cases.two_before_15.1 before after 15 p in omega arith;
-      not_16_before_policy = λ after p. let e = other_number canonical_cases.leaning_14 [] after 16 p in omega arith;
-      not_16_before_15 = λ before after p. let e = other_number canonical_cases.crowded_15.1 before after 16 p in omega arith;
+      not_15_before_policy = λ before after p. let e = other_number canonical_cases.two_before_15.1 before after TooManyRecords p in omega arith;
+      not_16_before_policy = λ after p. let e = other_number canonical_cases.leaning_14 [] after OutputSlice p in omega arith;
+      not_16_before_15 = λ before after p. let e = other_number canonical_cases.crowded_15.1 before after OutputSlice p in omega arith;
       not_15_by_records = λ before after n p.
           passed_not_refused (canonical_questions (crowded 1 one_flow 4094) (length before)) 15 p.0 (canonical_cases.crowded_15.1 (length before));
       not_15_by_splitting = λ before after p. crowded_not_15 canonical_cases.crowded_united.0 (omega arith) (length before) p.0;
       not_15_by_empty = λ before after p. crowded_not_15 canonical_cases.crowded_dropped.0 (omega arith) (length before) p.0;
       not_15_at_4095 = λ before after p. crowded_not_15 canonical_cases.crowded_fits.0 (omega arith) (length before) p.0;
-      not_refusing = λ after k p. passed_not_refused (canonical_questions empty 24) k canonical_cases.nothing_enough p.0;
+      not_refusing = λ after r p. passed_not_refused (canonical_questions empty 24) (question_number r) canonical_cases.nothing_enough p.0;
       not_unaccepted = λ before after n p.
           passed_not_refused (canonical_questions no_type (length before)) 2 p.0 (canonical_cases.no_type_2 (length before));
       not_output_length = λ after n p. p.1 ∙ canonical_cases.nothing_length;

@@ -8,6 +8,7 @@ use native.Mathlib.Omega.{arith}
 use lib.Dec.{T}
 use lib.ListN.{length, get_or, set, length-set}
 use lib.Seq.{get_or-set_same, get_or-set_other}
+use Rattle.std.specs.Prelude.{Option, Some}
 use Rattle.policy_image.specs.declared.counts.Counts.{Counts}
 use Rattle.context.specs.Inner.Places.{context_count}
 use Rattle.paths.specs.Model.{Model}
@@ -25,19 +26,22 @@ use Rattle.search_graph.specs.Inner.Nodes.{Watch, watch_of, monitor_of, state_of
 use Rattle.search_graph.proofs.SearchLaws.{chain_bound}
 use Rattle.search_memory.proofs.StandLaws.{at_place}
 use Rattle.search.specs.declared.levels.LastStep.{LastStep}
-use Rattle.search.specs.declared.levels.LeastEnd.{LeastEnd}
-use Rattle.search.specs.declared.levels.LeastEnd.TheVariants.{Start, At}
+use Rattle.search.specs.declared.levels.End.{End}
+use Rattle.search.specs.declared.levels.End.TheVariants.{Start, Step}
 use Rattle.search.specs.Inner.Found.{FoundBy, FoundLeast}
 use Rattle.witness.specs.Inner.Links.{LinkedNodes}
 use Rattle.witness.specs.Inner.Shown.{BreaksBy, ShownPath, SearchFound, NodeIn}
 
 -- ---- what a search found, where it is a start, and where it is a step
-module _ {s plan : List ℕ} {t : Task} {back : List ℕ} {r : LeastEnd} (F : SearchFound s plan t back r) where
-  pub start_found : {x : ℕ} → r ≡ Start x → BadStart (model_by s plan t) (watch_by s plan t) x
-  start_found q = (subst (FoundLeast s plan t F.bound back) q F.found).bad
+module _ {s plan : List ℕ} {t : Task} {back : List ℕ} {r : Option End} (F : SearchFound s plan t back r) {e : End} (p : r ≡ Some e) where
+  pub end_found : FoundLeast s plan t F.bound back (Some e)
+  end_found = subst (FoundLeast s plan t F.bound back) p F.found
 
-  pub step_found : {l : LastStep} → r ≡ At l → FoundBy (graph_of s plan t) back l
-  step_found q = (subst (FoundLeast s plan t F.bound back) q F.found).0.found
+  pub start_found : {x : ℕ} → e ≡ Start x → BadStart (model_by s plan t) (watch_by s plan t) x
+  start_found q = (subst (λ (e : End). FoundLeast s plan t F.bound back (Some e)) q end_found).bad
+
+  pub step_found : {l : LastStep} → e ≡ Step l → FoundBy (graph_of s plan t) back l
+  step_found q = (subst (λ (e : End). FoundLeast s plan t F.bound back (Some e)) q end_found).0.found
 
 -- ---- the links
 pub record Last (g : Graph) (back : List ℕ) (d v : ℕ) : Type 0 where

@@ -1,13 +1,13 @@
 -- Whether an event leads from one node to another, of which some event leads there.
 use mathlib.Core.Path.{◌≡◌, refl, sym, ◌∙◌, ap, subst, subst₂}
-use mathlib.Core.Bool.{Bool, true, false, not}
+use mathlib.Core.Bool.{Bool, true, false}
 use mathlib.Core.List.{List, []}
 use mathlib.Core.Logic.{◌⊎◌, ⊎_elim}
 use Prim.Native.Nat.{ℕ, ◌+◌, ◌*◌, ◌/◌, ◌%◌, ◌≤◌, ◌<◌}
 use native.Mathlib.Nat.{eq-or-lt_of_le, mod-lt}
 use native.Mathlib.Omega.{arith}
 use native.Mathlib.Decide.{dec_lt}
-use borrow.Author.Tests.{not-true, not-false, eqb-true, eqb-false}
+use borrow.Author.Tests.{eqb-true, eqb-false}
 use lib.Dec.{T, eqb}
 use lib.ListN.{replicate, get_or, set, length}
 use lib.Seq.{get_or-set_same}
@@ -159,13 +159,13 @@ module _ {s plan : List ℕ} {t : Task} (A : Given s plan t) {u w states : ℕ} 
     pub no_event : {b : Bool} → b ≡ bit by γeChain → b ≡ true → (graph_of s plan t).Edge u e w → ⊥
     no_event p k ed = clash (sym barred_is ∙ sym p ∙ k) (edge_free_e A stands ed)
 
-    pub no_flow_lem : {b : Bool} {x' : Context} → x' ≡ context_at_index n (w / states) → b ≡ flow (ruled s plan) (event_of e) x x' → not b ≡ true → (graph_of s plan t).Edge u e w → ⊥
-    no_flow_lem {b} q' p k ed =
+    pub no_flow_lem : {b : Bool} {x' : Context} → x' ≡ context_at_index n (w / states) → b ≡ flow (ruled s plan) (event_of e) x x' → b ≡ false → (graph_of s plan t).Edge u e w → ⊥
+    no_flow_lem q' p k ed =
         clash (edge_flow A stands L.to ed)
-        (ap (λ (i : ℕ). flow (ruled s plan) (event_of e) x (context_at_index n i)) place_w ∙ ap (flow (ruled s plan) (event_of e) x) (sym q') ∙ sym p ∙ not-true b k)
+        (ap (λ (i : ℕ). flow (ruled s plan) (event_of e) x (context_at_index n i)) place_w ∙ ap (flow (ruled s plan) (event_of e) x) (sym q') ∙ sym p ∙ k)
 
-    pub no_held : {b : Bool} {o : ℕ} → OfType n o (w / states) → b ≡ held_by n plan o (w / states) → not b ≡ true → (graph_of s plan t).Edge u e w → ⊥
-    no_held {b} H p k = no_flow_lem refl (sym (flow_laws.no_flow_lem (ruled s plan) (event_of e) x (context_at_index n (w / states)) (sym (held_is A.planned.policy H) ∙ sym p ∙ not-true b k))) refl
+    pub no_held : {b : Bool} {o : ℕ} → OfType n o (w / states) → b ≡ held_by n plan o (w / states) → b ≡ false → (graph_of s plan t).Edge u e w → ⊥
+    no_held H p k = no_flow_lem refl (sym (flow_laws.no_flow_lem (ruled s plan) (event_of e) x (context_at_index n (w / states)) (sym (held_is A.planned.policy H) ∙ sym p ∙ k))) refl
 
     -- what arriving at w's place comes to: the sets there, the state after the step, and what landing there says
     module _ {into i : ℕ} (S : into ≡ sets_of n plan (context_at_index n (w / states))) (after : Stepped t.mode t.legs (u % states) by into i) (r : Arrival) (Z : Arrived t into (w / states) i r) where
@@ -184,7 +184,7 @@ module _ {s plan : List ℕ} {t : Task} (A : Given s plan t) {u w states : ℕ} 
           = subst (Lands M n W K (w / states) (W.step (u % states) e (code_at n (w / states)))) k lands in
           no_end z.ends.arrives
 
-      module _ {b c : Bool} {x' : Context} (p : b ≡ bit by γeChain) (off : b ≡ false) (q' : x' ≡ context_at_index n (w / states)) (f : c ≡ flow (ruled s plan) (event_of e) x x') (on : not c ≡ false) where
+      module _ {b c : Bool} {x' : Context} (p : b ≡ bit by γeChain) (off : b ≡ false) (q' : x' ≡ context_at_index n (w / states)) (f : c ≡ flow (ruled s plan) (event_of e) x x') (on : c ≡ true) where
         pub decided : (v : ℕ) → r ≡ Enter v → Decides (eqb v w) ((graph_of s plan t).Edge u e w)
         decided v k = go (eqb v w) refl
           where
@@ -196,7 +196,7 @@ module _ {s plan : List ℕ} {t : Task} (A : Given s plan t) {u w states : ℕ} 
                 edge_at A stands e (w / states) to_below (sym (eqb-true v w i) ∙ z.node)
                 ((bounded A).steps (u % states) e (code_at n (w / states)) z.outside)
                 L.event.holds.edge.first (edge_free A stands L.event.holds) (sym barred_is ∙ sym p ∙ off)
-                (ap (flow (ruled s plan) (event_of e) x) (sym q') ∙ sym f ∙ not-false c on) (λ j. absurd (z.outside j))
+                (ap (flow (ruled s plan) (event_of e) x) (sym q') ∙ sym f ∙ on) (λ j. absurd (z.outside j))
             go false i = λ ed. eqb-false v w i (z.node ∙ sym (only_at A stands e (w / states) w place_w ed))
 
   pub type_is : {y : Context} → y ≡ context_at_index n (w / states) → y.ty ≡ type_of t w

@@ -9,18 +9,13 @@ use crate::step::{SWEPT, least_event};
 use context::Context;
 use plan_tables::TYPES;
 use policy_image::counts::Counts;
-use search::levels::{LastStep, LeastEnd};
-use search_graph::task::{Task, states_in};
+use search::levels::{End, LastStep};
+use search_graph::task::{Query, states_in};
 
-// What became of what a search found: m is the number of steps.
+// The path slice is too short for the least number of steps: nothing is written.
 #[derive(Clone, Copy)]
-pub enum Showing {
-    // nothing was found
-    Nothing,
-    // the path slice is too short for the path, and nothing is written
-    NoRoom(u32),
-    // the path is shown
-    Path(u32),
+pub struct NoRoom {
+    pub steps: u32,
 }
 
 // The code of a node's context.
@@ -32,19 +27,12 @@ fn code_of(counts: Counts, states: u32, v: u32) -> u32
 }
 
 // Writes the path that ends with the step.
-fn write_path(
-    policy: &[u8],
-    plan: &[u32],
-    task: Task,
-    last: LastStep,
-    back: &[u32],
-    path: &mut [u32],
-)
-    requires { Given policy.now plan.now task × FoundBy (graph_of policy.now plan.now task) back.now last × ((graph_of policy.now plan.now task).k ≤ length back.now) × (2 * (last.depth + 1) + 1 ≤ length path.old) }
-    ensures { ShownPath (model_by policy.now plan.now task) task.mode (last.depth + 1) path.old path.new }
+fn write_path(query: Query, last: LastStep, back: &[u32], path: &mut [u32])
+    requires { Given query.policy.now query.plan.now query.task × FoundBy (graph_of query.policy.now query.plan.now query.task) back.now last × ((graph_of query.policy.now query.plan.now query.task).k ≤ length back.now) × (2 * (last.depth + 1) + 1 ≤ length path.old) }
+    ensures { ShownPath (model_by query.entry.policy.now query.entry.plan.now query.entry.task) query.entry.task.mode (last.depth + 1) path.old path.new }
 {
-    let counts = task.counts;
-    let states = states_in(task);
+    let counts = query.task.counts;
+    let states = states_in(query.task);
     let mut swept = [SWEPT; TYPES];
     let to = last.to;
     let mut i = last.depth as usize + 1;
@@ -61,38 +49,31 @@ fn write_path(
         let next = w;
         let at = next as usize;
         w = back[at] - 1;
-        e = least_event(policy, plan, task, &mut swept, w, next);
+        e = least_event(query, &mut swept, w, next);
     }
 }
 
-// Shows the path to the end that a search found, where there is room for it.
+// Shows the path to the end that a search found, where there is room for it, and gives its number of steps; None where
+// no end was found.
 pub fn show_found(
-    policy: &[u8],
-    plan: &[u32],
-    task: Task,
-    found: LeastEnd,
+    query: Query,
+    found: Option<End>,
     back: &[u32],
     path: &mut [u32],
-) -> Showing
-    requires { Given policy.now plan.now task × SearchFound policy.now plan.now task back.now found × ((graph_of policy.now plan.now task).k ≤ length back.now) }
-    ensures { FoundShown (model_by policy.now plan.now task) task.mode found path.old path.new result }
+) -> Result<Option<u32>, NoRoom>
+    requires { Given query.policy.now query.plan.now query.task × SearchFound query.policy.now query.plan.now query.task back.now found × ((graph_of query.policy.now query.plan.now query.task).k ≤ length back.now) }
+    ensures { FoundShown (model_by query.entry.policy.now query.entry.plan.now query.entry.task) query.entry.task.mode found path.old path.new result }
 {
-    match found {
-        LeastEnd::Nothing => Showing::Nothing,
-        LeastEnd::Start(x) => {
-            if path.len() == 0 {
-                return Showing::NoRoom(0);
-            }
-            path[0] = x;
-            Showing::Path(0)
-        }
-        LeastEnd::At(last) => {
-            let m = last.depth + 1;
-            if path.len() < 2 * (m as usize) + 1 {
-                return Showing::NoRoom(m);
-            }
-            write_path(policy, plan, task, last, back, path);
-            Showing::Path(m)
-        }
+    let Some(end) = found else {
+        return Ok(None);
+    };
+    let m = end.steps();
+    if path.len() < 2 * (m as usize) + 1 {
+        return Err(NoRoom { steps: m });
     }
+    match end {
+        End::Start(x) => path[0] = x,
+        End::Step(last) => write_path(query, last, back, path),
+    }
+    Ok(Some(m))
 }

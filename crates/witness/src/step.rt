@@ -16,7 +16,7 @@ use plan::sets::sets_at;
 use plan_tables::TYPES;
 use search_graph::arrival::{Arrival, land};
 use search_graph::monitor::step_state;
-use search_graph::task::{Task, states_in};
+use search_graph::task::{Query, states_in};
 use search_memory::keeps_of;
 use search_steps::nearest::{Asker, NONE};
 use search_steps::offers::{first_offer, next_offer};
@@ -26,91 +26,69 @@ use search_steps::targets::{is_special, is_target};
 pub const SWEPT: u64 = 18446744073709551615;
 
 // Whether the event, which the entry offers from u's type to w's, leads from node u to node w.
-fn is_step(policy: &[u8], plan: &[u32], task: Task, u: u32, e: u32, entry: usize, w: u32) -> bool
-    requires { Given policy.now plan.now task × LinkedNodes (graph_of policy.now plan.now task) u w × OfferedBetween policy.now plan.now task u e entry w }
-    ensures { Decides result ((graph_of policy.now plan.now task).Edge u e w) }
+fn is_step(query: Query, u: u32, e: u32, entry: usize, w: u32) -> bool
+    requires { Given query.policy.now query.plan.now query.task × LinkedNodes (graph_of query.policy.now query.plan.now query.task) u w × OfferedBetween query.policy.now query.plan.now query.task u e entry w }
+    ensures { Decides result ((graph_of query.entry.policy.now query.entry.plan.now query.entry.task).Edge u e w) }
 {
+    let Query { policy, plan, task } = query;
     let counts = task.counts;
     let states = states_in(task);
-    let by = plan[EVENT_SETS_START + (e as usize)];
-    if has_bit(by, EXCEPTED_EVENTS) {
-        return false;
-    }
     let x = Context::at(u / states, counts);
     let place = w / states;
     let ty = Context::at(place, counts).ty;
-    if !is_held(counts, plan, ty, place) {
-        return false;
-    }
     let special = is_special(plan, e);
-    if !is_target(policy, counts, plan, x, e, entry, special, place) {
-        return false;
-    }
-    // An arrival, by its parts: were `arrive` called from here too, the compiler would not put it inline into the search's innermost
-    // loop.
+    let by = plan[EVENT_SETS_START + (e as usize)];
     let into = sets_at(counts, plan, ty, place);
-    match land(task, into, place, step_state(task, u % states, by, into)) {
-        Arrival::Enter(v) => v == w,
-        Arrival::Dropped => false,
-        Arrival::Broken(_) => false,
-    }
+    // An arrival, by its parts: were `arrive` called from here too, the compiler would not put it inline into the
+    // search's innermost loop.
+    !has_bit(by, EXCEPTED_EVENTS)
+        && is_held(counts, plan, ty, place)
+        && is_target(policy, counts, plan, x, e, entry, special, place)
+        && match land(task, into, place, step_state(task, u % states, by, into)) {
+            Arrival::Enter(v) => v == w,
+            Arrival::Dropped | Arrival::Broken(_) => false,
+        }
 }
 
-// The least event that leads from node u to node w, of which there is one. Of what is swept, w's type is open; where it alone is, only the
-// steps to it are asked.
-fn event_between(
-    policy: &[u8],
-    plan: &[u32],
-    task: Task,
-    swept: &[u64; TYPES],
-    u: u32,
-    w: u32,
-) -> u32
-    requires { Given policy.now plan.now task × LinkedNodes (graph_of policy.now plan.now task) u w × (get_or swept.now (type_of task w) 0 ≡ 0) }
-    ensures { LeastBelow (λ e. (graph_of policy.now plan.now task).Edge u e w) event_entries result }
+// The least event that leads from node u to node w, of which there is one. Of what is swept, w's type is open; where it
+// alone is, only the steps to it are asked.
+fn event_between(query: Query, swept: &[u64; TYPES], u: u32, w: u32) -> u32
+    requires { Given query.policy.now query.plan.now query.task × LinkedNodes (graph_of query.policy.now query.plan.now query.task) u w × (get_or swept.now (type_of query.task w) 0 ≡ 0) }
+    ensures { LeastBelow (λ e. (graph_of query.entry.policy.now query.entry.plan.now query.entry.task).Edge u e w) event_entries result }
 {
+    let Query { plan, task, .. } = query;
     let counts = task.counts;
-    let mode = task.mode;
     let states = states_in(task);
     let x = Context::at(u / states, counts);
     let y = Context::at(w / states, counts);
     let a = Asker {
         state: u % states,
-        keeps: keeps_of(mode),
+        keeps: keeps_of(task.mode),
         spent: false,
     };
     let mut offer = first_offer(plan, swept, a, x.ty);
     while offer.step < NONE {
         let e = offer.step / TYPE_CODES;
-        if offer.step % TYPE_CODES == y.ty {
-            if is_step(policy, plan, task, u, e, offer.entry, w) {
-                return e;
-            }
+        if offer.step % TYPE_CODES == y.ty && is_step(query, u, e, offer.entry, w) {
+            return e;
         }
         offer = next_offer(plan, swept, a, x.ty, offer);
     }
-    1024
+    unreachable!()
 }
 
-// The least event that leads from node u to node w, of which there is one. By type swept has SWEPT, which w's type has again afterwards: it
-// is filled once for all steps of a path.
-pub fn least_event(
-    policy: &[u8],
-    plan: &[u32],
-    task: Task,
-    swept: &mut [u64; TYPES],
-    u: u32,
-    w: u32,
-) -> u32
-    requires { Given policy.now plan.now task × LinkedNodes (graph_of policy.now plan.now task) u w × (length swept.old ≡ type_entries) }
-    ensures { LeastBelow (λ e. (graph_of policy.now plan.now task).Edge u e w) event_entries result × (length swept.new ≡ type_entries) }
+// The least event that leads from node u to node w, of which there is one. By type swept has SWEPT, which w's type has
+// again afterwards: it is filled once for all steps of a path.
+pub fn least_event(query: Query, swept: &mut [u64; TYPES], u: u32, w: u32) -> u32
+    requires { Given query.policy.now query.plan.now query.task × LinkedNodes (graph_of query.policy.now query.plan.now query.task) u w × (length swept.old ≡ type_entries) }
+    ensures { LeastBelow (λ e. (graph_of query.entry.policy.now query.entry.plan.now query.entry.task).Edge u e w) event_entries result × (length swept.new ≡ type_entries) }
 {
-    let counts = task.counts;
-    let states = states_in(task);
+    let counts = query.task.counts;
+    let states = states_in(query.task);
     let y = Context::at(w / states, counts);
     let other = y.ty as usize;
     swept[other] = 0;
-    let e = event_between(policy, plan, task, swept, u, w);
+    let e = event_between(query, swept, u, w);
     swept[other] = SWEPT;
     e
 }

@@ -223,11 +223,14 @@ fn commas(text: &str) -> Vec<String> {
     parts.into_iter().filter(|part| !part.trim().is_empty()).collect()
 }
 
+/// Types of the language, which no file has to declare or use.
+const BUILT_IN: [&str; 2] = ["Option", "Result"];
+
 /// The names of declared types in a text of Rattle: those that start with a capital letter and are not those of constants.
 pub fn type_names(text: &str) -> Vec<String> {
     let words = text.split(|c: char| !c.is_alphanumeric() && c != '_');
     let is_type = |word: &&str| word.starts_with(char::is_uppercase) && (word.len() == 1 || word.contains(char::is_lowercase));
-    words.filter(is_type).map(str::to_string).collect()
+    words.filter(is_type).filter(|word| !BUILT_IN.contains(word)).map(str::to_string).collect()
 }
 
 impl Declaration {

@@ -1,10 +1,10 @@
 use Rattle.access.specs.Authorization.{χ}
 use Rattle.access.proofs.chi.Goals as goal
 
-pub returns-then-not-gamma : goal.returns-then-not-gamma
+pub returns-then-gamma : goal.returns-then-gamma
 unfolding χ
-returns-then-not-gamma c = rw (← c.gamma.ensures, c.if-not-gamma.true)
+returns-then-gamma c = rw (← c.gamma.ensures, c.if-gamma.true) c.constraints_hold.ensures
 
-pub returns : goal.returns
+pub returns-else-gamma : goal.returns-else-gamma
 unfolding χ
-returns c = rw (← c.gamma.ensures, c.if-not-gamma.false) c.constraints_hold.ensures
+returns-else-gamma c = rw (← c.gamma.ensures, c.if-gamma.false)

@@ -6,6 +6,6 @@ pub returns-then-acts : goal.returns-then-acts
 unfolding flow write_like read_like
 returns-then-acts c = rw (← c.acts.ensures, c.if-acts.true)
 
-pub returns : goal.returns
+pub returns-else-acts : goal.returns-else-acts
 unfolding flow write_like read_like
-returns c = rw (← c.acts.ensures, c.if-acts.false) c.acts-2.ensures
+returns-else-acts c = rw (← c.acts.ensures, c.if-acts.false) c.acts-else-acts.ensures

@@ -2,14 +2,14 @@
 -- promise"). For one input a promise allows one answer, with its count and number. "Only the work slices and the choice among shortest paths are
 -- open", so that two results may leave two slices behind, `after` and `last`; the calls that write an image leave one output.
 -- proofs/Theorems.antt proves it.
-use Rattle.std.specs.Prelude.{ℕ, List, ◌≡◌}
+use Rattle.std.specs.Prelude.{ℕ, List, ◌≡◌, Result}
+use Rattle.base.specs.declared.refusals.Refusal.{Refusal}
 use Rattle.base.specs.Numbers.{Numbered}
 use Rattle.context.specs.declared.Context.{Context}
 use Rattle.context.specs.declared.Event.{Event}
 use Rattle.bare_questions.specs.Bare.{AuthorizationAnswer, FlowAnswer, number_of}
 use Rattle.goal_question.specs.GoalQuestion.{GoalPromise, outcome_number}
 use Rattle.least_steps.specs.LeastSteps.{StepsPromise, steps_number}
-use Rattle.policy_writing.specs.declared.answer.Writing.{Writing}
 use Rattle.policy_writing.specs.Writing.{writing_number}
 use Rattle.join.specs.Join.{JoinPromise}
 use Rattle.canonical.specs.Canonical.{CanonicalPromise}
@@ -27,7 +27,7 @@ pub record OneResult : Type 0 where
   pub steps : (s : List ℕ) (x y : Context) (work1 work2 : ℕ) (before after last : List ℕ)
       → One steps_number (StepsPromise s x y work1 work2 before after) (StepsPromise s x y work1 work2 before last)
   pub join : (s t before after last : List ℕ) → One writing_number (JoinPromise s t before after) (JoinPromise s t before last)
-  pub join_output : (s t before after last : List ℕ) (q r : Writing) → JoinPromise s t before after q → JoinPromise s t before last r → after ≡ last
+  pub join_output : (s t before after last : List ℕ) (q r : Result ℕ Refusal) → JoinPromise s t before after q → JoinPromise s t before last r → after ≡ last
   pub canonical : (s before after last : List ℕ) → One writing_number (CanonicalPromise s before after) (CanonicalPromise s before last)
-  pub canonical_output : (s before after last : List ℕ) (q r : Writing) → CanonicalPromise s before after q → CanonicalPromise s before last r
+  pub canonical_output : (s before after last : List ℕ) (q r : Result ℕ Refusal) → CanonicalPromise s before after q → CanonicalPromise s before last r
       → after ≡ last

@@ -1,18 +1,12 @@
--- The two bare questions as one, by the relation that is asked.
-use Rattle.std.specs.Prelude.{ℕ, Bool, List}
-use Rattle.policy_image.specs.Policy.{Policy, policy_of}
+-- The two bare questions as one, by what is asked of the event's code.
+use Rattle.std.specs.Prelude.{ℕ, Bool, List, Result}
+use Rattle.base.specs.declared.refusals.Refusal.{Refusal}
+use Rattle.base.specs.Questions.{AllYes}
 use Rattle.context.specs.declared.Context.{Context}
 use Rattle.context.specs.declared.Event.{Event}
-use Rattle.access.specs.Authorization.{authorized, flow}
-use Rattle.bare_questions.specs.declared.Answer.{Answer}
-use Rattle.bare_questions.specs.declared.Relation.{Relation}
-use Rattle.bare_questions.specs.declared.Relation.TheVariants.{Authorization, Flow}
-use Rattle.bare_questions.specs.Bare.{BareAnswer}
+use Rattle.context.specs.Inner.Coding.{event_code}
+use Rattle.bare_questions.specs.Bare.{bare_questions, BareAnswer}
 
--- whether the relation holds by e from x to y
-abbrev pub related : Relation → Policy → Event → Context → Context → Bool
-related Authorization = authorized
-related Flow = flow
-
-abbrev pub RelationAnswer : Relation → List ℕ → Context → Context → Event → Answer → Type 0
-RelationAnswer a s x y e r = BareAnswer s x y e (related a (policy_of s) e x y) r
+-- the answer is that to the truth b, which is what was answered of the event's code where every question is passed
+abbrev pub AnswersBy : (ℕ → Bool → Type 0) → List ℕ → Context → Context → Event → Result Bool Refusal → Type 0
+AnswersBy says s x y e r = (b : Bool) × (AllYes (bare_questions s x y e) → says (event_code e) b) × BareAnswer s x y e b r

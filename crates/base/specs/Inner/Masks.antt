@@ -1,5 +1,5 @@
 -- What is made of masks, bit by bit.
-use Rattle.std.specs.Prelude.{ℕ, ◌≤◌, ◌<◌, ◌≡◌, true, not, ◌&&◌, ◌||◌, eqb}
+use Rattle.std.specs.Prelude.{ℕ, ◌≤◌, ◌<◌, ◌≡◌, true, not, ◌&&◌, ◌||◌, eqb, Option, Some, None}
 use Rattle.base.specs.Bits.{bit}
 
 -- r is the least bit of m
@@ -16,3 +16,13 @@ pub record With (m p r : ℕ) : Type 0 where
 pub record Without (a b r : ℕ) : Type 0 where
   pub at : (q : ℕ) → bit r q ≡ (bit a q && not (bit b q))
   pub most : r ≤ a
+
+-- p is the least bit of m, and r has the others
+pub record Taken (m p r : ℕ) : Type 0 where
+  pub least : Lowest m p
+  pub at : (q : ℕ) → bit r q ≡ (bit m q && not (eqb p q))
+
+-- what is left of the bits m once the least was given, if there was one
+abbrev pub NextBit : ℕ → Option ℕ → ℕ → Type 0
+NextBit m None r = (m ≡ 0) × (r ≡ 0)
+NextBit m (Some p) r = Taken m p r

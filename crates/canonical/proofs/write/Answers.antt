@@ -1,7 +1,12 @@
 -- The header, the rows, then the two runs: `WriteLaws` says that each part can be written, and what is there when all are.
+use Prim.Native.Nat.{ℕ}
+use mathlib.Core.List.{List}
 use mathlib.Core.Path.{◌≡◌, refl, ◌∙◌}
 use native.Mathlib.Omega.{arith}
+use lib.ListN.{get_or}
+use Rattle.policy_image.specs.declared.kinds.Kind.TheVariants.{Constraint, Node}
 use Rattle.policy_image.specs.Policy.{policy_of}
+use Rattle.policy_runs.specs.declared.Run.{Run}
 use Rattle.policy_facts.specs.Canonical.{canonical_kind}
 use Rattle.policy_lists.proofs.PlaceLaws.{ending}
 use Rattle.policy_runs.proofs.ImageWriteLaws.{EndTable, few_upto, counts_writable, heads_writable, header_put, all_put}
@@ -47,13 +52,20 @@ put_run-behind-requires c =
     kept_fits G 7 (omega arith) (omega arith) _ refl (E 8 (omega arith)) (facts_are G) (E 8 (omega arith)) _ _
     (omega (arith, c.put_header.auto.out, c.put_rows.auto.output)) c.count_nodes-nodes.ensures
 
+-- the two runs, by the records before them and the ends of all kinds
+abbrev constraints : ℕ → List ℕ → Run
+constraints before ends = record { kind = Constraint; before = before; last = get_or ends 8 0; shift = get_or ends 8 0 }
+
+abbrev expressions : ℕ → List ℕ → Run
+expressions before ends = record { kind = Node; before = before; last = get_or ends 9 0; shift = get_or ends 8 0 }
+
 -- .. and where the constraints are
 module _ (K : After-put_run-behind) where
   constraints_end : EndTable (canonical_kind (policy_of K.args.policy.now)) K.ends_of-ends.result
       → K.put_run-behind.result ≡ ending (canonical_kind (policy_of K.args.policy.now)) 8
   constraints_end E =
       let G = K.requires in
-      K.put_run-behind.ensures.0 ∙ behind G 7 (omega arith) (omega arith) _ refl (E 8 (omega arith)) (facts_are G) (E 8 (omega arith))
+      K.put_run-behind.ensures.0 ∙ behind G 7 (omega arith) (omega arith) (constraints K.args.facts K.ends_of-ends.result) refl (E 8 (omega arith)) (facts_are G) (E 8 (omega arith))
 
 pub put_run-requires : goal.put_run-requires
 put_run-requires c =
@@ -69,6 +81,6 @@ returns c =
     all_put _ (c.put_run.auto.output ∙ c.put_run-behind.auto.output ∙ c.put_rows.auto.output ∙ c.put_header.auto.out) G.room
     (header_put (writable_lists G) c.ends_of-ends.result E c.heads_of-heads.result c.heads_of-heads.ensures (c.with_records.ensures ∙ counts_are G c.ends_of-ends.result E)
     c.put_header.ensures)
-    (kept_put G 8 (omega arith) (omega arith) _ refl (E 9 (omega arith)) B (E 8 (omega arith))
-    (kept_put G 7 (omega arith) (omega arith) _ refl (E 8 (omega arith)) (facts_are G) (E 8 (omega arith))
+    (kept_put G 8 (omega arith) (omega arith) (expressions c.put_run-behind.result c.ends_of-ends.result) refl (E 9 (omega arith)) B (E 8 (omega arith))
+    (kept_put G 7 (omega arith) (omega arith) (constraints c.args.facts c.ends_of-ends.result) refl (E 8 (omega arith)) (facts_are G) (E 8 (omega arith))
     (rows_put _ G.table c.ends_of-ends.result E c.put_rows.ensures) c.put_run-behind.ensures.1) c.put_run.ensures.1)

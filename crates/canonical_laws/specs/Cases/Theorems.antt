@@ -1,6 +1,7 @@
 -- "A canonical policy image" (paper 02, e): its claims, of all policies whose canonical image is written. What stands in quotes is the paper's.
 -- proofs/Theorems.antt proves them.
-use Rattle.std.specs.Prelude.{ℕ, ◌≤◌, ◌<◌, ◌≡◌, List, ◌↔◌, length}
+use Rattle.std.specs.Prelude.{ℕ, ◌≤◌, ◌<◌, ◌≡◌, Bool, List, ◌↔◌, length, Option, Result}
+use Rattle.base.specs.declared.refusals.Refusal.{Refusal}
 use Rattle.base.specs.Bytes.{byte_at}
 use Rattle.base.specs.Questions.{AllYes}
 use Rattle.policy_image.specs.Policy.{Policy, policy_of}
@@ -13,11 +14,10 @@ use Rattle.context.specs.declared.Event.{Event}
 use Rattle.relations.specs.Relations.{Γ, write_like, read_like, allowed, α, ρ, μ, role_change}
 use Rattle.constraints.specs.Constraints.{constraints_hold}
 use Rattle.access.specs.Authorization.{χ, role_rule, authorized, flow}
-use Rattle.bare_questions.specs.declared.Answer.{Answer}
 use Rattle.bare_questions.specs.Bare.{AuthorizationAnswer, FlowAnswer}
-use Rattle.least_steps.specs.declared.Steps.{Steps}
-use Rattle.least_steps.specs.LeastSteps.{StepsPromise}
+use Rattle.witness.specs.declared.unanswered.Unanswered.{Unanswered}
 use Rattle.goal_question.specs.declared.goal.Outcome.{Outcome}
+use Rattle.least_steps.specs.LeastSteps.{StepsPromise}
 use Rattle.goal_question.specs.GoalQuestion.{GoalPromise}
 
 -- "These claims are for images that are written": s are bytes, and for some length of the output each question of the call is answered yes, 15
@@ -56,11 +56,11 @@ pub record SameRelations (p q : Policy) : Type 0 where
 -- the answers that are promised of one image are those of the other, whatever else is asked with or lent: of both bare questions, of least steps
 -- and of the goal question, refusals among them
 pub record SameAnswers (s t : List ℕ) : Type 0 where
-  pub authorization : (x y : Context) (e : Event) (r : Answer) → AuthorizationAnswer s x y e r ↔ AuthorizationAnswer t x y e r
-  pub flows : (x y : Context) (e : Event) (r : Answer) → FlowAnswer s x y e r ↔ FlowAnswer t x y e r
-  pub steps : (x y : Context) (work1 work2 : ℕ) (before after : List ℕ) (r : Steps)
+  pub authorization : (x y : Context) (e : Event) (r : Result Bool Refusal) → AuthorizationAnswer s x y e r ↔ AuthorizationAnswer t x y e r
+  pub flows : (x y : Context) (e : Event) (r : Result Bool Refusal) → FlowAnswer s x y e r ↔ FlowAnswer t x y e r
+  pub steps : (x y : Context) (work1 work2 : ℕ) (before after : List ℕ) (r : Result (Option ℕ) Unanswered)
       → StepsPromise s x y work1 work2 before after r ↔ StepsPromise t x y work1 work2 before after r
-  pub goal : (g : List ℕ) (work1 work2 : ℕ) (before after : List ℕ) (r : Outcome)
+  pub goal : (g : List ℕ) (work1 work2 : ℕ) (before after : List ℕ) (r : Result Outcome Unanswered)
       → GoalPromise s g work1 work2 before after r ↔ GoalPromise t g work1 work2 before after r
 
 pub record CanonicalClaims : Type 0 where

@@ -1,4 +1,4 @@
-use Prim.Native.Nat.{ℕ, ◌≤◌, ◌<◌, ◌-◌}
+use Prim.Native.Nat.{ℕ, ◌≤◌, ◌<◌}
 use mathlib.Core.Path.{◌≡◌}
 use lib.ListN.{length, get_or}
 use Rattle.chains.specs.Inner.Links.{head_in}
@@ -6,7 +6,4 @@ use Rattle.chains.proofs.heads.Given as goal
 
 abbrev pub invariant-loop-h : goal.invariant-loop-h
 invariant-loop-h l =
-    (l.shape.first ≤ l.h) × (length l.c ≡ 16) × ((j : ℕ) → l.shape.first ≤ j → j < l.h → get_or l.c j 0 ≡ head_in l.image l.shape j)
-
-abbrev pub decreases-loop-h : goal.decreases-loop-h
-decreases-loop-h l = l.shape.end - l.h
+    (length l.c ≡ 16) × ((j : ℕ) → l.shape.first ≤ j → j < l.h → get_or l.c j 0 ≡ head_in l.image l.shape j)

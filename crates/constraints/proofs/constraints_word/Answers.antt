@@ -1,84 +1,58 @@
 use Prim.Native.Nat.{ℕ}
 use mathlib.Core.Path.{◌≡◌, sym, subst}
-use native.Mathlib.Omega.{arith}
 use lib.Bits.{bit_and}
-use Rattle.base.proofs.ChainLaws.{Visit, visit_start, visit_step, visit_map, visit_less}
+use Rattle.policy_image.specs.declared.kinds.Kind.TheVariants.{Constraint}
 use Rattle.policy_image.specs.declared.records.Record.{Record}
-use Rattle.policy_image.specs.Layout.{root_of}
-use Rattle.policy_image.specs.Policy.{Policy, policy_of, policy_links}
-use Rattle.policy_image.proofs.FieldLaws.{same_fields}
-use Rattle.policy_links.proofs.KindLaws.{OfKind, visit_kind, visit_all}
+use Rattle.policy_image.specs.Layout.{root_of, record_of}
+use Rattle.policy_image.specs.Policy.{policy_of}
+use Rattle.policy_links.proofs.KindLaws.{OfKind}
+use Rattle.policy_links.proofs.Walking.{given_is, along_map, along_start, along_step, along_kind, along_end}
 use Rattle.policy_expressions.specs.Nodes.{Uses, IsNode}
 use Rattle.policy_expressions.proofs.UseLaws.{use_root}
-use Rattle.policy_check.specs.Inner.Sound.{Sound}
 use Rattle.constraints.proofs.NodeWordLaws.{Upheld, lost_begin, upheld_less, upheld_here, lost_more, all_hold_lem}
-use Rattle.constraints.proofs.constraints_word.Goals.{After-record_at-r}
+use Rattle.constraints.proofs.constraints_word.Goals.{In-Some}
 use Rattle.constraints.proofs.constraints_word.Goals as goal
 
--- what is known where a record of the chain has been read
-module _ (K : After-record_at-r) where
-  abbrev p : Policy
-  p = policy_of K.args.policy.now
-
-  abbrev S : Sound K.args.policy.now
-  S = K.requires.0
-
+-- what is known where a constraint has been read
+module _ (K : In-Some) where
   abbrev i : ℕ
-  i = K.loop-i.i
+  i = K.loop-r.r-iterator.next
 
-  abbrev r : Record
-  r = K.record_at-r.result
+  same : K.in-Some.r ≡ record_of K.args.policy.now i
+  same = given_is K.args.policy.now K.loop-r.invariant.0.image K.in-Some.ensures.steps
 
-  abbrev Q : ℕ → Type 0
-  Q = Upheld p K.args.e K.args.leaves.now K.loop-i.all
+  of : OfKind (policy_of K.args.policy.now) 8 i
+  of = along_kind K.args.policy.now K.requires.0.links Constraint _ K.loop-r.invariant.0 K.in-Some.ensures.steps K.requires.0.chains
 
-  same : r ≡ p.rec i
-  same = K.record_at-r.ensures.same
-
-  of : OfKind p 8 i
-  of = visit_kind p S.links S.chains 8 (omega arith) (omega arith) Q i K.loop-i-test.true K.loop-i.invariant.0
-
-  root : IsNode p (root_of r)
+  root : IsNode (policy_of K.args.policy.now) (root_of K.in-Some.r)
   root =
-      let u : Uses p i 0 (root_of (p.rec i)) = record { low = of.low; high = of.high; at = use_root (p.rec i) of.kind } in
-      subst (λ (z : Record). IsNode p (root_of z)) (sym same) (S.nodes.well i 0 (root_of (p.rec i)) u).node
+      let n = root_of (record_of K.args.policy.now i) in
+      let u : Uses (policy_of K.args.policy.now) i 0 n = record { low = of.low; high = of.high; at = use_root (record_of K.args.policy.now i) of.kind } in
+      subst (λ (z : Record). IsNode (policy_of K.args.policy.now) (root_of z)) (sym same) (K.requires.0.nodes.well i 0 n u).node
 
-pub loop-i-init : goal.loop-i-init
-loop-i-init c =
-    let L = c.requires.0.links in
-    (visit_start (policy_links (policy_of c.args.policy.now)) 8 (L.heads 8 (omega arith) (omega arith)) L.nexts _ _ (omega arith), lost_begin _ _ _)
+pub loop-r-init : goal.loop-r-init
+loop-r-init c = (
+  along_start c.args.policy.now c.requires.0.links Constraint _
+      (rw c.into_iter-r-iterator.ensures.into_iter_gives c.records_of-r-items.ensures),
+  lost_begin _ _ _,
+)
 
-pub record_at-r-requires : goal.record_at-r-requires
-record_at-r-requires c =
-    let m = c.loop-i.invariant.0.most in (c.requires.0.exact, omega arith, omega arith)
+pub constraint_word-all-requires : goal.constraint_word-all-requires
+constraint_word-all-requires c =
+    record { sound = (c.requires.0, root (goal.at.constraint_word-all-requires c).In-Some); bytes = (c.in-Some.ensures.steps.read.bytes, c.requires.1) }
 
-pub loop-i-smaller : goal.loop-i-smaller
-loop-i-smaller c =
-    let K = (goal.at.loop-i-smaller c).After-record_at-r in
-    visit_less (policy_links (p K)) 8 ((S K).links.heads 8 (omega arith) (omega arith)) (S K).links.nexts (Q K) (i K) c.loop-i-test.true c.loop-i.invariant.0
-    (r K).next (same_fields (same K)).next
-
-pub loop-i-preserved : goal.loop-i-preserved
-loop-i-preserved c =
-    let K = (goal.at.loop-i-preserved c).After-record_at-r in
-    let l = c.loop-i in
+pub loop-r-preserved : goal.loop-r-preserved
+loop-r-preserved c =
+    let K = (goal.at.loop-r-preserved c).In-Some in
+    let all = c.loop-r.all in
     let w = c.constraint_word-all.result in
-    let R : ℕ → Type 0 = Upheld (p K) c.args.e c.args.leaves.now (bit_and l.all w) in (
-      visit_step (policy_links (p K)) 8 ((S K).links.heads 8 (omega arith) (omega arith)) (S K).links.nexts R (i K) c.loop-i-test.true
-          (visit_map (policy_links (p K)) 8 (i K) (Q K) R (upheld_less l.all w) l.invariant.0) _ (same_fields (same K)).next (upheld_here l.all w (same K) c.constraint_word-all.ensures),
-      lost_more l.all w (same K) c.constraint_word-all.ensures (of K) l.invariant.1,
+    let said = c.constraint_word-all.ensures in (
+      along_step c.args.policy.now c.requires.0.links Constraint (Upheld _ c.args.e c.args.leaves.now (bit_and all w))
+          (along_map c.args.policy.now Constraint _ _ (upheld_less all w) c.loop-r.invariant.0) c.in-Some.ensures.steps (upheld_here all w (same K) said),
+      lost_more all w (same K) said (of K) c.loop-r.invariant.1,
     )
 
 pub returns : goal.returns
 returns c =
-    let S = c.requires.0 in
-    let p = policy_of c.args.policy.now in
-    let l = c.loop-i in
-    let Q : ℕ → Type 0 = Upheld p c.args.e c.args.leaves.now l.all in
-    let v : Visit (policy_links p) 8 Q 0 = subst (λ (j : ℕ). Visit (policy_links p) 8 Q j) c.loop-i-test.false l.invariant.0 in
-    all_hold_lem (visit_all p S.links S.chains 8 (omega arith) (omega arith) Q v) l.invariant.1
-
-pub constraint_word-all-requires : goal.constraint_word-all-requires
-constraint_word-all-requires c =
-    let K = (goal.at.constraint_word-all-requires c).After-record_at-r in
-    record { sound = (S K, root K); bytes = (c.record_at-r.ensures.bytes, c.requires.1) }
+    all_hold_lem (along_end c.args.policy.now c.requires.0.links Constraint _ c.requires.0.chains c.loop-r.invariant.0 c.in-None.ensures.steps)
+    c.loop-r.invariant.1

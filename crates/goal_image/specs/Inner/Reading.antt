@@ -1,5 +1,5 @@
 -- What the functions that read a goal hand on to their callers.
-use Rattle.std.specs.Prelude.{ℕ, ◌≤◌, ◌<◌, List, ◌≡◌, true}
+use Rattle.std.specs.Prelude.{ℕ, ◌≤◌, ◌<◌, List, ◌≡◌, true, Option, None, Some}
 use Rattle.policy_image.specs.declared.counts.Counts.{Counts}
 use Rattle.goal_image.specs.declared.check.Legs.{Legs}
 use Rattle.goal_image.specs.Layout.{GoalExact, legs_of, flags_of}
@@ -18,12 +18,17 @@ pub record Opened (g : List ℕ) (l : Legs) : Type 0 where
   pub count : l.count ≡ legs_of g
   pub repeated : l.repeated ≡ flags_of g
 
--- r is the first chain from h on whose cursor stands at record i, the number of chains where there is none
-pub record First (cursor : ℕ → ℕ) (h i r : ℕ) : Type 0 where
-  pub low : h ≤ r
-  pub high : r ≤ chain_count
-  pub at : r < chain_count → cursor r ≡ i
-  pub none : (k : ℕ) → h ≤ k → k < r → cursor k ≡ i → ⊥
+-- k is the first chain from h on whose cursor stands at record i
+pub record IsFirst (cursor : ℕ → ℕ) (h i k : ℕ) : Type 0 where
+  pub low : h ≤ k
+  pub high : k < chain_count
+  pub at : cursor k ≡ i
+  pub none : (j : ℕ) → h ≤ j → j < k → cursor j ≡ i → ⊥
+
+-- the first chain from h on whose cursor stands at record i, or none where no such cursor does
+abbrev pub First : (ℕ → ℕ) → ℕ → ℕ → Option ℕ → Type 0
+First cursor h i None = (j : ℕ) → h ≤ j → j < chain_count → cursor j ≡ i → ⊥
+First cursor h i (Some k) = IsFirst cursor h i k
 
 -- record i, read as one of chain h, keeps the rules of question 10
 pub record RecordFits (n : Counts) (g : Goal) (h i : ℕ) : Type 0 where

@@ -1,4 +1,4 @@
-use Prim.Native.Nat.{ℕ, ◌-◌, ◌≤◌}
+use Prim.Native.Nat.{ℕ}
 use mathlib.Core.Path.{◌≡◌}
 use mathlib.Core.List.{List}
 use lib.ListN.{length}
@@ -11,12 +11,7 @@ use Rattle.join.proofs.write.Given as goal
 abbrev pub ends_in : List ℕ → List ℕ → ℕ → ℕ
 ends_in maker board k = ending (joined_kind (policy_of maker) (policy_of board)) k
 
-abbrev pub invariant-loop-k : goal.invariant-loop-k
-invariant-loop-k l =
-    (1 ≤ l.k)
-    × (l.k ≤ 10)
-    × (length l.output ≡ length l.initial.output)
-    × RecordsTo (joined (policy_of l.maker) (policy_of l.board)) (ends_in l.maker l.board (l.k - 1)) l.initial.output l.output
-
-abbrev pub decreases-loop-k : goal.decreases-loop-k
-decreases-loop-k l = 10 - l.k
+abbrev pub invariant-loop-kind : goal.invariant-loop-kind
+invariant-loop-kind l =
+    (length l.output ≡ length l.initial.output)
+    × RecordsTo (joined (policy_of l.maker) (policy_of l.board)) (ends_in l.maker l.board l.kind-index) l.initial.output l.output

@@ -1,11 +1,17 @@
+use Prim.Native.Nat.{ℕ}
+use mathlib.Core.Path.{◌≡◌, subst}
 use native.Mathlib.Omega.{arith}
-use lib.ListN.{length-take}
+use lib.ListN.{length, length-take}
+use Rattle.std.specs.Prelude.{Option, Result}
+use Rattle.std.proofs.lemmas.Result.{err_from_is_err_and}
 use Rattle.plan.proofs.ContextLaws.{plan_counts}
 use Rattle.plan.proofs.PlanLaws.{prepared, all_ruled}
 use Rattle.search.specs.Inner.Found.{unbounded}
+use Rattle.witness.specs.declared.path.NoRoom.{NoRoom}
+use Rattle.least_steps.specs.LeastSteps.{StepsPromise}
 use Rattle.least_steps.proofs.AskedLaws.{passed_ready, passed_range, passed_room}
-use Rattle.least_steps.proofs.AnswerLaws.{one_state, ends_over, any_given, promised}
-use Rattle.least_steps.proofs.answer.Goals.{After-put_rules}
+use Rattle.least_steps.proofs.AnswerLaws.{steps_of, one_state, ends_over, any_given, promised}
+use Rattle.least_steps.proofs.answer.Goals.{After-show_found}
 use Rattle.least_steps.proofs.answer.Goals as goal
 
 pub make_plan-requires : goal.make_plan-requires
@@ -25,10 +31,23 @@ put_rules-requires c =
 pub slice_bounds-back-end : goal.slice_bounds-back-end
 slice_bounds-back-end c = omega (arith, c.count-nodes.ensures, (passed_room c.requires).second)
 
+-- what is shown, in the words of the promise
+module _ (n : After-show_found) where
+  abbrev Kept : Result (Option ℕ) NoRoom → Type 0
+  Kept r = StepsPromise n.args.policy.now n.args.x n.args.y (length n.args.work1.now) (length n.args.work2.now) n.args.path.now n.show_found.new.path (steps_of r)
+
+  kept : (r : Result (Option ℕ) NoRoom) → n.show_found.result ≡ r → Kept r
+  kept r q =
+      subst Kept q
+      (promised n.requires n.put_rules.ensures.planned (ends_over n.requires n.put_rules.ensures n.put_ends.ensures.ends) (all_ruled n.put_rules.ensures) _ n.search-found.result.found n.search-found.ensures.0 _ _ n.show_found.result n.show_found.ensures)
+
+pub returns-in_err-shown : goal.returns-in_err-shown
+returns-in_err-shown c =
+    let p = err_from_is_err_and c.from_residual.result c.from_residual.ensures.1 in
+    rw (p.1, p.2) (kept (goal.at.returns-in_err-shown c).After-show_found _ c.in_err-shown.was)
+
 pub returns : goal.returns
-returns c =
-    rw c.steps_of.ensures
-    (promised c.requires c.put_rules.ensures.planned (ends_over c.requires c.put_rules.ensures c.put_ends.ensures.ends) (all_ruled c.put_rules.ensures) _ c.search-found.result.found c.search-found.ensures.0 _ _ c.show_found.result c.show_found.ensures)
+returns c = kept (goal.at.returns c).After-show_found _ c.in_ok-shown.was
 
 pub show_found-requires : goal.show_found-requires
 show_found-requires c =

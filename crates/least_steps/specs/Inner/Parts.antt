@@ -6,10 +6,6 @@ use Rattle.policy_image.specs.Layout.{counts_of}
 use Rattle.context.specs.declared.Context.{Context}
 use Rattle.context.specs.Inner.Places.{context_count}
 use Rattle.goal_image.specs.declared.check.Legs.{Legs}
-use Rattle.witness.specs.declared.path.Showing.{Showing}
-use Rattle.witness.specs.declared.path.Showing.TheVariants as showing
-use Rattle.least_steps.specs.declared.Steps.{Steps}
-use Rattle.least_steps.specs.declared.Steps.TheVariants as steps
 use Rattle.least_steps.specs.LeastSteps.{steps_questions}
 
 -- the legs of a search from one context to another: one, from σ0 to σ1
@@ -25,9 +21,3 @@ pub record EntryForEach (n : Counts) (work1 work2 : ℕ) : Type 0 where
 pub record StepsPassed (s : List ℕ) (x y : Context) (n : Counts) (work1 work2 : ℕ) : Type 0 where
   pub questions : AllYes (steps_questions s x y work1 work2)
   pub counts : n ≡ counts_of s
-
--- what became of what a search found, as the answer
-abbrev pub steps_of : Showing → Steps
-steps_of showing.Nothing = steps.None
-steps_of (showing.NoRoom m) = steps.NoRoom m
-steps_of (showing.Path m) = steps.Shown m

@@ -1,10 +1,11 @@
-use mathlib.Core.Path.{refl}
+use native.Mathlib.Omega.{arith}
+use Rattle.policy_image.specs.declared.kinds.Kind.TheVariants.{Flow}
 use Rattle.plan_tables.proofs.MeaningLaws.{flow_means}
 use Rattle.plan_tables.proofs.SoundLaws.{gathers}
 use Rattle.plan_tables.proofs.flow_masks.Goals as goal
 
 pub gather-requires : goal.gather-requires
-gather-requires c = let S = c.requires in gathers _ S 3 31 32 refl (λ op. S.range.classes.high)
+gather-requires c = let S = c.requires in gathers _ S Flow 31 _ (omega arith) (λ op. S.range.classes.high)
 
 pub returns : goal.returns
 returns c = flow_means _ _ 32 _ c.gather.ensures

@@ -1,31 +1,17 @@
-use Prim.Native.Nat.{ℕ}
 use mathlib.Core.Bool.{Bool, ◌||◌}
-use mathlib.Core.Path.{ap, ◌∙◌}
-use native.Mathlib.Omega.{arith}
+use mathlib.Core.Path.{◌≡◌, ap, ◌∙◌}
+use Prim.Native.Nat.{ℕ}
 use lib.Dec.{eqb}
-use lib.ListN.{length-set}
-use lib.Seq.{get_or-set_same, get_or-set_other}
-use borrow.Author.Count.{below_more}
 use borrow.Author.Rules.{rules}
 use Rattle.base.specs.Bits.{bit}
+use Rattle.base.specs.Inner.Masks.{With}
 use Rattle.base.proofs.BitLaws.{bit_zero}
+use Rattle.plan_tables.proofs.FromFn.{made_at}
 use Rattle.plan_tables.proofs.own_roles.Goals as goal
 
-pub loop-role-init : goal.loop-role-init
-loop-role-init c = (omega arith, search rules, λ j h. absurd (omega arith))
-
-pub loop-role-preserved : goal.loop-role-preserved
-loop-role-preserved c =
-    let l = c.loop-role in
-    let new = c.with_bit.result in (
-      omega arith,
-      simp length-set (omega arith),
-      below_more _ _
-          (λ j h q. ap (λ (v : ℕ). bit v q) (get_or-set_other l.roles l.role j new 0 (omega arith)) ∙ l.invariant.2 j h q)
-          (λ q. ap (λ (v : ℕ). bit v q) (get_or-set_same l.roles l.role new 0 (omega arith))
-          ∙ c.with_bit.ensures.at q
-          ∙ ap (λ (b : Bool). b || eqb l.role q) (bit_zero q)),
-    )
-
 pub returns : goal.returns
-returns c = record { at = λ r1 r2 h. c.loop-role.invariant.2 r1 (omega arith) r2 }
+returns c =
+    let h = made_at _ _ (λ i y. (q : ℕ) → bit y q ≡ eqb i q) 0 (λ i y q k.
+    let w : With 0 i y = search rules in
+    (search rules, λ r. w.at r ∙ ap (λ (b : Bool). b || eqb i r) (bit_zero r))) _ _ c.from_fn.ensures.items in
+    record { at = λ r1 r2 l. h r1 l r2 }

@@ -1,15 +1,11 @@
 use native.Mathlib.Omega.{arith}
-use borrow.Author.Tests.{lt-ltb}
-use lib.ListN.{length}
+use Rattle.policy_image.specs.declared.kinds.Kind.TheVariants.{RoleType}
 use Rattle.plan_tables.proofs.MeaningLaws.{roles_mean}
 use Rattle.plan_tables.proofs.SoundLaws.{gathers}
 use Rattle.plan_tables.proofs.role_table.Goals as goal
 
 pub gather-requires : goal.gather-requires
-gather-requires c =
-    let S = c.requires in
-    let n = length c.object_roles-roles.result in
-    gathers _ S 5 255 n (lt-ltb 255 n (omega arith)) (λ op. S.range.types.high)
+gather-requires c = let S = c.requires in gathers _ S RoleType 255 _ (omega arith) (λ op. S.range.types.high)
 
 pub returns : goal.returns
 returns c =

@@ -1,8 +1,9 @@
-use Prim.Native.Nat.{ℕ}
+use Prim.Native.Nat.{ℕ, ◌+◌, ◌≤◌, ◌<◌}
 use mathlib.Core.Path.{◌≡◌, sym, ap, ◌∙◌, transport}
+use mathlib.Core.Bool.{true}
 use native.Mathlib.Omega.{arith}
 use Rattle.base.proofs.Decide.{yes_of, no_of}
-use Rattle.base.proofs.Numbers.{upto_none, upto_more}
+use Rattle.base.proofs.Numbers.{upto_more}
 use Rattle.policy_image.specs.declared.counts.Counts.{Counts}
 use Rattle.policy_image.specs.declared.records.Record.{Record}
 use Rattle.policy_image.specs.Policy.{Policy, policy_of}
@@ -21,31 +22,24 @@ module _ (K : After-record_in_range) where
   abbrev p : Policy
   p = policy_of K.args.image.now
 
-  abbrev i : ℕ
-  i = K.loop-i.i
-
-  said : WithinLimits K.kind_limits.result K.record_at-r.result ≡ Fits p.counts (p.rec i)
+  said : WithinLimits K.kind_limits.result K.record_at-r.result ≡ Fits p.counts (p.rec K.loop-i.i)
   said =
       fits_of p K.args.counts _ _ _
       K.requires.same K.kind_limits.ensures K.record_at-r.ensures.same
 
-pub loop-i-init : goal.loop-i-init
-loop-i-init c = (omega arith, omega arith, omega arith, upto_none _)
+  more : K.record_in_range.result ≡ true → (j : ℕ) → 1 ≤ j → j < K.loop-i.i + 1 → Fits p.counts (p.rec j)
+  more e = upto_more (λ j. Fits p.counts (p.rec j)) _ K.loop-i.invariant (transport said (yes_of _ K.record_in_range.ensures e))
 
 pub returns-then-not-record_in_range : goal.returns-then-not-record_in_range
 returns-then-not-record_in_range c =
     let k = c.record_in_range in
-    λ h. no_of k.result k.ensures c.if-not-record_in_range.true (transport (sym (said (goal.at.returns-then-not-record_in_range c).After-record_in_range)) (h.each (i (goal.at.returns-then-not-record_in_range c).After-record_in_range) (omega arith) (omega arith)))
+    λ h. no_of k.result k.ensures c.if-not-record_in_range.true
+    (transport (sym (said (goal.at.returns-then-not-record_in_range c).After-record_in_range)) (h.each c.loop-i.i (omega arith) (omega arith)))
 
 pub loop-i-preserved : goal.loop-i-preserved
-loop-i-preserved c =
-    let k = c.record_in_range in (
-      omega arith,
-      omega arith,
-      omega arith,
-      upto_more (λ j. Fits (p (goal.at.loop-i-preserved c).After-record_in_range).counts ((p (goal.at.loop-i-preserved c).After-record_in_range).rec j)) (i (goal.at.loop-i-preserved c).After-record_in_range) c.loop-i.invariant.3
-          (transport (said (goal.at.loop-i-preserved c).After-record_in_range) (yes_of k.result k.ensures c.if-not-record_in_range.false)),
-    )
+loop-i-preserved c = more (goal.at.loop-i-preserved c).After-record_in_range c.if-not-record_in_range.false
 
-pub returns : goal.returns
-returns c = record { each = λ i a b. c.loop-i.invariant.3 i a (omega arith) }
+pub returns-else-not-record_in_range : goal.returns-else-not-record_in_range
+returns-else-not-record_in_range c =
+    let all = more (goal.at.returns-else-not-record_in_range c).After-record_in_range c.if-not-record_in_range.false in
+    record { each = λ i a b. all i a (omega arith) }

@@ -1,13 +1,7 @@
-use Prim.Native.Nat.{◌-◌, ◌≤◌}
-use mathlib.Core.Path.{◌≡◌}
-use Rattle.policy_image.specs.Layout.{record_count}
+use Prim.Native.Nat.{◌+◌, ◌-◌, ◌≤◌}
 use Rattle.policy_image.specs.Policy.{policy_of}
 use Rattle.policy_runs.proofs.CountingLaws.{CountedTo}
 use Rattle.policy_runs.proofs.count_kinds.Given as goal
 
-abbrev pub invariant-loop-done : goal.invariant-loop-done
-invariant-loop-done l =
-    (l.done ≤ l.records) × (l.records ≡ record_count l.policy) × CountedTo (policy_of l.policy).rec l.done l.table
-
-abbrev pub decreases-loop-done : goal.decreases-loop-done
-decreases-loop-done l = l.records - l.done
+abbrev pub invariant-loop-k : goal.invariant-loop-k
+invariant-loop-k l = (l.k ≤ l.records + 1) × CountedTo (policy_of l.policy).rec (l.k - 1) l.table

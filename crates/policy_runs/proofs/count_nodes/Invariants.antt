@@ -1,12 +1,7 @@
-use Prim.Native.Nat.{◌-◌, ◌≤◌}
-use mathlib.Core.Path.{◌≡◌}
-use Rattle.policy_image.specs.Layout.{record_count}
+use Prim.Native.Nat.{◌+◌, ◌-◌, ◌≤◌}
 use Rattle.policy_image.specs.Policy.{policy_of}
 use Rattle.policy_runs.proofs.CountingLaws.{NumberedTo}
 use Rattle.policy_runs.proofs.count_nodes.Given as goal
 
-abbrev pub invariant-loop-done : goal.invariant-loop-done
-invariant-loop-done l = (l.done ≤ l.records) × (l.records ≡ record_count l.policy) × NumberedTo (policy_of l.policy) l.done l.nodes l.table
-
-abbrev pub decreases-loop-done : goal.decreases-loop-done
-decreases-loop-done l = l.records - l.done
+abbrev pub invariant-loop-k : goal.invariant-loop-k
+invariant-loop-k l = (l.k ≤ l.records + 1) × NumberedTo (policy_of l.policy) (l.k - 1) l.nodes l.table

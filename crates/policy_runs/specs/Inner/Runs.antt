@@ -1,6 +1,6 @@
 -- A run: the records of one kind of one policy, where they stand in the result, one behind the other.
 use Rattle.std.specs.Prelude.{ℕ, zero, suc, ◌+◌, ◌≤◌, ◌<◌, ◌≡◌, true, cond, List, [], ◌++◌, eqb, length, get_or}
-use Rattle.base.specs.Ranges.{Within}
+use Rattle.policy_image.specs.Inner.Kinds.{kind_number}
 use Rattle.policy_image.specs.declared.records.Record.{Record}
 use Rattle.policy_image.specs.Layout.{PolicyExact, root_of, left_of, right_of}
 use Rattle.policy_image.specs.Policy.{Policy, policy_of}
@@ -31,7 +31,7 @@ NodeTable o t = (n : ℕ) → n ≤ o.size → get_or t n 0 ≡ nodes_upto o n
 -- ---- the records of a run
 -- the place in the result of record n + 1 of the policy, where it is of the run's kind
 abbrev pub run_place : Policy → Run → ℕ → ℕ
-run_place o run n = suc (run.before + many_upto o run.kind n)
+run_place o run n = suc (run.before + many_upto o (kind_number run.kind) n)
 
 -- .. and what it is there
 abbrev pub run_record : Policy → Run → ℕ → Record
@@ -40,7 +40,7 @@ run_record o run n = with_next (next_upto run.last (run_place o run n)) (renumbe
 -- the bytes of those of the first n records that are of the run's kind
 abbrev pub run_bytes : Policy → Run → ℕ → List ℕ
 run_bytes o run zero = []
-run_bytes o run (suc n) = run_bytes o run n ++ cond (eqb (o.rec (suc n)).kind run.kind) (record_bytes (run_record o run n)) []
+run_bytes o run (suc n) = run_bytes o run n ++ cond (eqb (o.rec (suc n)).kind (kind_number run.kind)) (record_bytes (run_record o run n)) []
 
 -- the run of the image s can be written into so many bytes, by its table of nodes t
 pub record RunFits (s t : List ℕ) (run : Run) (output : ℕ) : Type 0 where
@@ -48,12 +48,11 @@ pub record RunFits (s t : List ℕ) (run : Run) (output : ℕ) : Type 0 where
   pub links : LinksRise (policy_of s)
   pub chains : ChainsByKind (policy_of s)
   pub nodes : NodesInOrder (policy_of s)
-  pub kind : Within 1 9 run.kind
   pub table : NodeTable (policy_of s) t
-  pub most : run.before + length (kind_list (policy_of s) run.kind) ≤ most_records
-  pub room : image_size (run.before + length (kind_list (policy_of s) run.kind)) ≤ output
+  pub most : run.before + length (kind_list (policy_of s) (kind_number run.kind)) ≤ most_records
+  pub room : image_size (run.before + length (kind_list (policy_of s) (kind_number run.kind))) ≤ output
   pub shifted : (n : ℕ) → n ≤ (policy_of s).size → run.shift + nodes_upto (policy_of s) n < 65536
-  pub writable : (n : ℕ) → suc n ≤ (policy_of s).size → ((policy_of s).rec (suc n)).kind ≡ run.kind → WritableRecord (run_record (policy_of s) run n)
+  pub writable : (n : ℕ) → suc n ≤ (policy_of s).size → ((policy_of s).rec (suc n)).kind ≡ kind_number run.kind → WritableRecord (run_record (policy_of s) run n)
 
 -- node n has an entry in the table t, which with the shift fits two bytes
 pub record MovableNode (t : List ℕ) (shift n : ℕ) : Type 0 where

@@ -13,19 +13,19 @@ unfolding header_size
 put_counts-requires c = search rules
 
 pub loop-k-init : goal.loop-k-init
-loop-k-init c = (omega arith, omega arith, refl, fill_begin _ _ _ _)
+loop-k-init c = (refl, fill_begin _ _ _ _)
 
 pub returns : goal.returns
 returns c =
-    header_done c.args.c (λ i. get_or c.args.heads.now i 0) c.put_counts.ensures (fill_end c.loop-k.invariant.3 (omega arith))
+    header_done c.args.c (λ i. get_or c.args.heads.now i 0) c.put_counts.ensures (fill_end c.loop-k.invariant.1 (omega arith))
 
 pub put_head-requires : goal.put_head-requires
 unfolding header_size
 put_head-requires c =
     let w : Within 1 9 c.loop-k.k = record { low = omega arith; high = omega arith } in
-    (omega (arith, c.loop-k.invariant.2, c.put_counts.auto.out, c.requires.0), w, c.requires.2 c.loop-k.k w)
+    (omega (arith, c.loop-k.invariant.0, c.put_counts.auto.out, c.requires.0), w, c.requires.2 c.loop-k.k w)
 
 pub loop-k-preserved : goal.loop-k-preserved
 loop-k-preserved c =
     let w : Within 1 9 c.loop-k.k = record { low = omega arith; high = omega arith } in
-    (omega arith, omega arith, c.put_head.auto.out ∙ c.loop-k.invariant.2, heads_more (λ i. get_or c.args.heads.now i 0) c.loop-k.k w c.loop-k.invariant.3 c.put_head.ensures)
+    (c.put_head.auto.out ∙ c.loop-k.invariant.0, heads_more (λ i. get_or c.args.heads.now i 0) c.loop-k.k w c.loop-k.invariant.1 c.put_head.ensures)

@@ -1,4 +1,4 @@
-use Prim.Native.Nat.{◌*◌, ◌-◌, ◌≤◌}
+use Prim.Native.Nat.{◌*◌, ◌-◌}
 use mathlib.Core.Path.{◌≡◌}
 use lib.ListN.{length, get_or}
 use Rattle.base.specs.Bytes.{byte_at}
@@ -8,7 +8,4 @@ use Rattle.policy_writing.proofs.put_header.Given as goal
 
 abbrev pub invariant-loop-k : goal.invariant-loop-k
 invariant-loop-k l =
-    (1 ≤ l.k) × (l.k ≤ 10) × (length l.out ≡ length l.initial.out) × Filled (λ j v. v ≡ byte_at (head_list (λ i. get_or l.heads i 0)) j) l.initial.out l.out 6 0 (2 * (l.k - 1))
-
-abbrev pub decreases-loop-k : goal.decreases-loop-k
-decreases-loop-k l = 10 - l.k
+    (length l.out ≡ length l.initial.out) × Filled (λ j v. v ≡ byte_at (head_list (λ i. get_or l.heads i 0)) j) l.initial.out l.out 6 0 (2 * (l.k - 1))

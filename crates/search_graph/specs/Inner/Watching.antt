@@ -1,5 +1,5 @@
 -- What the monitors of a search promise, for every model whose sets the bits give.
-use Rattle.std.specs.Prelude.{◌≡◌, Bool, true, false, ℕ, suc, ◌+◌, ◌^◌, ◌≤◌, ◌<◌}
+use Rattle.std.specs.Prelude.{◌≡◌, Bool, ℕ, suc, ◌+◌, ◌^◌, ◌≤◌, ◌<◌}
 use Rattle.base.specs.Bits.{bit}
 use Rattle.goal_image.specs.declared.check.Legs.{Legs}
 use Rattle.paths.specs.Model.{Model}
@@ -19,11 +19,6 @@ pub record Into (M : Model) (y into : ℕ) : Type 0 where
 -- bit 7 + i of by says whether e is in γi
 pub record By (M : Model) (e by : ℕ) : Type 0 where
   pub at : (i : ℕ) → i < M.legs → bit by (7 + i) ≡ M.γ i e
-
-abbrev pub is_order : Mode → Bool
-is_order Order = true
-is_order Events = false
-is_order Any = false
 
 -- the stages that a step goes on from, where order is not looked for: none, where any end is
 abbrev pub stages_from : Mode → ℕ → ℕ

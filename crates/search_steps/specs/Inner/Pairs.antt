@@ -1,5 +1,5 @@
 -- Sets of pairs of a role and a user, by number, as four words of 64 pairs: to which contexts of a type a step leads.
-use Rattle.std.specs.Prelude.{ℕ, ◌+◌, ◌*◌, ◌/◌, ◌%◌, ◌≤◌, ◌<◌, Bool, true, false, ◌&&◌, cond, List, ◌⊎◌, ◌≡◌, length, get_or}
+use Rattle.std.specs.Prelude.{ℕ, ◌+◌, ◌*◌, ◌/◌, ◌%◌, ◌≤◌, ◌<◌, Bool, true, false, ◌&&◌, cond, List, ◌⊎◌, ◌≡◌, length, get_or, Option, Some, None}
 use Rattle.base.specs.Bits.{bit}
 use Rattle.policy_image.specs.declared.counts.Counts.{Counts}
 use Rattle.policy_image.specs.Policy.{Policy, policy_of}
@@ -76,3 +76,8 @@ pub record NextPair (set : List ℕ) (from end r : ℕ) : Type 0 where
   pub high : r ≤ pairs_end
   pub has : r < pairs_end → in_pairs set r ≡ true
   pub none : (k : ℕ) → from ≤ k → k < end → k < r → in_pairs set k ≡ false
+
+-- the first pair of the set from a pair on is given, if there is one, and the next is looked for from t on
+abbrev pub PairGiven : List ℕ → ℕ → ℕ → Option ℕ → ℕ → Type 0
+PairGiven set from end None t = NextPair set from end pairs_end
+PairGiven set from end (Some k) t = NextPair set from end k × (k < pairs_end) × (t ≡ k + 1)

@@ -1,6 +1,6 @@
 -- The join of the maker's and the board's policy (paper 02, c) on named inputs: each case as a statement from the definitions, and as a result of
 -- the call, that is what every number that the promise allows is.
-use Rattle.std.specs.Prelude.{ℕ, ◌+◌, ◌*◌, ◌/◌, ◌≤◌, ◌<◌, true, false, List, [], ◌∷◌, ◌++◌, ◌≡◌, length, take, drop}
+use Rattle.std.specs.Prelude.{ℕ, ◌+◌, ◌*◌, ◌/◌, ◌≤◌, ◌<◌, true, false, List, [], ◌∷◌, ◌++◌, ◌≡◌, length, take, drop, Result}
 use Rattle.base.specs.Bytes.{byte_at}
 use Rattle.base.specs.Numbers.{Numbered}
 use Rattle.base.specs.Questions.{AllYes, RefusedWith}
@@ -17,6 +17,7 @@ use Rattle.paths.specs.Paths.{Holds, OrderAt}
 use Rattle.policy_lists.specs.Joined.{joined}
 use Rattle.policy_writing.specs.Writing.{writing_number}
 use Rattle.join.specs.Join.{joined_image, join_questions, JoinPromise}
+use Rattle.witness.specs.declared.unanswered.Unanswered.{Unanswered}
 use Rattle.goal_question.specs.declared.goal.Outcome.{Outcome}
 use Rattle.goal_question.specs.GoalQuestion.{GoalPromise}
 use Rattle.weir.specs.Cases.Goals.{empty}
@@ -45,7 +46,7 @@ pub record JoinCases : Type 0 where
   pub read : JoinIs weir board_read weir_read
   pub read_before : Answered weir goal_g Holds
   pub read_after : Answered (joined_image weir board_read) goal_g (λ M. OrderAt M 1)
-  pub read_slice : (before after : List ℕ) (r : Outcome) → 3 ≤ length before → GoalPromise (joined_image weir board_read) goal_g 32 32 before after r
+  pub read_slice : (before after : List ℕ) (r : Result Outcome Unanswered) → 3 ≤ length before → GoalPromise (joined_image weir board_read) goal_g 32 32 before after r
       → W5Slice before after r
   -- "a board's constraint may take away what the maker allowed": 2 on 1 read, and not 4 on 3 read. Judged on the maker's list it would stay
   pub taken : JoinIs weir board_guard weir_taken

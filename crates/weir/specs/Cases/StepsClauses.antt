@@ -1,6 +1,6 @@
 -- No clause of the promise of least steps, and no field of a record that it rests on, can be left out: for each there is a result, a slice or
 -- an input of which all the others hold, and which is rejected.
-use Rattle.std.specs.Prelude.{ℕ, suc, ◌+◌, ◌*◌, ◌≤◌, ◌<◌, List, [], ◌∷◌, ◌≡◌, T, length, get_or}
+use Rattle.std.specs.Prelude.{ℕ, suc, ◌+◌, ◌*◌, ◌≤◌, ◌<◌, List, [], ◌∷◌, ◌≡◌, T, length, get_or, Some, None, Ok, Err}
 use Rattle.base.specs.Numbers.{Numbered}
 use Rattle.base.specs.Questions.{AllYes, RefusedWith}
 use Rattle.policy_image.specs.Layout.{counts_of}
@@ -12,7 +12,9 @@ use Rattle.context.specs.Ranges.{ContextInRange}
 use Rattle.access.specs.Authorization.{flow}
 use Rattle.goal_model.specs.Images.{in_range, meetsρμ}
 use Rattle.paths.specs.Slice.{contexts_in, events_in, Shows}
-use Rattle.least_steps.specs.declared.Steps.TheVariants as steps
+use Rattle.base.specs.declared.refusals.Refusal.{Refusal}
+use Rattle.base.specs.declared.refusals.Refusal.TheVariants as refusal
+use Rattle.witness.specs.declared.unanswered.Unanswered.TheVariants as unanswered
 use Rattle.least_steps.specs.LeastSteps.{FlowPath, SomeFlowPath, NoFlowPath, NoneShorter, BothInRange, steps_length, StepsFit, steps_questions, StepsPromise, steps_number}
 use Rattle.weir.specs.Cases.Goals.{weir_allow41}
 use Rattle.weir.specs.Cases.StepsPolicies.{weir_apart}
@@ -59,38 +61,38 @@ AskedBack = AllYes (steps_questions weir (at 4 2 1) (at 1 1 1) 8 8)
 
 pub record StepsClauses : Type 0 where
   -- ---- none: the questions are passed; no path leads there; the slice is as it was
-  pub none_asked : ByOneClause (NoFlowPath (policy_of weir) (at 4 2 1) (at 1 1 1) × (zeros ≡ zeros)) (StepsPromise weir (at 4 2 1) (at 1 1 1) 8 7 zeros zeros steps.None)
-  pub none_path : ByOneClause (AskedThere weir × (zeros ≡ zeros)) (StepsPromise weir (at 1 1 1) (at 4 2 1) 8 8 zeros zeros steps.None)
-  pub none_unchanged : ByOneClause (AskedBack × NoFlowPath (policy_of weir) (at 4 2 1) (at 1 1 1)) (StepsPromise weir (at 4 2 1) (at 1 1 1) 8 8 zeros short steps.None)
+  pub none_asked : ByOneClause (NoFlowPath (policy_of weir) (at 4 2 1) (at 1 1 1) × (zeros ≡ zeros)) (StepsPromise weir (at 4 2 1) (at 1 1 1) 8 7 zeros zeros (Ok None))
+  pub none_path : ByOneClause (AskedThere weir × (zeros ≡ zeros)) (StepsPromise weir (at 1 1 1) (at 4 2 1) 8 8 zeros zeros (Ok None))
+  pub none_unchanged : ByOneClause (AskedBack × NoFlowPath (policy_of weir) (at 4 2 1) (at 1 1 1)) (StepsPromise weir (at 4 2 1) (at 1 1 1) 8 8 zeros short (Ok None))
   -- ---- m steps: the questions are passed; m is the least; a path is shown
   pub shown_asked : ByOneClause (NoneShorter (policy_of weir) (at 1 1 1) (at 4 2 1) 3 × Shows (FlowPath (policy_of weir) (at 1 1 1) (at 4 2 1)) 3 long long)
-      (StepsPromise weir (at 1 1 1) (at 4 2 1) 7 8 long long (steps.Shown 3))
+      (StepsPromise weir (at 1 1 1) (at 4 2 1) 7 8 long long (Ok (Some 3)))
   pub shown_least : ByOneClause (AskedThere weir_allow41 × Shows (FlowPath (policy_of weir_allow41) (at 1 1 1) (at 4 2 1)) 3 long long)
-      (StepsPromise weir_allow41 (at 1 1 1) (at 4 2 1) 8 8 long long (steps.Shown 3))
+      (StepsPromise weir_allow41 (at 1 1 1) (at 4 2 1) 8 8 long long (Ok (Some 3)))
   pub shown_path : ByOneClause (AskedThere weir × NoneShorter (policy_of weir) (at 1 1 1) (at 4 2 1) 3)
-      (StepsPromise weir (at 1 1 1) (at 4 2 1) 8 8 more_zeros more_zeros (steps.Shown 3))
+      (StepsPromise weir (at 1 1 1) (at 4 2 1) 8 8 more_zeros more_zeros (Ok (Some 3)))
   -- ---- refused: the number of the first question whose answer is no; the slice is as it was
-  pub refused_first : (k : ℕ) → ByOneClause (zeros ≡ zeros) (StepsPromise weir (at 1 1 1) (at 4 2 1) 8 8 zeros zeros (steps.Refused k))
+  pub refused_first : (r : Refusal) → ByOneClause (zeros ≡ zeros) (StepsPromise weir (at 1 1 1) (at 4 2 1) 8 8 zeros zeros (Err (unanswered.Refused r)))
   pub refused_unchanged : ByOneClause (RefusedWith (steps_questions weir (at 1 1 1) (at 4 2 1) 7 8) 11)
-      (StepsPromise weir (at 1 1 1) (at 4 2 1) 7 8 zeros short (steps.Refused 11))
+      (StepsPromise weir (at 1 1 1) (at 4 2 1) 7 8 zeros short (Err (unanswered.Refused refusal.WorkSlices)))
   -- ---- 12: the questions are passed; some path has m steps; m is the least; the slice is too short; it is as it was
   pub no_room_asked : ByOneClause (SomeFlowPath (policy_of weir) (at 1 1 1) (at 4 2 1) 3 × NoneShorter (policy_of weir) (at 1 1 1) (at 4 2 1) 3
       × (length zeros < 2 * 3 + 1) × (zeros ≡ zeros))
-      (StepsPromise weir (at 1 1 1) (at 4 2 1) 7 8 zeros zeros (steps.NoRoom 3))
+      (StepsPromise weir (at 1 1 1) (at 4 2 1) 7 8 zeros zeros (Err (unanswered.NoRoom 3)))
   pub no_room_some : ByOneClause (AskedBack × NoneShorter (policy_of weir) (at 4 2 1) (at 1 1 1) 3 × (length zeros < 2 * 3 + 1) × (zeros ≡ zeros))
-      (StepsPromise weir (at 4 2 1) (at 1 1 1) 8 8 zeros zeros (steps.NoRoom 3))
+      (StepsPromise weir (at 4 2 1) (at 1 1 1) 8 8 zeros zeros (Err (unanswered.NoRoom 3)))
   pub no_room_least : ByOneClause (AskedThere weir_allow41 × SomeFlowPath (policy_of weir_allow41) (at 1 1 1) (at 4 2 1) 3
       × (length zeros < 2 * 3 + 1) × (zeros ≡ zeros))
-      (StepsPromise weir_allow41 (at 1 1 1) (at 4 2 1) 8 8 zeros zeros (steps.NoRoom 3))
+      (StepsPromise weir_allow41 (at 1 1 1) (at 4 2 1) 8 8 zeros zeros (Err (unanswered.NoRoom 3)))
   pub no_room_short : ByOneClause (AskedThere weir × SomeFlowPath (policy_of weir) (at 1 1 1) (at 4 2 1) 3 × NoneShorter (policy_of weir) (at 1 1 1) (at 4 2 1) 3
       × (more_zeros ≡ more_zeros))
-      (StepsPromise weir (at 1 1 1) (at 4 2 1) 8 8 more_zeros more_zeros (steps.NoRoom 3))
+      (StepsPromise weir (at 1 1 1) (at 4 2 1) 8 8 more_zeros more_zeros (Err (unanswered.NoRoom 3)))
   pub no_room_unchanged : ByOneClause (AskedThere weir × SomeFlowPath (policy_of weir) (at 1 1 1) (at 4 2 1) 3
       × NoneShorter (policy_of weir) (at 1 1 1) (at 4 2 1) 3 × (length zeros < 2 * 3 + 1))
-      (StepsPromise weir (at 1 1 1) (at 4 2 1) 8 8 zeros short (steps.NoRoom 3))
+      (StepsPromise weir (at 1 1 1) (at 4 2 1) 8 8 zeros short (Err (unanswered.NoRoom 3)))
   -- ---- the number that C gets: it is that of an answer, which is promised
-  pub number_promised : ByOneClause (0 ≡ steps_number steps.None) (Numbered steps_number (StepsPromise weir (at 1 1 1) (at 4 2 1) 8 8 zeros zeros) 0)
-  pub number_told : ByOneClause (StepsPromise weir (at 4 2 1) (at 1 1 1) 8 8 zeros zeros steps.None)
+  pub number_promised : ByOneClause (0 ≡ steps_number (Ok None)) (Numbered steps_number (StepsPromise weir (at 1 1 1) (at 4 2 1) 8 8 zeros zeros) 0)
+  pub number_told : ByOneClause (StepsPromise weir (at 4 2 1) (at 1 1 1) 8 8 zeros zeros (Ok None))
       (Numbered steps_number (StepsPromise weir (at 4 2 1) (at 1 1 1) 8 8 zeros zeros) 1)
   -- ---- a path is shown: the slice has as many entries as before; those behind the path are as they were; it is one
   pub shows_whole : ByOneClause ((2 * 3 + 1 ≤ length more_zeros) × ((i : ℕ) → 2 * 3 + 1 ≤ i → get_or (long_then 0) i 0 ≡ get_or more_zeros i 0)

@@ -1,5 +1,5 @@
 -- W1 to W12 (paper 01), each as a statement from the definitions.
-use Rattle.std.specs.Prelude.{ℕ, ◌≤◌, false, List, ◌≡◌, length, get_or}
+use Rattle.std.specs.Prelude.{ℕ, ◌≤◌, false, List, ◌≡◌, length, get_or, Result, Ok}
 use Rattle.base.specs.Questions.{AllYes, RefusedWith}
 use Rattle.policy_image.specs.Layout.{PolicyExact, counts_of, record_count, record_of}
 use Rattle.policy_image.specs.Counts.{CountsInRange}
@@ -13,15 +13,16 @@ use Rattle.goal_image.specs.Cases.WeirGoal.{goal_g}
 use Rattle.paths.specs.Model.{Model}
 use Rattle.paths.specs.Paths.{Holds, OrderAt, EventsAt}
 use Rattle.goal_model.specs.Images.{model}
+use Rattle.witness.specs.declared.unanswered.Unanswered.{Unanswered}
 use Rattle.goal_question.specs.declared.goal.Outcome.{Outcome}
-use Rattle.goal_question.specs.declared.goal.Outcome.TheVariants.{Order}
+use Rattle.goal_question.specs.declared.goal.Outcome.TheVariants as outcome
 use Rattle.goal_question.specs.GoalQuestion.{all_questions, GoalPromise}
 use Rattle.goal_model.specs.Cases.OwnGoals.{write_only}
 use Rattle.weir.specs.Cases.Goals.{weir_allow41, empty, except_type, end_type_one, one_leg, no_start}
 
 -- the path slice that every result for W5 leaves, where it has room: order 1, and 1 1 1, 2 0, 4 2 1 by their codes, the rest as it was
-pub record W5Slice (before after : List ℕ) (r : Outcome) : Type 0 where
-  pub answer : r ≡ Order 1
+pub record W5Slice (before after : List ℕ) (r : Result Outcome Unanswered) : Type 0 where
+  pub answer : r ≡ Ok (outcome.Order 1)
   pub whole : length after ≡ length before
   pub x0 : get_or after 0 0 ≡ 273
   pub e0 : get_or after 1 0 ≡ 64
@@ -44,7 +45,7 @@ pub record Weir : Type 0 where
   pub w4 : Answered weir (except_type 4) (λ M. EventsAt M 3)
   -- "W5 policy with 4 on 1 read added, G": by answer, count and path slice
   pub w5 : Answered weir_allow41 goal_g (λ M. OrderAt M 1)
-  pub w5_slice : (before after : List ℕ) (r : Outcome) → 3 ≤ length before → GoalPromise weir_allow41 goal_g 32 32 before after r → W5Slice before after r
+  pub w5_slice : (before after : List ℕ) (r : Result Outcome Unanswered) → 3 ≤ length before → GoalPromise weir_allow41 goal_g 32 32 before after r → W5Slice before after r
   -- "W6 σ2 type 1 in G: order 0."
   pub w6 : Answered weir end_type_one (λ M. OrderAt M 0)
   -- "W7 one leg, σ0 and σ1 type 1: events 0."

@@ -1,9 +1,9 @@
 -- Canonical images and answers that the promise keeps out, each on a named input: what a misreading of paper 02 (e) would give.
-use Rattle.std.specs.Prelude.{ℕ, ◌≤◌, List, [], ◌∷◌, ◌++◌, ◌≡◌, length, take}
+use Rattle.base.specs.declared.refusals.Refusal.{Refusal}
+use Rattle.base.specs.declared.refusals.Refusal.TheVariants.{OutputSlice, TooManyRecords}
+use Rattle.std.specs.Prelude.{ℕ, ◌≤◌, List, [], ◌∷◌, ◌++◌, ◌≡◌, length, take, Result, Ok, Err}
 use Rattle.policy_image.specs.Cases.Written.{line, domain, permissions, flow, allow, role_type, user_role, role_change, constraint, node, heads, lines, image, no_chain, chain_of}
 use Rattle.policy_image.specs.Cases.Weir.{weir}
-use Rattle.policy_writing.specs.declared.answer.Writing.{Writing}
-use Rattle.policy_writing.specs.declared.answer.Writing.TheVariants as writing
 use Rattle.canonical.specs.Canonical.{canonical_image, CanonicalPromise}
 use Rattle.weir.specs.Cases.Goals.{empty}
 use Rattle.weir.specs.Cases.JoinPolicies.{no_type, leaning, blank, blank_then}
@@ -12,7 +12,7 @@ use Rattle.weir_canonical.specs.Cases.Canonical.{GivesCanonical}
 
 -- no answer allows an output with room that begins with these bytes, whatever was there and whatever stands behind them
 pub record KeptOut (s wrong : List ℕ) : Type 0 where
-  pub it : (before rest : List ℕ) (w : Writing) → length (canonical_image s) ≤ length before → CanonicalPromise s before (wrong ++ rest) w → ⊥
+  pub it : (before rest : List ℕ) (w : Result ℕ Refusal) → length (canonical_image s) ≤ length before → CanonicalPromise s before (wrong ++ rest) w → ⊥
 
 -- ---- the allows in any order, each by its next, behind the domains
 abbrev pub two_one_one : ℕ → List ℕ
@@ -176,26 +176,26 @@ pub record CanonicalStandIns : Type 0 where
   pub not_heads_filled : KeptOut repeated (headed 4 (1 ∷ 2 ∷ 2 ∷ 2 ∷ 2 ∷ 3 ∷ 4 ∷ 5 ∷ 5 ∷ []))
   pub not_counts_used : KeptOut roomy (image 1 1 1 1 no_chain [])
   -- ---- "bytes past the image are unchanged": cleared; cut off. And an output left as it was
-  pub not_cleared : (w : Writing) → CanonicalPromise empty (blank_then 7 9) (empty ++ (0 ∷ 0 ∷ [])) w → ⊥
-  pub not_cut_off : (w : Writing) → CanonicalPromise empty (blank_then 7 9) empty w → ⊥
-  pub not_unwritten : (w : Writing) → CanonicalPromise empty (blank 24) (blank 24) w → ⊥
+  pub not_cleared : (w : Result ℕ Refusal) → CanonicalPromise empty (blank_then 7 9) (empty ++ (0 ∷ 0 ∷ [])) w → ⊥
+  pub not_cut_off : (w : Result ℕ Refusal) → CanonicalPromise empty (blank_then 7 9) empty w → ⊥
+  pub not_unwritten : (w : Result ℕ Refusal) → CanonicalPromise empty (blank 24) (blank 24) w → ⊥
   -- ---- "Refusals write nothing": as much as there is room for, on 16; something on 14, and on 15
-  pub not_written_on_16 : (w : Writing) → CanonicalPromise empty (blank 23) (take 23 empty) w → ⊥
-  pub not_written_on_14 : (w : Writing) → CanonicalPromise leaning (0 ∷ []) (4 ∷ []) w → ⊥
-  pub not_written_on_15 : (w : Writing) → CanonicalPromise (crowded 1 one_flow 4094) (0 ∷ []) (1 ∷ []) w → ⊥
+  pub not_written_on_16 : (w : Result ℕ Refusal) → CanonicalPromise empty (blank 23) (take 23 empty) w → ⊥
+  pub not_written_on_14 : (w : Result ℕ Refusal) → CanonicalPromise leaning (0 ∷ []) (4 ∷ []) w → ⊥
+  pub not_written_on_15 : (w : Result ℕ Refusal) → CanonicalPromise (crowded 1 one_flow 4094) (0 ∷ []) (1 ∷ []) w → ⊥
   -- ---- the order of the questions: 15 before the policy's own; 16 before them; 16 before 15
-  pub not_15_before_policy : (before after : List ℕ) → CanonicalPromise (crowded 0 one_flow 4094) before after (writing.Refused 15) → ⊥
-  pub not_16_before_policy : (after : List ℕ) → CanonicalPromise leaning [] after (writing.Refused 16) → ⊥
-  pub not_16_before_15 : (before after : List ℕ) → CanonicalPromise (crowded 1 one_flow 4094) before after (writing.Refused 16) → ⊥
+  pub not_15_before_policy : (before after : List ℕ) → CanonicalPromise (crowded 0 one_flow 4094) before after (Err TooManyRecords) → ⊥
+  pub not_16_before_policy : (after : List ℕ) → CanonicalPromise leaning [] after (Err OutputSlice) → ⊥
+  pub not_16_before_15 : (before after : List ℕ) → CanonicalPromise (crowded 1 one_flow 4094) before after (Err OutputSlice) → ⊥
   -- ---- 15 by the records that the policy has, which are 4,095; by what splitting alone makes; by what is there before empty masks are dropped; at 4,095
   -- already
-  pub not_15_by_records : (before after : List ℕ) (n : ℕ) → CanonicalPromise (crowded 1 one_flow 4094) before after (writing.Written n) → ⊥
-  pub not_15_by_splitting : (before after : List ℕ) → CanonicalPromise (crowded 1 one_flow_again 4093) before after (writing.Refused 15) → ⊥
-  pub not_15_by_empty : (before after : List ℕ) → CanonicalPromise (crowded 1 no_flow 4094) before after (writing.Refused 15) → ⊥
-  pub not_15_at_4095 : (before after : List ℕ) → CanonicalPromise (crowded 1 one_flow 4093) before after (writing.Refused 15) → ⊥
+  pub not_15_by_records : (before after : List ℕ) (n : ℕ) → CanonicalPromise (crowded 1 one_flow 4094) before after (Ok n) → ⊥
+  pub not_15_by_splitting : (before after : List ℕ) → CanonicalPromise (crowded 1 one_flow_again 4093) before after (Err TooManyRecords) → ⊥
+  pub not_15_by_empty : (before after : List ℕ) → CanonicalPromise (crowded 1 no_flow 4094) before after (Err TooManyRecords) → ⊥
+  pub not_15_at_4095 : (before after : List ℕ) → CanonicalPromise (crowded 1 one_flow 4093) before after (Err TooManyRecords) → ⊥
   -- ---- one that refuses all; an output exactly as long refused; a policy written that is not accepted
-  pub not_refusing : (after : List ℕ) (k : ℕ) → CanonicalPromise empty (blank 24) after (writing.Refused k) → ⊥
-  pub not_unaccepted : (before after : List ℕ) (n : ℕ) → CanonicalPromise no_type before after (writing.Written n) → ⊥
+  pub not_refusing : (after : List ℕ) (r : Refusal) → CanonicalPromise empty (blank 24) after (Err r) → ⊥
+  pub not_unaccepted : (before after : List ℕ) (n : ℕ) → CanonicalPromise no_type before after (Ok n) → ⊥
   -- ---- the length: the output's, or any other; for C without the factor 256
-  pub not_output_length : (after : List ℕ) (n : ℕ) → CanonicalPromise empty (blank_then 7 9) after (writing.Written n) → n ≡ 24
+  pub not_output_length : (after : List ℕ) (n : ℕ) → CanonicalPromise empty (blank_then 7 9) after (Ok n) → n ≡ 24
   pub not_length_alone : (after : List ℕ) → GivesCanonical empty (blank 24) after 24 → ⊥

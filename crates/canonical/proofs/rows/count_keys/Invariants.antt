@@ -1,4 +1,4 @@
-use Prim.Native.Nat.{ℕ, ◌-◌, ◌≤◌}
+use Prim.Native.Nat.{ℕ, ◌-◌}
 use mathlib.Core.List.{List}
 use lib.ListN.{get_or}
 use Rattle.policy_image.specs.declared.records.Record.{Record}
@@ -9,8 +9,5 @@ use Rattle.canonical.proofs.rows.count_keys.Given as goal
 abbrev pub rows : List ℕ → ℕ → Record
 rows keys i = table_record (get_or keys (i - 1) 0) 0
 
-abbrev pub invariant-loop-done : goal.invariant-loop-done
-invariant-loop-done l = (l.done ≤ l.m) × CountedTo (rows l.keys) l.done l.table
-
-abbrev pub decreases-loop-done : goal.decreases-loop-done
-decreases-loop-done l = l.m - l.done
+abbrev pub invariant-loop-key : goal.invariant-loop-key
+invariant-loop-key l = CountedTo (rows l.fn.keys) l.key-index l.table

@@ -1,4 +1,3 @@
-use Prim.Native.Nat.{◌-◌, ◌≤◌}
 use mathlib.Core.Path.{◌≡◌}
 use lib.Dec.{eqb}
 use lib.ListN.{length}
@@ -8,7 +7,4 @@ use Rattle.constraints.proofs.leaves.put_number.Given as goal
 
 abbrev pub invariant-loop-b : goal.invariant-loop-b
 invariant-loop-b l =
-    (l.b ≤ 16) × (length l.leaves ≡ leaf_entries) × Filled (λ i r. AllIf (eqb l.v i) r) l.initial.leaves l.leaves l.at 0 l.b
-
-abbrev pub decreases-loop-b : goal.decreases-loop-b
-decreases-loop-b l = 16 - l.b
+    (length l.leaves ≡ leaf_entries) × Filled (λ i r. AllIf (eqb l.v i) r) l.initial.leaves l.leaves l.at 0 l.b

@@ -1,7 +1,7 @@
 -- Fact after fact, in the order of their codes: the loop keeps `UnitedFacts` for those that it has passed.
 use mathlib.Core.Path.{◌≡◌}
 use mathlib.Core.List.{List}
-use Prim.Native.Nat.{ℕ, ◌-◌, ◌≤◌}
+use Prim.Native.Nat.{ℕ}
 use lib.ListN.{length, get_or}
 use Rattle.sorting.specs.Inner.Entries.{code_in}
 use Rattle.fact_table.specs.Inner.Unite.{UnitedFacts}
@@ -15,8 +15,4 @@ abbrev pub invariant-loop-i : goal.invariant-loop-i
 invariant-loop-i l =
     (length l.keys ≡ length l.initial.keys)
     × (length l.masks ≡ length l.initial.masks)
-    × (l.i ≤ l.n)
     × Passed l.codes l.given l.order l.i l.keys l.masks l.m
-
-abbrev pub decreases-loop-i : goal.decreases-loop-i
-decreases-loop-i l = l.n - l.i

@@ -1,7 +1,9 @@
-use mathlib.Core.Path.{◌≡◌}
-use Prim.Native.Nat.{◌*◌, ◌^◌, ◌<◌}
+use mathlib.Core.Path.{◌≡◌, subst}
+use Prim.Native.Nat.{ℕ, ◌*◌, ◌^◌, ◌<◌}
 use native.Mathlib.Omega.{arith}
-use lib.ListN.{length-take}
+use lib.ListN.{length, length-take}
+use Rattle.std.specs.Prelude.{Option, Result}
+use Rattle.std.proofs.lemmas.Result.{err_from_is_err_and}
 use Rattle.context.specs.Inner.Places.{context_count}
 use Rattle.plan.proofs.ContextLaws.{plan_counts}
 use Rattle.plan.proofs.SetLaws.{goal_kept}
@@ -10,10 +12,12 @@ use Rattle.search_graph.specs.Inner.Tasks.{state_count}
 use Rattle.search_graph.proofs.ArrivalLaws.{nodes_of_lem}
 use Rattle.search_graph.proofs.GivenLaws.{few_nodes}
 use Rattle.search.specs.Inner.Found.{unbounded}
+use Rattle.witness.specs.declared.path.NoRoom.{NoRoom}
+use Rattle.goal_question.specs.GoalQuestion.{GoalPromise}
 use Rattle.goal_question.proofs.ModelLaws.{same_model}
 use Rattle.goal_question.proofs.SizeLaws.{passed_sizes, work_room, searchable}
-use Rattle.goal_question.proofs.AnswerLaws.{promised}
-use Rattle.goal_question.proofs.goal.answer.Goals.{After-state_count}
+use Rattle.goal_question.proofs.AnswerLaws.{answer_of, promised}
+use Rattle.goal_question.proofs.goal.answer.Goals.{After-state_count, After-show_by}
 use Rattle.goal_question.proofs.goal.answer.Goals as goal
 
 -- the product is the number of nodes
@@ -56,14 +60,27 @@ slice_bounds-back-end c = omega (arith, nodes (goal.at.slice_bounds-back-end c).
 pub slice_bounds-back-end-2 : goal.slice_bounds-back-end-2
 slice_bounds-back-end-2 c = simp length-take (omega (arith, nodes (goal.at.slice_bounds-back-end-2 c).After-state_count, work_room c.requires))
 
+-- what is shown, in the words of the promise
+module _ (n : After-show_by) where
+  abbrev Kept : Result (Option ℕ) NoRoom → Type 0
+  Kept r = GoalPromise n.args.policy.now n.args.goal.now (length n.args.work1.now) (length n.args.work2.now) n.args.path.now n.show_by.new.path (answer_of n.find_by-found.result.breach r)
+
+  kept : (r : Result (Option ℕ) NoRoom) → n.show_by.result ≡ r → Kept r
+  kept r q =
+      let R = (passed_sizes n.requires).ready in
+      let C = plan_counts R in
+      let P = n.put_rules.ensures in
+      subst Kept q
+      (promised (searchable n.requires P.planned (work_room n.requires)) (same_model R C (goal_kept C (λ i h. P.below i (omega arith)) n.put_goal.ensures.goal) (all_ruled P) n.requires.legs)
+      n.requires _ _ n.find_by-found.result.breach n.show_by.result n.find_by-found.ensures.0 n.show_by.ensures)
+
+pub returns-in_err-shown : goal.returns-in_err-shown
+returns-in_err-shown c =
+    let p = err_from_is_err_and c.from_residual.result c.from_residual.ensures.1 in
+    rw (p.1, p.2) (kept (goal.at.returns-in_err-shown c).After-show_by _ c.in_err-shown.was)
+
 pub returns : goal.returns
-returns c =
-    let R = (passed_sizes c.requires).ready in
-    let C = plan_counts R in
-    let P = c.put_rules.ensures in
-    rw c.outcome_of.ensures
-    (promised (searchable c.requires P.planned (work_room c.requires)) (same_model R C (goal_kept C (λ i h. P.below i (omega arith)) c.put_goal.ensures.goal) (all_ruled P) c.requires.legs) c.requires _ _
-    c.find_by-found.result.finding c.show_by.result c.find_by-found.ensures.0 c.show_by.ensures)
+returns c = rw c.outcome_of.ensures (kept (goal.at.returns c).After-show_by _ c.in_ok-shown.was)
 
 pub find_by-found-requires : goal.find_by-found-requires
 find_by-found-requires c = (

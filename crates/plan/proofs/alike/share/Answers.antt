@@ -1,24 +1,21 @@
-use mathlib.Core.Path.{sym, ◌∙◌}
+use mathlib.Core.Path.{sym, ap, ◌≡◌, ◌∙◌}
+use Rattle.base.specs.Bits.{bit}
+use Prim.Native.Nat.{ℕ}
 use Rattle.base.proofs.BoolLaws.{and_first}
-use Rattle.base.proofs.LowestLaws.{less_without}
 use Rattle.plan.proofs.LeadLaws.{shared_more}
 use Rattle.plan.proofs.alike.share.Goals as goal
 
-pub loop-left-init : goal.loop-left-init
-loop-left-init c = (λ q b. b, record { table = λ plan M A. A })
+pub loop-q-init : goal.loop-q-init
+loop-q-init c =
+    let e : c.into_iter-q-iterator.result.left ≡ c.args.mask = cc in
+    (λ q b. ap (λ (m : ℕ). bit m q) (sym e) ∙ b, record { table = λ plan M A. A })
 
-pub with_bit-requires : goal.with_bit-requires
-with_bit-requires c = c.lowest-q.ensures.small
-
-pub loop-left-smaller : goal.loop-left-smaller
-loop-left-smaller c = less_without c.lowest-q.ensures c.with_bit.ensures c.without-left.ensures
-
-pub loop-left-preserved : goal.loop-left-preserved
-loop-left-preserved c =
-    let low = c.lowest-q.ensures in (
-      λ q b. c.loop-left.invariant.0 q (and_first _ _ (sym (c.without-left.ensures.at q) ∙ b)),
-      shared_more c.requires low.small (c.loop-left.invariant.0 _ low.has) c.loop-left.invariant.1,
+pub loop-q-preserved : goal.loop-q-preserved
+loop-q-preserved c =
+    let T = c.in-Some.ensures.steps in (
+      λ q b. c.loop-q.invariant.0 q (and_first _ _ (sym (T.at q) ∙ b)),
+      shared_more c.requires T.least.small (c.loop-q.invariant.0 _ T.least.has) c.loop-q.invariant.1,
     )
 
 pub returns : goal.returns
-returns c = c.loop-left.invariant.1
+returns c = c.loop-q.invariant.1

@@ -1,14 +1,13 @@
 use Rattle.base.proofs.FillLaws.{fill_begin, fill_more, fill_end}
 use mathlib.Core.Path.{refl}
-use lib.ListN.{length-set}
 use native.Mathlib.Omega.{arith}
 use Rattle.plan.proofs.fill.put_cut.Goals as goal
 
 pub loop-i-init : goal.loop-i-init
-loop-i-init c = (omega arith, refl, fill_begin _ _ _ _)
+loop-i-init c = fill_begin _ _ _ _
 
 pub loop-i-preserved : goal.loop-i-preserved
-loop-i-preserved c = let l = c.loop-i in (omega arith, simp length-set l.invariant.1, fill_more _ l.invariant.2 (omega arith) (omega arith) refl)
+loop-i-preserved c = fill_more _ c.loop-i.invariant (omega arith) (omega arith) refl
 
 pub returns : goal.returns
-returns c = fill_end c.loop-i.invariant.2 (omega arith)
+returns c = fill_end c.loop-i.invariant (omega arith)

@@ -1,13 +1,7 @@
-use Prim.Native.Nat.{◌-◌, ◌≤◌}
 use mathlib.Core.Path.{◌≡◌}
-use lib.ListN.{length}
 use Rattle.base.specs.Inner.Fill.{Filled}
 use Rattle.plan.proofs.BlockLaws.{cut_to}
 use Rattle.plan.proofs.fill.put_cut.Given as goal
 
 abbrev pub invariant-loop-i : goal.invariant-loop-i
-invariant-loop-i l =
-    (l.i ≤ l.n) × (length l.plan ≡ length l.initial.plan) × Filled (λ j v. v ≡ cut_to l.keys l.masks l.cut j) l.initial.plan l.plan l.at 0 l.i
-
-abbrev pub decreases-loop-i : goal.decreases-loop-i
-decreases-loop-i l = l.n - l.i
+invariant-loop-i l = Filled (λ j v. v ≡ cut_to l.keys l.masks l.cut j) l.initial.plan l.plan l.at 0 l.i

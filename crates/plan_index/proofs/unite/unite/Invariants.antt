@@ -1,7 +1,7 @@
 -- Item after item, in the order of their codes: the loop keeps `UnitedItems` for the items that it has passed.
 use mathlib.Core.Path.{◌≡◌}
 use mathlib.Core.List.{List}
-use Prim.Native.Nat.{ℕ, ◌-◌, ◌≤◌}
+use Prim.Native.Nat.{ℕ}
 use lib.ListN.{length, get_or}
 use Rattle.plan_index.specs.Inner.Items.{code_in, side_mask}
 use Rattle.plan_index.specs.Inner.Unite.{UnitedItems}
@@ -14,7 +14,4 @@ Passed codes masks order i keys writes reads m =
 
 abbrev pub invariant-loop-i : goal.invariant-loop-i
 invariant-loop-i l =
-    (length l.keys ≡ length l.initial.keys) × (length l.writes ≡ length l.initial.writes) × (length l.reads ≡ length l.initial.reads) × (l.i ≤ l.n) × Passed l.codes l.masks l.order l.i l.keys l.writes l.reads l.m
-
-abbrev pub decreases-loop-i : goal.decreases-loop-i
-decreases-loop-i l = l.n - l.i
+    (length l.keys ≡ length l.initial.keys) × (length l.writes ≡ length l.initial.writes) × (length l.reads ≡ length l.initial.reads) × Passed l.codes l.masks l.order l.i l.keys l.writes l.reads l.m

@@ -1,115 +1,54 @@
 use Prim.Native.Nat.{ℕ, ◌<◌}
-use mathlib.Core.List.{List}
-use mathlib.Core.Path.{◌≡◌, sym, ap, subst, ◌∙◌}
+use mathlib.Core.Path.{◌≡◌, sym, subst}
 use native.Mathlib.Omega.{arith}
-use lib.ListN.{length}
-use borrow.Author.Rules.{rules}
-use Rattle.base.proofs.ChainLaws.{left}
+use lib.ListN.{length, get_or}
+use mathlib.Core.Bool.{◌||◌}
+use Rattle.base.specs.Bits.{bit}
 use Rattle.policy_image.specs.declared.records.Record.{Record}
-use Rattle.policy_image.specs.Layout.{record_count}
+use Rattle.policy_image.specs.Layout.{record_of}
+use Rattle.policy_image.specs.Inner.Kinds.{kind_number}
 use Rattle.policy_image.specs.Policy.{policy_of}
-use Rattle.policy_image.proofs.FieldLaws.{same_fields}
 use Rattle.policy_links.proofs.KindLaws.{OfKind}
-use Rattle.policy_check.specs.Inner.Sound.{Sound}
-use Rattle.policy_check.proofs.Along.{along_less, along_kind}
+use Rattle.policy_links.proofs.Walking.{given_is, along_kind}
 use Rattle.plan_tables.specs.Inner.Gather.{entry_of, adds_of, Shifts}
-use Rattle.plan_tables.proofs.Gathering.{Gathering, gathering_start, gathering_step, gathering_end}
+use Rattle.plan_tables.proofs.Gathering.{gathering_start, gathering_step, gathering_end}
 use Rattle.plan_tables.proofs.SoundLaws.{shifts}
-use Rattle.plan_tables.proofs.gather.gather.Goals.{After-entry-t}
+use Rattle.plan_tables.proofs.gather.gather.Goals.{In-Some}
 use Rattle.plan_tables.proofs.gather.gather.Goals as goal
 
--- what is known where record i has been read and its entry is known
-module _ (K : After-entry-t) where
-  abbrev s : List ℕ
-  s = K.args.policy.now
+-- what is known where a record has been read
+module _ (K : In-Some) where
+  is : K.in-Some.r ≡ record_of K.args.policy.now K.loop-r.r-iterator.next
+  is = given_is K.args.policy.now K.loop-r.invariant.along.image K.in-Some.ensures.steps
 
-  abbrev kind : ℕ
-  kind = K.args.kind
+  of : OfKind (policy_of K.args.policy.now) (kind_number K.args.kind) K.loop-r.r-iterator.next
+  of = along_kind K.args.policy.now K.requires.0.links K.args.kind _ K.loop-r.invariant.along K.in-Some.ensures.steps K.requires.0.chains
 
-  abbrev way : ℕ
-  way = K.args.way
-
-  abbrev sound : Sound s
-  sound = K.requires.0
-
-  abbrev i : ℕ
-  i = K.loop-i.i
-
-  abbrev table : List ℕ
-  table = K.loop-i.table
-
-  abbrev gathering : Gathering (policy_of s) kind (entry_of kind) (adds_of way kind) K.args.table.now table i
-  gathering = K.loop-i.invariant
-
-  abbrev r : Record
-  r = K.record_at-r.result
-
-  same : r ≡ (policy_of s).rec i
-  same = K.record_at-r.ensures.same
-
-  of_kind_lem : OfKind (policy_of s) kind i
-  of_kind_lem = along_kind s sound kind (omega arith) (omega arith) _ i (omega arith) gathering.visit
-
-  at : K.entry-t.result ≡ entry_of kind ((policy_of s).rec i)
-  at = K.entry-t.ensures ∙ ap (λ (x : Record). entry_of kind x) same
-
-  room : K.entry-t.result < length table
+  room : entry_of K.args.kind K.in-Some.r < length K.loop-r.table
   room =
-      let o = of_kind_lem in
-      let e = at in
-      let g = gathering.size in
-      let h = K.requires.3.at i o.low o.high o.kind in
-      omega arith
+      let h = K.requires.1.at K.loop-r.r-iterator.next of.low of.high of.kind in
+      subst (λ (x : Record). entry_of K.args.kind x < length K.loop-r.table) (sym is) (omega (arith, K.loop-r.invariant.size))
 
-  small : Shifts kind r
-  small = subst (λ (x : Record). Shifts kind x) (sym same) (shifts s sound kind i of_kind_lem)
+  small : Shifts K.args.kind K.in-Some.r
+  small = subst (Shifts K.args.kind) (sym is) (shifts K.args.policy.now K.requires.0 K.args.kind K.loop-r.r-iterator.next of)
 
-  less : left (record_count s) r.next < left (record_count s) i
-  less = along_less s sound kind (omega arith) (omega arith) _ i (omega arith) gathering.visit _ (same_fields same).next
+pub loop-r-init : goal.loop-r-init
+loop-r-init c =
+    gathering_start c.args.policy.now c.requires.0 c.args.kind _ _ _
+    (rw c.into_iter-r-iterator.ensures.into_iter_gives c.records_of-r-items.ensures)
 
-pub loop-i-init : goal.loop-i-init
-loop-i-init c =
-    gathering_start c.args.policy.now c.requires.0 c.args.kind c.requires.1 c.requires.2 _ _ _ _ c.head_at-i.ensures
-
-pub record_at-r-requires : goal.record_at-r-requires
-record_at-r-requires c = let v = c.loop-i.invariant.visit.most in search rules
-
-pub offset_bounds-table-t : goal.offset_bounds-table-t
-offset_bounds-table-t c = let h = room (goal.at.offset_bounds-table-t c).After-entry-t in search rules
-
-pub bounds-table-t : goal.bounds-table-t
-bounds-table-t c = room (goal.at.bounds-table-t c).After-entry-t
-
-pub adds-requires : goal.adds-requires
-adds-requires c = small (goal.at.adds-requires c).After-entry-t
-
-pub offset_bounds-table-t-in-loop-i : goal.offset_bounds-table-t-in-loop-i
-offset_bounds-table-t-in-loop-i c = let h = room (goal.at.offset_bounds-table-t-in-loop-i c).After-entry-t in search rules
-
-pub bounds-table-t-in-loop-i : goal.bounds-table-t-in-loop-i
-bounds-table-t-in-loop-i c = room (goal.at.bounds-table-t-in-loop-i c).After-entry-t
-
-pub loop-i-smaller : goal.loop-i-smaller
-loop-i-smaller c = less (goal.at.loop-i-smaller c).After-entry-t
-
-pub loop-i-preserved : goal.loop-i-preserved
-loop-i-preserved c =
-    let K = (goal.at.loop-i-preserved c).After-entry-t in
-    let e : c.adds.result ≡ adds_of (way K) (kind K) ((policy_of (s K)).rec (i K)) =
-    c.adds.ensures ∙ ap (λ (x : Record). adds_of (way K) (kind K) x) (same K) in
-    gathering_step (s K) (sound K) (kind K) (omega arith) (omega arith) _ _ _ (table K) (i K) (omega arith) (gathering K) _
-    (same_fields (same K)).next _ _ _ (at K) e c.join.ensures (room K)
-
-pub shape_of-table : goal.shape_of-table
-shape_of-table c = c.loop-i.invariant.size
+pub loop-r-preserved : goal.loop-r-preserved
+loop-r-preserved c =
+    let K = (goal.at.loop-r-preserved c).In-Some in
+    let k = c.args.kind in
+    let r = c.in-Some.r in
+    let both : (q : ℕ) → bit c.join.result q ≡ (bit (get_or c.loop-r.table (entry_of k r) 0) q || bit (adds_of c.args.way k r) q) =
+    λ q. rw (← c.entry-t.ensures, ← c.adds.ensures) (c.join.ensures q) in
+    rw c.entry-t.ensures
+    (gathering_step c.args.policy.now c.requires.0 k _ _ _ c.loop-r.table c.loop-r.invariant c.in-Some.ensures.steps c.join.result both (room K))
 
 pub returns : goal.returns
 returns c =
-    let l = c.loop-i in
-    let z : l.i ≡ 0 = omega arith in
-    let k = c.args.kind in
-    let start = c.args.table.now in
     record {
-      at = gathering_end c.args.policy.now c.requires.0 k c.requires.1 c.requires.2 (entry_of k) (adds_of c.args.way k) start l.table
-          (subst (λ (j : ℕ). Gathering (policy_of c.args.policy.now) k (entry_of k) (adds_of c.args.way k) start l.table j) z l.invariant);
+      at = gathering_end c.args.policy.now c.requires.0 c.args.kind _ _ _ c.loop-r.table c.loop-r.invariant c.in-None.ensures.steps;
     }

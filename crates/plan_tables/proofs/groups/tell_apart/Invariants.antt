@@ -1,4 +1,4 @@
-use Prim.Native.Nat.{◌+◌, ◌-◌, ◌*◌, ◌≤◌}
+use Prim.Native.Nat.{◌+◌, ◌*◌}
 use mathlib.Core.Path.{◌≡◌}
 use lib.ListN.{length, get_or}
 use Rattle.base.specs.Inner.Fill.{Filled}
@@ -7,7 +7,4 @@ use Rattle.plan_tables.proofs.groups.tell_apart.Given as goal
 
 abbrev pub invariant-loop-q : goal.invariant-loop-q
 invariant-loop-q l =
-    (l.q ≤ 32) × (l.first ≡ 32 * l.class) × (length l.groups ≡ length l.initial.groups) × Filled (λ k v. OnSide (get_or l.initial.groups (l.first + k) 0) l.mask k v) l.initial.groups l.groups l.first 0 l.q
-
-abbrev pub decreases-loop-q : goal.decreases-loop-q
-decreases-loop-q l = 32 - l.q
+    (l.first ≡ 32 * l.class) × (length l.groups ≡ length l.initial.groups) × Filled (λ k v. OnSide (get_or l.initial.groups (l.first + k) 0) l.mask k v) l.initial.groups l.groups l.first 0 l.q

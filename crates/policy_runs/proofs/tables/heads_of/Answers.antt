@@ -6,7 +6,7 @@ use Rattle.policy_runs.proofs.TableLaws.{heads_more}
 use Rattle.policy_runs.proofs.tables.heads_of.Goals as goal
 
 pub loop-k-init : goal.loop-k-init
-loop-k-init c = (omega arith, omega arith, refl, λ j a b. let z : ⊥ = omega arith in absurd z)
+loop-k-init c = (refl, λ j a b. let z : ⊥ = omega arith in absurd z)
 
 pub next_upto-requires : goal.next_upto-requires
 next_upto-requires c =
@@ -15,8 +15,6 @@ next_upto-requires c =
 
 pub loop-k-preserved : goal.loop-k-preserved
 loop-k-preserved c = (
-  omega arith,
-  omega arith,
-  length-set c.loop-k.heads c.loop-k.k _ ∙ c.loop-k.invariant.2,
-  heads_more c.args.ends.now c.loop-k.heads c.loop-k.k _ (omega (arith, c.loop-k.invariant.2)) c.loop-k.invariant.3 c.next_upto.ensures,
+  length-set c.loop-k.heads c.loop-k.k _ ∙ c.loop-k.invariant.0,
+  heads_more c.args.ends.now c.loop-k.heads c.loop-k.k _ (omega (arith, c.loop-k.invariant.0)) c.loop-k.invariant.1 c.next_upto.ensures,
 )

@@ -5,7 +5,6 @@ use native.Mathlib.Omega.{arith}
 use borrow.Author.Rules.{rules}
 use lib.ListN.{length-set}
 use Rattle.search_constraints.proofs.AskedLaws.{before_begin}
-use Rattle.search_steps.specs.Inner.Pairs.{pairs_end}
 use Rattle.search_steps.proofs.NearestLaws.{kept_few}
 use Rattle.search_steps.proofs.OfferLaws.{block_of_type}
 use Rattle.search_graph.specs.declared.arrival.Arrival.TheVariants.{Enter}
@@ -17,15 +16,12 @@ use Rattle.search_memory.proofs.ShutLaws.{grown_same, grown_more, shuts_begin, s
 use Rattle.search_memory.proofs.LoopLaws.{node_below, middle_begin, middle_end, middle_spent, event_few, other_few, other_type, inner_swept, inner_end, inner_fits, inner_type, inner_below, inner_entered, inner_seen, inner_dropped, inner_broken}
 use Rattle.search_memory.proofs.PairLaws.{asking, facing, in_policy, pairs_high, pairing_begin, pairing_end, pair_inner, pair_below, pair_flows, pair_next}
 use Rattle.search.proofs.levels.search_levels.Goals.{After-arrive, After-kept_of-kept}
-use Rattle.search.proofs.levels.search_levels.Goals.{else-head-level_end, in-Dropped, in-Enter+else-back-at-eq0, in-Enter+then-back-at-eq0, then-head-level_end}
+use Rattle.search.proofs.levels.search_levels.Goals.{else-head-level_end, then-head-level_end}
 use Rattle.search.proofs.levels.search_levels.Goals as goal
 
 -- what is left falls
 falls : {a b end : ℕ} → a < end → a + 1 ≤ b → end - b < end - a
 falls h l = omega arith
-
-next_fits : {k : ℕ} → k < pairs_end → k + 1 < 2 ^ 32
-next_fits h = omega arith
 
 less_fits : {y : ℕ} → y + 1 < 2 ^ 32 → y < 2 ^ 32
 less_fits h = omega arith
@@ -37,11 +33,12 @@ kept_small K =
 
 -- a node that is arrived at is one of the graph's
 arrived_below : (K : After-arrive) {w : ℕ} → K.arrive.result ≡ Enter w
-    → w < (graph_of K.args.policy.now K.args.plan.now K.args.task).k
+    → w < (graph_of K.args.query.policy.now K.args.query.plan.now K.args.query.task).k
 arrived_below K q =
     let i = K.loop-k.invariant in
-    let h = K.loop-k-test.true in
-    inner_below (pair_inner i.4 h) (pair_below i.4 h) (rw i.2 at K.arrive.ensures) q
+    let S = K.in-Some.ensures.steps in
+    let N = rw (i.5, i.6) at S.2.0 in
+    inner_below (pair_inner i.4 N S.2.1) (pair_below i.4 N S.2.1) (rw i.2 at K.arrive.ensures) q
 
 pub overflow_mul-pairs : goal.overflow_mul-pairs
 overflow_mul-pairs c = let f = pairs_high c.requires.0 in search rules
@@ -109,26 +106,31 @@ step_pairs-todo-requires c =
     let A = I.within.given in
     (asking A c.pair_rows-rows.ensures c.marks_of-marks.ensures c.loop-offer.invariant.4, in_policy A I.within.stands, rw c.sweep_of-sweep.ensures (facing A (I.ahead c.loop-offer-test.true)))
 
-pub next_pair-k-requires : goal.next_pair-k-requires
-next_pair-k-requires c = (omega arith, pairs_high c.loop-offer.invariant.2.within.given)
+pub loop-k-init-derived : goal.loop-k-init-derived
+loop-k-init-derived c =
+    let e = c.pairs_of-k-items.ensures in
+    rw (c.into_iter-k-iterator.ensures.into_iter_gives, e.1, e.2) ((omega arith, pairs_high c.loop-offer.invariant.2.within.given), tt)
 
 pub loop-k-init : goal.loop-k-init
 loop-k-init c =
     let s = c.sweep_of-sweep.ensures in
     let k = rw s at c.kept_of-kept.ensures in
-    (refl, refl, s, k, pairing_begin c.loop-offer.invariant.2 c.loop-offer-test.true (rw (k, s) at c.open_pairs-left.ensures) (rw s at c.step_pairs-todo.ensures.0) c.next_pair-k.ensures)
+    let e : c.into_iter-k-iterator.result.set.now ≡ c.step_pairs-todo.result = cc in
+    (refl, refl, s, k, pairing_begin (cc) c.loop-offer.invariant.2 c.loop-offer-test.true (rw (k, s) at c.open_pairs-left.ensures) (rw (s, ← e) at c.step_pairs-todo.ensures.0), refl, cc)
 
 pub overflow_add-sweep : goal.overflow_add-sweep
 overflow_add-sweep c =
     let i = c.loop-k.invariant in
-    let h = c.loop-k-test.true in
-    rw i.2 (record { fits = less_fits (inner_fits (pair_inner i.4 h) (pair_below i.4 h)) })
+    let S = c.in-Some.ensures.steps in
+    let N = rw (i.5, i.6) at S.2.0 in
+    rw i.2 (record { fits = less_fits (inner_fits (pair_inner i.4 N S.2.1) (pair_below i.4 N S.2.1)) })
 
 pub arrive-requires : goal.arrive-requires
 arrive-requires c =
     let i = c.loop-k.invariant in
-    let h = c.loop-k-test.true in
-    (i.4.inner.within.given.readable, rw i.2 (inner_type (pair_inner i.4 h) (pair_below i.4 h)))
+    let S = c.in-Some.ensures.steps in
+    let N = rw (i.5, i.6) at S.2.0 in
+    (i.4.inner.within.given.readable, rw i.2 (inner_type (pair_inner i.4 N S.2.1) (pair_below i.4 N S.2.1)))
 
 pub bounds-back-at : goal.bounds-back-at
 bounds-back-at c =
@@ -159,30 +161,34 @@ overflow_add-tail c =
     let I = c.loop-k.invariant.4.inner in
     omega (arith, I.turn.inv.full, I.within.given.readable.nodes)
 
-pub overflow_add-k : goal.overflow_add-k
-overflow_add-k c = record { fits = next_fits c.loop-k-test.true }
+pub loop-k-preserved-in-Dropped : goal.loop-k-preserved-in-Dropped
+loop-k-preserved-in-Dropped c =
+    let i = c.loop-k.invariant in
+    let S = c.in-Some.ensures.steps in
+    let N = rw (i.5, i.6) at S.2.0 in
+    let I = pair_inner i.4 N S.2.1 in
+    let b = pair_below i.4 N S.2.1 in
+    rw S.2.2 (i.0, i.1, i.2, i.3, pair_next i.4 N S.2.1 I.within.memory (inner_dropped I b (rw i.2 at c.arrive.ensures) c.in-Dropped.is), S.0 ∙ i.5, S.1 ∙ i.6)
 
-pub next_pair-k-requires-in-loop-k : goal.next_pair-k-requires-in-loop-k
-next_pair-k-requires-in-loop-k c = (omega arith, pairs_high c.loop-k.invariant.4.inner.within.given)
-
-pub loop-k-smaller : goal.loop-k-smaller
-loop-k-smaller c = falls c.loop-k-test.true c.next_pair-k-in-loop-k.ensures.low
+pub loop-k-preserved-then-back-at-eq0 : goal.loop-k-preserved-then-back-at-eq0
+loop-k-preserved-then-back-at-eq0 c =
+    let i = c.loop-k.invariant in
+    let S = c.in-Some.ensures.steps in
+    let N = rw (i.5, i.6) at S.2.0 in
+    let I = pair_inner i.4 N S.2.1 in
+    let b = pair_below i.4 N S.2.1 in
+    let new = c.if-back-at-eq0.true in
+    let d = inner_entered I b (rw i.2 at c.arrive.ensures) (pair_flows i.4 N S.2.1) c.in-Enter.is new in
+    rw S.2.2 (simp length-set i.0, simp length-set i.1, i.2, i.3, pair_next i.4 N S.2.1 (memory_keep _ _ new I.within.memory) d, S.0 ∙ i.5, S.1 ∙ i.6)
 
 pub loop-k-preserved : goal.loop-k-preserved
 loop-k-preserved c =
     let i = c.loop-k.invariant in
-    let L = i.4 in
-    let h = c.loop-k-test.true in
-    let I = pair_inner L h in
-    let b = pair_below L h in
-    let N = I.within.memory in
-    let z = rw i.2 at c.arrive.ensures in
-    let P = c.next_pair-k-in-loop-k.ensures in
-    elim c.match-arrive.branch [
-      | in-Dropped w ↦ rw (w.queue-is, w.back-is, w.tail-is) (i.0, i.1, i.2, i.3, pair_next L h N (inner_dropped I b z w.in-Dropped.is) P)
-      | in-Enter+then-back-at-eq0 w ↦ rw (w.queue-is, w.back-is, w.tail-is) (simp length-set i.0, simp length-set i.1, i.2, i.3, pair_next L h (memory_keep _ _ w.if-back-at-eq0.true N) (inner_entered I b z (pair_flows L h) w.in-Enter.is w.if-back-at-eq0.true) P)
-      | in-Enter+else-back-at-eq0 w ↦ rw (w.queue-is, w.back-is, w.tail-is) (i.0, i.1, i.2, i.3, pair_next L h N (inner_seen I b z w.in-Enter.is w.if-back-at-eq0.false) P)
-    ]
+    let S = c.in-Some.ensures.steps in
+    let N = rw (i.5, i.6) at S.2.0 in
+    let I = pair_inner i.4 N S.2.1 in
+    let b = pair_below i.4 N S.2.1 in
+    rw S.2.2 (i.0, i.1, i.2, i.3, pair_next i.4 N S.2.1 I.within.memory (inner_seen I b (rw i.2 at c.arrive.ensures) c.in-Enter.is c.if-back-at-eq0.false), S.0 ∙ i.5, S.1 ∙ i.6)
 
 pub take_pairs-none-requires : goal.take_pairs-none-requires
 take_pairs-none-requires c =
@@ -209,10 +215,11 @@ loop-offer-preserved c =
     let i = c.loop-k.invariant in
     let j = c.loop-offer.invariant in
     let L = i.4 in
-    let d = pairing_end L c.loop-k-test.false in
+    let e : c.into_iter-k-iterator.result.set.now ≡ c.step_pairs-todo.result = rw c.into_iter-k-iterator.ensures.into_iter_gives c.pairs_of-k-items.ensures.0 in
+    let J = pairing_end L (rw (i.5, i.6) at c.in-None.ensures.steps.2) in
     let R = rw (i.3, i.2) at c.remember.ensures in
     let P = rw (i.3, i.2) at c.take_pairs-none.ensures in
-    (i.0 ∙ j.0, i.1 ∙ j.1, inner_end L.inner d (inner_swept L.inner d L.todo P R) c.next_offer-offer.ensures, grown_more j.3 R.grown, c.step_pairs-todo.ensures.1)
+    (i.0 ∙ j.0, i.1 ∙ j.1, inner_end J (omega arith) (inner_swept J (omega arith) (rw e at L.todo) P R) c.next_offer-offer.ensures, grown_more j.3 R.grown, c.step_pairs-todo.ensures.1)
 
 pub remember-requires-in-search : goal.remember-requires-in-search
 remember-requires-in-search c = let I = c.loop-offer.invariant.2.within in (I.memory.spent_size, own_few I.given.readable I.stands, I.asker.few)
@@ -274,5 +281,7 @@ shape_of-back-in-Broken c =
 pub returns-in-Broken : goal.returns-in-Broken
 returns-in-Broken c =
     let i = c.loop-k.invariant in
-    let h = c.loop-k-test.true in
-    ((rw i.2 (inner_broken (pair_inner i.4 h) (pair_below i.4 h) (rw i.2 at c.arrive.ensures) (pair_flows i.4 h) c.in-Broken.is), c.if-bound-depth.false), inv_visited i.4.inner.turn.inv)
+    let S = c.in-Some.ensures.steps in
+    let N = rw (i.5, i.6) at S.2.0 in
+    let h = S.2.1 in
+    ((rw i.2 (inner_broken (pair_inner i.4 N h) (pair_below i.4 N h) (rw i.2 at c.arrive.ensures) (pair_flows i.4 N h) c.in-Broken.is), c.if-bound-depth.false), inv_visited i.4.inner.turn.inv)

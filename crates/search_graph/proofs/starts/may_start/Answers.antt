@@ -1,17 +1,13 @@
-use mathlib.Core.Path.{refl, sym, ◌∙◌}
-use Rattle.base.proofs.BoolLaws.{clash}
-use Rattle.search_graph.proofs.StartLaws.{unheld, outside}
+use mathlib.Core.Path.{sym, ◌∙◌}
+use borrow.Author.Tests.{not-false, eqb-true}
+use Rattle.search_graph.proofs.StartLaws.{outside}
+use Rattle.search_graph.proofs.starts.may_start.Goals.{then-paired, else-paired}
 use Rattle.search_graph.proofs.starts.may_start.Goals as goal
 
-pub returns-then-plan-own-eq0 : goal.returns-then-plan-own-eq0
-returns-then-plan-own-eq0 c = λ _. unheld c.if-plan-own-eq0.true
-
-pub returns-then-paired : goal.returns-then-paired
-returns-then-paired c = λ q. absurd (clash refl q)
-
-pub returns-then-plan-own-ne0 : goal.returns-then-plan-own-ne0
-returns-then-plan-own-ne0 c = λ q. absurd (clash refl q)
-
-pub returns : goal.returns
-returns c =
-    let R = c.requires.0 in λ q. outside R.counts R.falls c.requires.1 c.if-paired.false c.if-plan-own-ne0.false (sym c.has_bit.ensures ∙ q)
+pub returns-else-plan-own-ne0-2 : goal.returns-else-plan-own-ne0-2
+returns-else-plan-own-ne0-2 c =
+    let R = c.requires.0 in
+    λ q. elim c.if-paired.branch [
+      | then-paired w ↦ absurd (cc)
+      | else-paired w ↦ outside R.counts R.falls c.requires.1 w.if-paired.false (eqb-true _ 0 (not-false _ (sym w.value-is ∙ c.if-plan-own-ne0-2.false))) (sym c.has_bit.ensures ∙ q)
+    ]

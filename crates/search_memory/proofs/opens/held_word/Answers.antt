@@ -1,29 +1,22 @@
-use borrow.Author.Rules.{rules}
 use mathlib.Core.Path.{refl}
 use native.Mathlib.Omega.{arith}
-use Rattle.plan.proofs.ContextLaws.{pairs_few}
 use Rattle.search_memory.proofs.SlotLaws.{held_begin, held_no, held_yes, held_stop, held_all}
 use Rattle.search_memory.proofs.opens.held_word.Goals.{else-own-plan-ne0, then-own-plan-ne0}
 use Rattle.search_memory.proofs.opens.held_word.Goals as goal
 
-pub overflow_mul-pairs : goal.overflow_mul-pairs
-overflow_mul-pairs c = let f = pairs_few c.requires.0 in search rules
-
 pub loop-j-init : goal.loop-j-init
-loop-j-init c = (omega arith, held_begin _ _ _ _)
+loop-j-init c = held_begin _ _ _ _
 
 pub returns-then-first-j : goal.returns-then-first-j
-returns-then-first-j c = held_stop c.loop-j.invariant.1 refl c.if-first-j.true
+returns-then-first-j c = held_stop c.loop-j.invariant refl c.if-first-j.true
 
 pub loop-j-preserved : goal.loop-j-preserved
 loop-j-preserved c =
-    let l = c.loop-j in (
-      omega arith,
-      elim c.if-own-plan-ne0.branch [
-        | then-own-plan-ne0 w ↦ rw w.r-is (held_yes l.invariant.1 (omega arith) c.if-first-j.false w.if-own-plan-ne0.true)
-        | else-own-plan-ne0 w ↦ rw w.r-is (held_no l.invariant.1 w.if-own-plan-ne0.false)
-      ],
-    )
+    let l = c.loop-j in
+    elim c.if-own-plan-ne0.branch [
+      | then-own-plan-ne0 w ↦ rw w.r-is (held_yes l.invariant (omega arith) c.if-first-j.false w.if-own-plan-ne0.true)
+      | else-own-plan-ne0 w ↦ rw w.r-is (held_no l.invariant w.if-own-plan-ne0.false)
+    ]
 
 pub returns : goal.returns
-returns c = held_all c.loop-j.invariant.1 refl c.loop-j-test.false
+returns c = held_all c.loop-j.invariant refl c.loop-j-test.false

@@ -1,4 +1,3 @@
-use Prim.Native.Nat.{◌-◌, ◌≤◌}
 use mathlib.Core.Path.{◌≡◌}
 use lib.ListN.{length}
 use Rattle.base.specs.Inner.Fill.{Filled}
@@ -7,7 +6,4 @@ use Rattle.search_memory.proofs.opens.put_held.Given as goal
 
 abbrev pub invariant-loop-w : goal.invariant-loop-w
 invariant-loop-w l =
-    (l.w ≤ 4) × (length l.opens ≡ open_entries) × Filled (λ i v. HeldWord l.counts l.plan l.ty i v) l.initial.opens l.opens l.first 0 l.w
-
-abbrev pub decreases-loop-w : goal.decreases-loop-w
-decreases-loop-w l = 4 - l.w
+    (length l.opens ≡ open_entries) × Filled (λ i v. HeldWord l.counts l.plan l.ty i v) l.initial.opens l.opens l.first 0 l.w

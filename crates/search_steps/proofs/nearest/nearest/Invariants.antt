@@ -1,9 +1,5 @@
 use Rattle.search_steps.proofs.NearestLaws.{Looking}
-use Prim.Native.Nat.{◌-◌}
 use Rattle.search_steps.proofs.nearest.nearest.Given as goal
 
 abbrev pub invariant-loop-j : goal.invariant-loop-j
 invariant-loop-j l = Looking l.plan l.swept l.a l.lo l.stop l.from l.first l.step l.entry l.j
-
-abbrev pub decreases-loop-j : goal.decreases-loop-j
-decreases-loop-j l = l.stop - l.j

@@ -1,10 +1,6 @@
 -- The loop keeps `RuleTo`: of the pairs with a role below b it is known whether the rule holds.
-use Prim.Native.Nat.{◌-◌, ◌≤◌}
 use Rattle.search_steps.proofs.PairLaws.{RuleTo}
 use Rattle.search_steps.proofs.pairs.rule_word.Given as goal
 
 abbrev pub invariant-loop-b : goal.invariant-loop-b
-invariant-loop-b l = (l.b ≤ 16) × RuleTo l.plan l.rows l.a l.r l.b
-
-abbrev pub decreases-loop-b : goal.decreases-loop-b
-decreases-loop-b l = 16 - l.b
+invariant-loop-b l = RuleTo l.plan l.rows l.a l.r l.b

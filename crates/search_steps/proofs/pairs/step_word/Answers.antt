@@ -4,11 +4,11 @@ use Rattle.search_steps.proofs.PairLaws.{asking_on, step_askable, step_plain, st
 use borrow.Author.Tests.{not-true}
 use Rattle.search_steps.proofs.pairs.step_word.Goals as goal
 
-pub bounds-plan-entry : goal.bounds-plan-entry
-bounds-plan-entry c = omega (arith, c.requires.0.size, c.requires.2.offering.within)
+pub bounds-rules-entry : goal.bounds-rules-entry
+bounds-rules-entry c = omega (arith, c.requires.0.size, c.requires.2.offering.within)
 
-pub bounds-plan-entry-2 : goal.bounds-plan-entry-2
-bounds-plan-entry-2 c =
+pub bounds-rules-entry-2 : goal.bounds-rules-entry-2
+bounds-rules-entry-2 c =
     omega (arith, c.requires.0.size, c.requires.2.offering.within)
 
 pub way_word-written-requires : goal.way_word-written-requires

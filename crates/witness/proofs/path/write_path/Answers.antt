@@ -18,55 +18,16 @@ module _ (c : At-loop-i) where
   small : c.loop-i.w < 2 ^ 26
   small = node_small c.requires.0 c.states_in-states.ensures (chain_bound c.loop-i.invariant.0.chain)
 
-pub states_in-states-requires : goal.states_in-states-requires
-states_in-states-requires c = c.requires.0.readable.few_legs
-
-pub overflow_cast-i : goal.overflow_cast-i
-overflow_cast-i c = omega arith
-
-pub overflow_add-i : goal.overflow_add-i
-overflow_add-i c = omega arith
-
 pub code_of-requires : goal.code_of-requires
 code_of-requires c =
     node_in c.requires.0 c.states_in-states.ensures c.requires.1.breaks.target
-
-pub overflow_mul-path : goal.overflow_mul-path
-overflow_mul-path c = omega arith
-
-pub offset_bounds-path-i : goal.offset_bounds-path-i
-offset_bounds-path-i c = omega arith
-
-pub bounds-path-i : goal.bounds-path-i
-bounds-path-i c = omega arith
 
 pub loop-i-init : goal.loop-i-init
 loop-i-init c =
     (write_begin c.args.path.now refl c.requires.3 (code_at c.requires.0 c.states_in-states.ensures _ c.code_of.ensures) c.requires.1.breaks.edge c.requires.1.chain, refl)
 
-pub overflow_sub-i : goal.overflow_sub-i
-overflow_sub-i c = omega (arith, c.loop-i.invariant.0.some)
-
-pub overflow_mul-path-in-loop-i : goal.overflow_mul-path-in-loop-i
-overflow_mul-path-in-loop-i c = omega arith
-
-pub overflow_add-path : goal.overflow_add-path
-overflow_add-path c = omega arith
-
-pub offset_bounds-path-i-in-loop-i : goal.offset_bounds-path-i-in-loop-i
-offset_bounds-path-i-in-loop-i c = omega arith
-
-pub bounds-path-i-in-loop-i : goal.bounds-path-i-in-loop-i
-bounds-path-i-in-loop-i c = omega (arith, c.loop-i.invariant.0.some, c.loop-i.invariant.0.high, c.loop-i.invariant.0.written.whole, room (goal.at.bounds-path-i-in-loop-i c).At-loop-i)
-
 pub code_of-requires-in-loop-i : goal.code_of-requires-in-loop-i
 code_of-requires-in-loop-i c = node_in c.requires.0 c.states_in-states.ensures (chain_bound c.loop-i.invariant.0.chain)
-
-pub overflow_mul-path-in-loop-i-2 : goal.overflow_mul-path-in-loop-i-2
-overflow_mul-path-in-loop-i-2 c = omega arith
-
-pub offset_bounds-path-i-in-loop-i-2 : goal.offset_bounds-path-i-in-loop-i-2
-offset_bounds-path-i-in-loop-i-2 c = omega arith
 
 pub bounds-path-i-in-loop-i-2 : goal.bounds-path-i-in-loop-i-2
 bounds-path-i-in-loop-i-2 c =
@@ -86,7 +47,7 @@ returns-then-i-eq0 c =
     let o = c.args.path.now in
     let m = c.args.last.depth + 1 in
     let v = c.code_of.result in
-    shown_by _ c.args.task.mode c.requires.0.readable.some_leg c.requires.3 (W.whole ∙ length-set o (2 * m) v) (rest_of o v W)
+    shown_by _ c.args.query.task.mode c.requires.0.readable.some_leg c.requires.3 (W.whole ∙ length-set o (2 * m) v) (rest_of o v W)
     (write_end _ R (room K) (next K) p c.if-i-eq0.true b.ends (b.edge.kept b.ends.arrives))
 
 pub overflow_cast-at : goal.overflow_cast-at
@@ -104,9 +65,6 @@ overflow_sub-w c = omega (arith, (unlink c.loop-i.invariant.0.chain (omega (arit
 pub least_event-e-requires : goal.least_event-e-requires
 least_event-e-requires c =
     (c.requires.0, (unlink c.loop-i.invariant.0.chain (omega (arith, c.if-i-eq0.false))).linked, c.loop-i.invariant.1)
-
-pub loop-i-smaller : goal.loop-i-smaller
-loop-i-smaller c = omega arith
 
 pub loop-i-preserved : goal.loop-i-preserved
 loop-i-preserved c =

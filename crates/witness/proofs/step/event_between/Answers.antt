@@ -10,7 +10,7 @@ use Rattle.search_memory.specs.Inner.Memory.{AskerOf}
 use Rattle.search_steps.proofs.OfferLaws.{block_of_type, next_law}
 use Rattle.witness.proofs.StepLaws.{from_below, to_below, from_range, asker, type_is, offered, only_here, look_begin, look_more, look_found, look_end}
 use Rattle.witness.proofs.step.event_between.Goals.{At-loop-offer}
-use Rattle.witness.proofs.step.event_between.Goals.{else-offer-y, then-offer-y+else-is_step}
+use Rattle.witness.proofs.step.event_between.Goals.{else-offer-y-via-else-offer-y, else-offer-y-via-then-offer-y+else-is_step}
 use Rattle.witness.proofs.step.event_between.Goals as goal
 
 -- where the loop stands
@@ -18,21 +18,12 @@ module _ (L : At-loop-offer) where
   abbrev who : Asker
   who = record { state = L.args.u % L.states_in-states.result; keeps = L.keeps_of.result; spent = false }
 
-  asks : AskerOf L.args.task.mode (replicate 256 0) L.at-x.result (L.args.u % L.states_in-states.result) who
+  asks : AskerOf L.args.query.task.mode (replicate 256 0) L.at-x.result (L.args.u % L.states_in-states.result) who
   asks = asker L.requires.0 L.requires.1 L.states_in-states.ensures L.at-x.ensures refl L.keeps_of.ensures refl
-
-pub states_in-states-requires : goal.states_in-states-requires
-states_in-states-requires c = c.requires.0.readable.few_legs
-
-pub nonzero_div-u : goal.nonzero_div-u
-nonzero_div-u c = omega (arith, c.states_in-states.ensures.some)
 
 pub at-x-requires : goal.at-x-requires
 at-x-requires c =
     (c.requires.0.readable.sets.counts.countable, from_below c.requires.0 c.requires.1 c.states_in-states.ensures)
-
-pub nonzero_div-w : goal.nonzero_div-w
-nonzero_div-w c = omega (arith, c.states_in-states.ensures.some)
 
 pub at-y-requires : goal.at-y-requires
 at-y-requires c =
@@ -64,19 +55,16 @@ pub next_offer-offer-requires : goal.next_offer-offer-requires
 next_offer-offer-requires c =
     ((asks (goal.at.next_offer-offer-requires c).At-loop-offer).few, block_of_type c.requires.0.ready c.requires.0.planned (from_range c.requires.0 c.requires.1 c.states_in-states.ensures c.at-x.ensures), c.loop-offer.invariant.resumes c.loop-offer-test.true)
 
-pub loop-offer-smaller : goal.loop-offer-smaller
-loop-offer-smaller c = omega (arith, c.next_offer-offer.ensures.low)
-
 pub loop-offer-preserved : goal.loop-offer-preserved
 loop-offer-preserved c =
     let K = (goal.at.loop-offer-preserved c).At-loop-offer in
     look_more c.requires.0 c.requires.1 c.states_in-states.ensures c.at-x.ensures (asks K) c.loop-offer.invariant c.requires.2 (next_law c.requires.0.ready c.requires.0.planned (from_range c.requires.0 c.requires.1 c.states_in-states.ensures c.at-x.ensures) c.next_offer-offer.ensures)
     (λ i z ed. let k = only_here c.requires.0 c.requires.1 c.states_in-states.ensures c.at-x.ensures (asks K) c.loop-offer.invariant i z in
-    elim c.if-offer-y.branch [
-      | then-offer-y+else-is_step w ↦ no_of w.is_step.result w.is_step.ensures w.if-is_step.false (subst (λ (e : ℕ). (graph_of c.args.policy.now c.args.plan.now c.args.task).Edge c.args.u e c.args.w) (sym k.0) ed)
-      | else-offer-y w ↦ w.if-offer-y.false (k.1 ∙ sym (type_is c.requires.0 c.requires.1 c.states_in-states.ensures c.at-y.ensures))
+    elim c.else-offer-y.branch [
+      | else-offer-y-via-then-offer-y+else-is_step w ↦ no_of w.is_step.result w.is_step.ensures w.if-is_step.false (subst (λ (e : ℕ). (graph_of c.args.query.policy.now c.args.query.plan.now c.args.query.task).Edge c.args.u e c.args.w) (sym k.0) ed)
+      | else-offer-y-via-else-offer-y w ↦ w.if-offer-y.false (k.1 ∙ sym (type_is c.requires.0 c.requires.1 c.states_in-states.ensures c.at-y.ensures))
     ])
 
-pub returns : goal.returns
-returns c =
-    absurd (look_end c.requires.0 c.requires.1 c.states_in-states.ensures c.at-x.ensures (asks (goal.at.returns c).At-loop-offer) c.loop-offer.invariant (omega (arith, c.loop-offer-test.false)))
+pub unreachable-requires : goal.unreachable-requires
+unreachable-requires c =
+    look_end c.requires.0 c.requires.1 c.states_in-states.ensures c.at-x.ensures (asks (goal.at.unreachable-requires c).At-loop-offer) c.loop-offer.invariant (omega (arith, c.loop-offer-test.false))

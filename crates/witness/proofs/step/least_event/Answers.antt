@@ -3,12 +3,6 @@ use lib.ListN.{length-set}
 use Rattle.witness.proofs.StepLaws.{to_below, type_within, type_open}
 use Rattle.witness.proofs.step.least_event.Goals as goal
 
-pub states_in-states-requires : goal.states_in-states-requires
-states_in-states-requires c = c.requires.0.readable.few_legs
-
-pub nonzero_div-w : goal.nonzero_div-w
-nonzero_div-w c = omega (arith, c.states_in-states.ensures.some)
-
 pub at-y-requires : goal.at-y-requires
 at-y-requires c =
     (c.requires.0.readable.sets.counts.countable, to_below c.requires.0 c.requires.1 c.states_in-states.ensures)
