@@ -24,6 +24,10 @@ along_map s h Q R f {it} a = record { goal = a.goal; visit = visit_map (goal_lin
 pub along_most : (s : List ℕ) {it it' : Chain} {i : ℕ} → it.goal.now ≡ s → GivesNextNumber it i it' → i ≤ goal_count s
 along_most s {i = i} e g = subst (λ (t : List ℕ). i ≤ goal_count t) e g.high
 
+-- and the iterator then stands at that record's next
+pub along_next : (s : List ℕ) {it it' : Chain} {i : ℕ} → it.goal.now ≡ s → GivesNextNumber it i it' → it'.next ≡ next_of s it.next
+along_next s {i = i} e g = g.next ∙ ap (λ (t : List ℕ). next_of t i) e ∙ ap (next_of s) g.at
+
 module _ (s : List ℕ) (O : OneChainEach (goal_of s)) (h : ℕ) (low : h < 15) (Q : ℕ → Type 0) where
   pub along_start : {it : Chain} → (it.goal.now ≡ s) × (it.next ≡ goal_head s h) → Along s h Q it
   along_start {it} e =
@@ -42,7 +46,7 @@ module _ (s : List ℕ) (O : OneChainEach (goal_of s)) (h : ℕ) (low : h < 15) 
         record {
           goal = g.goal ∙ a.goal;
           visit = visit_step (goal_links (goal_of s)) h (O.heads h low) O.nexts Q it.next there a.visit it'.next
-              (g.next ∙ ap (λ (t : List ℕ). next_of t i) a.goal ∙ ap (next_of s) g.at) (subst Q g.at q);
+              (along_next s a.goal g) (subst Q g.at q);
         }
 
   -- at the end Q holds of every record of the chain

@@ -16,14 +16,12 @@ fn first_use(r: Record) -> Option<usize>
     requires { (r.d < 256) × (r.e < 256) }
     ensures { result ≡ use_of r 0 }
 {
-    if r.is(Kind::Constraint) {
-        return Some((r.d + 256 * r.e) as usize);
-    }
-    if !r.is(Kind::Node) {
-        return None;
-    }
-    match r.a {
-        NOT..=OR => Some((r.mask % 65536) as usize),
+    match Kind::of(r.kind) {
+        Some(Kind::Constraint) => Some((r.d + 256 * r.e) as usize),
+        Some(Kind::Node) => match r.a {
+            NOT..=OR => Some((r.mask % 65536) as usize),
+            _ => None,
+        },
         _ => None,
     }
 }
@@ -32,11 +30,11 @@ fn first_use(r: Record) -> Option<usize>
 fn second_use(r: Record) -> Option<usize>
     ensures { result ≡ use_of r 1 }
 {
-    if !r.is(Kind::Node) {
-        return None;
-    }
-    match r.a {
-        AND..=OR => Some((r.mask / 65536) as usize),
+    match Kind::of(r.kind) {
+        Some(Kind::Node) => match r.a {
+            AND..=OR => Some((r.mask / 65536) as usize),
+            _ => None,
+        },
         _ => None,
     }
 }

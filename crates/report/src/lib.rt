@@ -49,14 +49,41 @@ fn read_image<R: Files>(rt: &R, name: &[u8], buf: &mut [u8]) -> usize
     }
 }
 
+// Text, as a part of a line. Each part is a write of its own: where one fails it is passed over, and the others are
+// written all the same.
+fn print_text(rt: &impl Print, text: &str) {
+    let _ = rt.write_all(text.as_bytes());
+}
+
+// A number, likewise.
+fn print_number(rt: &impl Print, n: u32) {
+    let _ = rt.print(n);
+}
+
 // "t r u"
 fn print_context(rt: &impl Print, x: Context) {
-    let _ = println!(rt; "{} {} {}", x.ty, x.role, x.user);
+    print_number(rt, x.ty);
+    print_text(rt, " ");
+    print_number(rt, x.role);
+    print_text(rt, " ");
+    print_number(rt, x.user);
+    print_text(rt, "\n");
 }
 
 // "c p"
 fn print_event(rt: &impl Print, e: Event) {
-    let _ = println!(rt; "{} {}", e.class, e.perm);
+    print_number(rt, e.class);
+    print_text(rt, " ");
+    print_number(rt, e.perm);
+    print_text(rt, "\n");
+}
+
+// The word, and a number after it, on a line.
+fn print_line(rt: &impl Print, word: &str, n: u32) {
+    print_text(rt, word);
+    print_text(rt, " ");
+    print_number(rt, n);
+    print_text(rt, "\n");
 }
 
 // The path of m steps, its contexts and events in turn.
@@ -76,23 +103,17 @@ fn print_outcome(rt: &impl Print, outcome: Result<Outcome, Unanswered>, path: &[
     requires { Printable outcome path.now }
 {
     match outcome {
-        Ok(Outcome::Holds) => {
-            let _ = println!(rt; "holds");
-        }
+        Ok(Outcome::Holds) => print_text(rt, "holds\n"),
         Ok(Outcome::Order(m)) => {
-            let _ = println!(rt; "order {m}");
+            print_line(rt, "order", m);
             print_path(rt, path, m);
         }
         Ok(Outcome::Events(m)) => {
-            let _ = println!(rt; "events {m}");
+            print_line(rt, "events", m);
             print_path(rt, path, m);
         }
-        Err(Unanswered::Refused(refusal)) => {
-            let _ = println!(rt; "refused {}", refusal.number());
-        }
-        Err(Unanswered::NoRoom(m)) => {
-            let _ = println!(rt; "refused 12 {m}");
-        }
+        Err(Unanswered::Refused(refusal)) => print_line(rt, "refused", refusal.number()),
+        Err(Unanswered::NoRoom(m)) => print_line(rt, "refused 12", m),
     }
 }
 

@@ -38,16 +38,19 @@ fn is_step(query: Query, u: u32, e: u32, entry: usize, w: u32) -> bool
     let ty = Context::at(place, counts).ty;
     let special = is_special(plan, e);
     let by = plan[EVENT_SETS_START + (e as usize)];
-    let into = sets_at(counts, plan, ty, place);
-    // An arrival, by its parts: were `arrive` called from here too, the compiler would not put it inline into the
-    // search's innermost loop.
-    !has_bit(by, EXCEPTED_EVENTS)
+    let leads = !has_bit(by, EXCEPTED_EVENTS)
         && is_held(counts, plan, ty, place)
-        && is_target(policy, counts, plan, x, e, entry, special, place)
-        && match land(task, into, place, step_state(task, u % states, by, into)) {
-            Arrival::Enter(v) => v == w,
-            Arrival::Dropped | Arrival::Broken(_) => false,
-        }
+        && is_target(policy, counts, plan, x, e, entry, special, place);
+    if !leads {
+        return false;
+    }
+    // Only here, since the records that name the type are walked through. An arrival, by its parts: were `arrive` called
+    // from here too, the compiler would not put it inline into the search's innermost loop.
+    let into = sets_at(counts, plan, ty, place);
+    match land(task, into, place, step_state(task, u % states, by, into)) {
+        Arrival::Enter(v) => v == w,
+        Arrival::Dropped | Arrival::Broken(_) => false,
+    }
 }
 
 // The least event that leads from node u to node w, of which there is one. Of what is swept, w's type is open; where it

@@ -63,7 +63,7 @@ impl Module {
         }
     }
 
-    /// `counts.Counts`, or `counts.Checked.TheVariants` for the names of an enum's cases.
+    /// `counts.Counts`, or `kinds.Kind.TheVariants` for the names of an enum's cases.
     fn declared(of: String, parts: &[String]) -> Module {
         let parts = if parts.last().is_some_and(|last| last == "TheVariants") { &parts[..parts.len() - 1] } else { parts };
         let (name, path) = parts.split_last().map_or((String::new(), &parts[..0]), |(name, path)| (name.clone(), path));

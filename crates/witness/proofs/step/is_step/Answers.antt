@@ -23,8 +23,8 @@ pub is_held-requires : goal.is_held-requires
 is_held-requires c =
     (c.requires.0.readable.sets.counts, c.requires.0.readable.sets.size, to_type c.requires.0 c.requires.1 c.states_in-states.ensures c.at-ty.ensures)
 
-pub is_target-requires : goal.is_target-requires
-is_target-requires c = (
+pub is_target-leads-requires : goal.is_target-leads-requires
+is_target-leads-requires c = (
   c.requires.0.ready,
   c.requires.0.planned,
   from_range c.requires.0 c.requires.1 c.states_in-states.ensures c.at-x.ensures,
@@ -36,11 +36,21 @@ is_target-requires c = (
   ],
 )
 
+pub returns-then-not-leads : goal.returns-then-not-leads
+returns-then-not-leads c =
+    elim c.if-is_held.branch [
+      | then-is_held w ↦ no_flow_lem c.requires.0 c.requires.1 c.states_in-states.ensures c.at-x.ensures c.args.e refl refl w.is_target-leads.ensures (sym w.leads-is ∙ c.if-not-leads.true)
+      | else-is_held w ↦ elim c.if-not-has_bit.branch [
+        | then-not-has_bit v ↦ no_held c.requires.0 c.requires.1 c.states_in-states.ensures c.at-x.ensures c.args.e refl (to_type c.requires.0 c.requires.1 c.states_in-states.ensures c.at-ty.ensures) v.is_held.ensures (sym v.value-is ∙ w.if-is_held.false)
+        | else-not-has_bit v ↦ no_event c.requires.0 c.requires.1 c.states_in-states.ensures refl c.args.e refl c.has_bit.ensures v.if-not-has_bit.false
+      ]
+    ]
+
 pub returns-in-Enter : goal.returns-in-Enter
 returns-in-Enter c =
     elim c.if-is_held.branch [
       | then-is_held w ↦ elim c.if-not-has_bit.branch [
-        | then-not-has_bit v ↦ decided c.requires.0 c.requires.1 c.states_in-states.ensures c.at-x.ensures c.args.e refl c.sets_at-into.ensures c.step_state.ensures c.land.result c.land.ensures c.has_bit.ensures v.if-not-has_bit.true refl w.is_target.ensures (sym w.value-is ∙ c.if-is_target.true) _ c.in-Enter.is
+        | then-not-has_bit v ↦ decided c.requires.0 c.requires.1 c.states_in-states.ensures c.at-x.ensures c.args.e refl c.sets_at-into.ensures c.step_state.ensures c.land.result c.land.ensures c.has_bit.ensures v.if-not-has_bit.true refl w.is_target-leads.ensures (sym w.leads-is ∙ c.if-not-leads.false) _ c.in-Enter.is
         | else-not-has_bit v ↦ absurd (cc)
       ]
       | else-is_held w ↦ absurd (cc)
@@ -50,13 +60,3 @@ pub returns-in-Dropped : goal.returns-in-Dropped
 returns-in-Dropped c =
     ⊎_elim (no_drop c.requires.0 c.requires.1 c.states_in-states.ensures c.at-x.ensures c.args.e refl c.sets_at-into.ensures c.step_state.ensures c.land.result c.land.ensures)
     (λ b. no_break c.requires.0 c.requires.1 c.states_in-states.ensures c.at-x.ensures c.args.e refl c.sets_at-into.ensures c.step_state.ensures c.land.result c.land.ensures b.1) c.in-Dropped.is
-
-pub returns-else-is_target : goal.returns-else-is_target
-returns-else-is_target c =
-    rw c.if-is_target.false (elim c.if-is_held.branch [
-      | then-is_held w ↦ no_flow_lem c.requires.0 c.requires.1 c.states_in-states.ensures c.at-x.ensures c.args.e refl refl w.is_target.ensures (sym w.value-is ∙ c.if-is_target.false)
-      | else-is_held w ↦ elim c.if-not-has_bit.branch [
-        | then-not-has_bit v ↦ no_held c.requires.0 c.requires.1 c.states_in-states.ensures c.at-x.ensures c.args.e refl (to_type c.requires.0 c.requires.1 c.states_in-states.ensures c.at-ty.ensures) v.is_held.ensures (sym v.value-is ∙ w.if-is_held.false)
-        | else-not-has_bit v ↦ no_event c.requires.0 c.requires.1 c.states_in-states.ensures refl c.args.e refl c.has_bit.ensures v.if-not-has_bit.false
-      ]
-    ])
